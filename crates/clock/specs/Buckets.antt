@@ -1,0 +1,18 @@
+-- Reading time cut into buckets (document 01, section 'Buckets and the operator'). Numbers have no width here, so nothing wraps.
+-- Assumes nothing.
+use Prim.Native.Nat.{ℕ, _+_, _*_, _/_}
+use mathlib.Core.Bool.{Bool}
+use lib.Dec.{leb}
+use Rattle.clock.specs.declared.ReadingTime.{ReadingTime}
+
+-- the bucket of a time: the time divided by the bucket length, rounded down
+unfoldable pub bucketOf : ℕ → ReadingTime → ℕ
+bucketOf length t = t .0 / length
+
+-- the end of bucket j: its start plus the length
+unfoldable pub bucketEnd : ℕ → ℕ → ℕ
+bucketEnd length j = j * length + length
+
+-- a boundary finishes bucket j: it is at or above the bucket's end
+unfoldable pub finishes : ℕ → ReadingTime → ℕ → Bool
+finishes length boundary j = leb (bucketEnd length j) (boundary .0)

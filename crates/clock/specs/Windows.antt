@@ -1,0 +1,12 @@
+-- Buckets joined to windows (document 01, section 'Buckets and the operator'). Assumes nothing.
+use Prim.Native.Nat.{ℕ, _+_, _-_, _*_, _%_}
+use mathlib.Core.Bool.{Bool}
+use lib.Dec.{eqb}
+
+-- bucket j closes a window: j + 1 is a multiple of the window
+unfoldable pub closesWindow : ℕ → ℕ → Bool
+closesWindow window j = eqb ((j + 1) % window) 0
+
+-- the start of the window that bucket j closes
+unfoldable pub windowStart : ℕ → ℕ → ℕ → ℕ
+windowStart length window j = (j + 1 - window) * length
