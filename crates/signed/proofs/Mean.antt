@@ -1,0 +1,60 @@
+-- The mean of a sum in range is no larger than the values' bound, so it fits 32 bits; of no value it is 0. By cases on the sign and
+-- one bound on a quotient. Assumes nothing.
+use mathlib.Core.Path.{_≡_, refl, ap}
+use mathlib.Core.Bool.{true, false}
+use Prim.Native.Nat.{ℕ, zero, suc, _+_, _-_, _*_, _/_, _<_, _≤_, _^_}
+use native.Mathlib.Omega.{arith}
+use native.Mathlib.Nat.{div-lt-iff-lt-mul}
+use borrow.Author.Tests.{ltb-true, ne-eqb}
+use lib.IntN.{ℤ, pos, negsuc, negℤ, natAbs}
+use lib.Signed.{ltZ}
+use mir.Syntax.{w32}
+use mir.Val.{SFits}
+use Rattle.signed.specs.Mean.{nearest, mean, InRange}
+use Rattle.signed.proofs.Negation.{neg-fits}
+
+-- ---- to the nearest whole
+
+pub nearest-none : (a : ℕ) → nearest a 0 ≡ 0
+unfolding nearest
+nearest-none a = refl
+
+pub nearest-some : (a n : ℕ) → 0 < n → nearest a n ≡ (2 * a + n) / (2 * n)
+unfolding nearest
+nearest-some a n p = simp (ne-eqb n 0 (λ (e : n ≡ 0). omega arith))
+
+-- values of at most b have a mean of at most b
+pub nearest-le : (a n b : ℕ) → a ≤ b * n → nearest a n ≤ b
+nearest-le a zero b h = rw (nearest-none a) (omega arith)
+nearest-le a (suc n) b h =
+    let l : (2 * a + suc n) / (2 * suc n) < b + 1 =
+    div-lt-iff-lt-mul {k = 2 * suc n} {x = 2 * a + suc n} {y = b + 1} (omega arith) .1 (omega arith) in
+    rw (nearest-some a (suc n) (omega arith)) (omega arith)
+
+-- ---- the mean
+
+pub mean-none : (z : ℤ) → mean z 0 ≡ pos 0
+unfolding mean
+mean-none (pos a) = ap pos (nearest-none a)
+mean-none (negsuc a) = ap (λ (k : ℕ). negℤ (pos k)) (nearest-none (suc a))
+
+pub mean-fits : (z : ℤ) (n : ℕ) → InRange z n → SFits w32 (mean z n)
+unfolding mean
+mean-fits (pos a) n h = record { sfits = omega (arith, nearest-le a n (2 ^ 31 - 1) h) }
+mean-fits (negsuc a) n h = neg-fits (nearest (suc a) n) (nearest-le (suc a) n (2 ^ 31) h)
+
+-- ---- by the sign, as the code goes
+
+pub range-natAbs : (z : ℤ) (n : ℕ) → InRange z n → natAbs z ≤ 2 ^ 31 * n
+range-natAbs (pos a) n h = omega arith
+range-natAbs (negsuc a) n h = omega arith
+
+pub mean-below-zero : (z : ℤ) (n : ℕ) → ltZ z (pos 0) ≡ true → negℤ (pos (nearest (natAbs z) n)) ≡ mean z n
+unfolding mean
+mean-below-zero (pos a) n e = let l : a < 0 = ltb-true a 0 e in absurd (omega arith)
+mean-below-zero (negsuc a) n e = refl
+
+pub mean-nonNeg : (z : ℤ) (n : ℕ) → ltZ z (pos 0) ≡ false → pos (nearest (natAbs z) n) ≡ mean z n
+unfolding mean
+mean-nonNeg (pos a) n e = refl
+mean-nonNeg (negsuc a) n e = let h : _≡_ {A = ℕ} 0 1 = cc in absurd (omega arith)

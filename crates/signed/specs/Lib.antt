@@ -1,0 +1,3 @@
+-- Definitions on signed numbers.
+pub mod Mean
+pub mod Twos

@@ -1,0 +1,19 @@
+-- The mean of a sum over a count (document 01, section 'Buckets and the operator'). Assumes nothing.
+use Prim.Native.Nat.{ℕ, suc, _+_, _-_, _*_, _/_, _^_, _≤_}
+use mathlib.Core.Bool.{cond}
+use lib.Dec.{eqb}
+use lib.IntN.{ℤ, pos, negsuc, negℤ}
+
+-- a divided by n to the nearest whole, a half upward; 0 where n is 0
+unfoldable pub nearest : ℕ → ℕ → ℕ
+nearest a n = cond (eqb n 0) 0 ((2 * a + n) / (2 * n))
+
+-- sum divided by count to the nearest whole, a half away from zero; 0 where the count is 0
+unfoldable pub mean : ℤ → ℕ → ℤ
+mean (pos a) count = pos (nearest a count)
+mean (negsuc a) count = negℤ (pos (nearest (suc a) count))
+
+-- the sums that so many values of 32 bits can have: -2^31 × count to (2^31 - 1) × count
+abbrev pub InRange : ℤ → ℕ → Type 0
+InRange (pos a) count = a ≤ (2 ^ 31 - 1) * count
+InRange (negsuc a) count = suc a ≤ 2 ^ 31 * count
