@@ -1,0 +1,3 @@
+-- Laws on areas.
+pub mod Laid
+pub mod Lent

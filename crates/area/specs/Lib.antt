@@ -1,0 +1,2 @@
+-- Lent areas of bytes.
+pub mod Laid

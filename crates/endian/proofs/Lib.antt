@@ -1,0 +1,2 @@
+-- Laws on words as bytes.
+pub mod LittleEndian

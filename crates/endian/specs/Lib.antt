@@ -1,0 +1,2 @@
+-- Definitions on words as bytes.
+pub mod LittleEndian
