@@ -1,0 +1,170 @@
+// Decimal numbers in text: read from a place on, and written into a lent area.
+ghost use mathlib.Core.Path.{_≡_};
+ghost use Prim.Native.Nat.{_+_, _≤_, _^_, min};
+ghost use lib.ListN.{length, drop};
+ghost use Rattle.area.specs.Laid.{laid};
+ghost use Rattle.decimal.specs.Decimal.{digits, decimal};
+ghost use Rattle.decimal.specs.Spelled.{runLength, runValue, numberAt, negated, integerAt};
+
+// An unsigned number that a text spells from a place on, with the place behind it.
+pub enum Number {
+    Value(u32, usize),
+    Malformed,
+}
+
+// A signed number likewise.
+pub enum Integer {
+    Value(i32, usize),
+    Malformed,
+}
+
+// The digits that stand in a text from a place on: their value, exact below 2^32, and the place behind them.
+struct Run {
+    value: u64,
+    end: usize,
+}
+
+// A byte as a number of 64 bits.
+fn wide(b: u8) -> u64
+    ensures { λ r. ⌜ r ≡ b ⌝ }
+{
+    b as u64
+}
+
+// The run of digits from `at` on; past 2^32 the value is left as it is, so that it never wraps.
+fn scan(s: &[u8], at: usize) -> Run
+    ensures { λ r. ⌜ r .end ≡ at + runLength (drop at (now (s .entry))) ⌝ }
+    ensures { λ r. ⌜ min (r .value) (2 ^ 32) ≡ min (runValue 0 (drop at (now (s .entry)))) (2 ^ 32) ⌝ }
+{
+    let mut value: u64 = 0;
+    let mut i = at;
+    while i < s.len() {
+        let b = s[i];
+        if b < 48 {
+            return Run {
+                value: value,
+                end: i,
+            };
+        }
+        if 57 < b {
+            return Run {
+                value: value,
+                end: i,
+            };
+        }
+        if value < 4294967296 {
+            value = value * 10 + wide(b - 48);
+        }
+        i += 1;
+    }
+    Run {
+        value: value,
+        end: i,
+    }
+}
+
+// The unsigned number, of at most `most`, that the text spells from `at` on.
+pub fn read_number(s: &[u8], at: usize, most: u32) -> Number
+    ensures { λ r. ⌜ r ≡ numberAt most (now (s .entry)) at ⌝ }
+{
+    let run = scan(s, at);
+    let end = run.end;
+    let value = run.value;
+    let count = end - at;
+    if count == 0 {
+        return Number::Malformed;
+    }
+    if s[at] == 48 {
+        if 1 < count {
+            return Number::Malformed;
+        }
+    }
+    let limit = most as u64 + 1;
+    if limit <= value {
+        return Number::Malformed;
+    }
+    Number::Value(value as u32, end)
+}
+
+// The number with this magnitude below zero; zero has no minus.
+fn negative(m: u32, end: usize) -> Integer
+    requires { ⌜ m ≤ 2 ^ 31 ⌝ }
+    ensures { λ r. ⌜ r ≡ negated (Number.Value m end) ⌝ }
+{
+    if m == 0 {
+        return Integer::Malformed;
+    }
+    Integer::Value((0 - (m as i64)) as i32, end)
+}
+
+// The signed number that the text spells from `at` on.
+pub fn read_integer(s: &[u8], at: usize) -> Integer
+    ensures { λ r. ⌜ r ≡ integerAt (now (s .entry)) at ⌝ }
+{
+    if at < s.len() {
+        if s[at] == 45 {
+            let Number::Value(m, end) = read_number(s, at + 1, 2147483648) else {
+                return Integer::Malformed;
+            };
+            return negative(m, end);
+        }
+    }
+    let Number::Value(m, end) = read_number(s, at, 2147483647) else {
+        return Integer::Malformed;
+    };
+    Integer::Value(m as i32, end)
+}
+
+// How many digits a number has.
+fn count_digits(n: u64) -> usize
+    ensures { λ r. ⌜ r ≡ length (digits n) ⌝ }
+{
+    let mut count = 1;
+    let mut rest = n;
+    while 9 < rest {
+        rest = rest / 10;
+        count += 1;
+    }
+    count
+}
+
+// Lays a number's digits over the area from `at` to `end`, the last one first.
+fn fill_digits(out: &mut [u8], at: usize, end: usize, n: u64)
+    requires { ⌜ end ≡ at + length (digits n) ⌝ }
+    requires { ⌜ end ≤ length (now out) ⌝ }
+    ensures { λ _. ⌜ now (out .exit) ≡ laid (now (out .entry)) at (digits n) ⌝ }
+{
+    let mut i = end;
+    let mut rest = n;
+    while 9 < rest {
+        i -= 1;
+        out[i] = (48 + rest % 10) as u8;
+        rest = rest / 10;
+    }
+    out[at] = (48 + rest) as u8;
+}
+
+// Lays a number's digits over the area from `at` on; answers the place behind them.
+pub fn put_digits(out: &mut [u8], at: usize, n: u64) -> usize
+    requires { ⌜ at + length (digits n) ≤ length (now out) ⌝ }
+    ensures { λ r. ⌜ r ≡ at + length (digits n) ⌝ }
+    ensures { λ _. ⌜ now (out .exit) ≡ laid (now (out .entry)) at (digits n) ⌝ }
+{
+    let end = at + count_digits(n);
+    fill_digits(out, at, end, n);
+    end
+}
+
+// Lays a whole number's text over the area from `at` on, also that of -2^63; answers the place behind it.
+pub fn put_decimal(out: &mut [u8], at: usize, z: i64) -> usize
+    requires { ⌜ at + length (decimal z) ≤ length (now out) ⌝ }
+    ensures { λ r. ⌜ r ≡ at + length (decimal z) ⌝ }
+    ensures { λ _. ⌜ now (out .exit) ≡ laid (now (out .entry)) at (decimal z) ⌝ }
+{
+    let m = signed::magnitude(z);
+    if z < 0 {
+        out[at] = 45;
+        return put_digits(out, at + 1, m);
+    }
+    put_digits(out, at, m)
+}
