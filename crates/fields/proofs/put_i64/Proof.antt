@@ -1,0 +1,42 @@
+-- `fields::put_i64` meets its contract: the key and behind it the number are one run of bytes. Assumes nothing.
+use native.Mathlib.Omega.{arith}
+use borrow.Author.Needs.{needs}
+use mathlib.Core.Path.{_≡_, ap, _∙_}
+use mathlib.Core.List.{List, _++_}
+use Prim.Native.Nat.{ℕ}
+use lib.ListN.{length, length-append}
+use mir.Facts.{toZ-ofZ}
+use Rattle.area.specs.Laid.{laid}
+use Rattle.area.proofs.Laid.{laid-laid}
+use Rattle.decimal.specs.Decimal.{decimal}
+use Rattle.fields.proofs.put_i64.Statement.{statement}
+use Rattle.fields.proofs.put_i64.Tie as tie
+
+put-bytes-requires : tie.Need-put-bytes-requires
+put-bytes-requires c κs =
+    let b = c .before .before .before in
+    omega (arith, length-append (b .args .key .now) (decimal (b .args .value)))
+
+put-decimal-requires : tie.Need-put-decimal-requires
+put-decimal-requires c κs =
+    let b = c .before .before .before .before .before .before .before in
+    let p = c .before .before .before .put-bytes in
+    rw (toZ-ofZ (b .fits .value))
+    (omega (arith, length-append (b .args .key .now) (decimal (b .args .value)), p .ensures .0, p .kept .0))
+
+same-length : tie.Need-same-length
+same-length c = search needs
+
+returns : tie.Need-returns
+returns c =
+    let b = c .before .before .before .before .before .before .before .before .before .before in
+    let p = c .before .before .before .before .before .before .put-bytes in
+    let d = rw (toZ-ofZ (b .fits .value)) at (c .before .before .put-decimal .ensures) in (
+      omega (arith, d .0, p .ensures .0, length-append (b .args .key .now) (decimal (b .args .value))),
+      d .1
+          ∙ ap (λ (l : List ℕ). laid l (p .result) (decimal (b .args .value))) (p .ensures .1)
+          ∙ laid-laid (b .args .out .now) (b .args .at) (p .result) (b .args .key .now) (decimal (b .args .value)) (p .ensures .0),
+    )
+
+pub put-i64-spec : {M : Type 1} → statement M
+put-i64-spec = tie.close (tie.spec put-bytes-requires put-decimal-requires same-length returns)

@@ -1,0 +1,21 @@
+-- A line of text is a list of keyed fields joined by single spaces and ended by 0A (document 01, section 'Clocks, lines and readings').
+-- Assumes nothing.
+use Prim.Native.Nat.{ℕ}
+use mathlib.Core.Bool.{cond}
+use mathlib.Core.List.{List, [], _∷_, _++_}
+use lib.Dec.{eqb}
+
+-- a key, `=` and the text of a value
+unfoldable pub field : List ℕ → List ℕ → List ℕ
+field key value = key ++ 61 ∷ value
+
+-- fields joined by single spaces, then 0A
+unfoldable pub lineOf : List (List ℕ) → List ℕ
+lineOf [] = 10 ∷ []
+lineOf (f ∷ []) = f ++ 10 ∷ []
+lineOf (f ∷ g ∷ fs) = f ++ 32 ∷ lineOf (g ∷ fs)
+
+-- the text up to and including the next 0A, or all of it where none comes
+unfoldable pub nextLine : List ℕ → List ℕ
+nextLine [] = []
+nextLine (b ∷ s) = cond (eqb b 10) (b ∷ []) (b ∷ nextLine s)

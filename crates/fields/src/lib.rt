@@ -1,0 +1,134 @@
+// Lines of text: the next line of a text, and keyed fields, read and written.
+ghost use mathlib.Core.Path.{_≡_};
+ghost use mathlib.Core.List.{[], _∷_, _++_};
+ghost use Prim.Native.Nat.{_+_, _≤_};
+ghost use lib.IntN.{pos};
+ghost use lib.ListN.{length, drop};
+ghost use Rattle.area.specs.Laid.{laid};
+ghost use Rattle.decimal.specs.Decimal.{decimal};
+ghost use Rattle.fields.specs.Line.{nextLine};
+ghost use Rattle.fields.specs.Field.{startsWith, endsLine, numberField, integerField};
+use decimal::Integer;
+use decimal::Number;
+
+// What a writer of text into a lent area answers: the text's length, or why nothing was written.
+pub enum Written {
+    Text(usize),
+    ShortArea,
+    Malformed,
+}
+
+// The text up to and including the next 0A, or all of it where none comes.
+pub fn next_line(s: &[u8]) -> &[u8]
+    ensures { λ r. ⌜ now r ≡ nextLine (now (s .entry)) ⌝ }
+{
+    let mut i = 0;
+    while i < s.len() {
+        if s[i] == 10 {
+            return &s[..i + 1];
+        }
+        i += 1;
+    }
+    s
+}
+
+// Whether a text begins with these bytes from `at` on.
+pub fn has_key(s: &[u8], at: usize, key: &[u8]) -> bool
+    ensures { λ r. ⌜ r ≡ startsWith (now (key .entry)) (drop at (now (s .entry))) ⌝ }
+{
+    if s.len() < at {
+        return key.len() == 0;
+    }
+    if s.len() - at < key.len() {
+        return false;
+    }
+    let mut i = 0;
+    while i < key.len() {
+        if s[at + i] != key[i] {
+            return false;
+        }
+        i += 1;
+    }
+    true
+}
+
+// Whether 0A stands at a place, which ends the line.
+pub fn ends_line(s: &[u8], at: usize) -> bool
+    ensures { λ r. ⌜ r ≡ endsLine (now (s .entry)) at ⌝ }
+{
+    if at < s.len() { s[at] == 10 } else { false }
+}
+
+// The unsigned number, of at most `most`, of the field that the text has from `at` on.
+pub fn number_field(s: &[u8], at: usize, key: &[u8], most: u32) -> Number
+    ensures { λ r. ⌜ r ≡ numberField (now (key .entry)) most (now (s .entry)) at ⌝ }
+{
+    if has_key(s, at, key) {
+        decimal::read_number(s, at + key.len(), most)
+    } else {
+        Number::Malformed
+    }
+}
+
+// The signed number of the field that the text has from `at` on.
+pub fn integer_field(s: &[u8], at: usize, key: &[u8]) -> Integer
+    ensures { λ r. ⌜ r ≡ integerField (now (key .entry)) (now (s .entry)) at ⌝ }
+{
+    if has_key(s, at, key) {
+        decimal::read_integer(s, at + key.len())
+    } else {
+        Integer::Malformed
+    }
+}
+
+// Each writer below lays a key and a value over the area from `at` on, and answers the place behind them.
+
+// A letter.
+pub fn put_letter(out: &mut [u8], at: usize, key: &[u8], letter: u8) -> usize
+    requires { ⌜ at + length (now key ++ letter ∷ []) ≤ length (now out) ⌝ }
+    ensures { λ r. ⌜ r ≡ at + length (now (key .entry) ++ letter ∷ []) ⌝ }
+    ensures { λ _. ⌜ now (out .exit) ≡ laid (now (out .entry)) at (now (key .entry) ++ letter ∷ []) ⌝ }
+{
+    let place = area::put_bytes(out, at, key);
+    out[place] = letter;
+    place + 1
+}
+
+// A signed number of 64 bits.
+pub fn put_i64(out: &mut [u8], at: usize, key: &[u8], value: i64) -> usize
+    requires { ⌜ at + length (now key ++ decimal value) ≤ length (now out) ⌝ }
+    ensures { λ r. ⌜ r ≡ at + length (now (key .entry) ++ decimal value) ⌝ }
+    ensures { λ _. ⌜ now (out .exit) ≡ laid (now (out .entry)) at (now (key .entry) ++ decimal value) ⌝ }
+{
+    let place = area::put_bytes(out, at, key);
+    decimal::put_decimal(out, place, value)
+}
+
+// A signed number of 32 bits.
+pub fn put_i32(out: &mut [u8], at: usize, key: &[u8], value: i32) -> usize
+    requires { ⌜ at + length (now key ++ decimal value) ≤ length (now out) ⌝ }
+    ensures { λ r. ⌜ r ≡ at + length (now (key .entry) ++ decimal value) ⌝ }
+    ensures { λ _. ⌜ now (out .exit) ≡ laid (now (out .entry)) at (now (key .entry) ++ decimal value) ⌝ }
+{
+    put_i64(out, at, key, value as i64)
+}
+
+// An unsigned number of 32 bits.
+pub fn put_u32(out: &mut [u8], at: usize, key: &[u8], value: u32) -> usize
+    requires { ⌜ at + length (now key ++ decimal (pos value)) ≤ length (now out) ⌝ }
+    ensures { λ r. ⌜ r ≡ at + length (now (key .entry) ++ decimal (pos value)) ⌝ }
+    ensures { λ _. ⌜ now (out .exit) ≡ laid (now (out .entry)) at (now (key .entry) ++ decimal (pos value)) ⌝ }
+{
+    put_i64(out, at, key, value as i64)
+}
+
+// The last field of a line, a signed number of 32 bits, with the 0A behind it.
+pub fn put_last(out: &mut [u8], at: usize, key: &[u8], value: i32) -> usize
+    requires { ⌜ at + length (now key ++ (decimal value ++ 10 ∷ [])) ≤ length (now out) ⌝ }
+    ensures { λ r. ⌜ r ≡ at + length (now (key .entry) ++ (decimal value ++ 10 ∷ [])) ⌝ }
+    ensures { λ _. ⌜ now (out .exit) ≡ laid (now (out .entry)) at (now (key .entry) ++ (decimal value ++ 10 ∷ [])) ⌝ }
+{
+    let end = put_i32(out, at, key, value);
+    out[end] = 10;
+    end + 1
+}
