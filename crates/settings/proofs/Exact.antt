@@ -1,0 +1,37 @@
+-- The reader is exact: a text is read as settings exactly if it is their line, whole. Assumes nothing.
+use mathlib.Core.Path.{_≡_, refl, ap}
+use mathlib.Core.Bool.{true, false, cond}
+use mathlib.Core.List.{List, []}
+use Prim.Native.Nat.{ℕ, _+_}
+use native.Mathlib.Omega.{arith}
+use borrow.Author.Tests.{eq-eqb, eqb-true}
+use lib.Dec.{eqb}
+use lib.ListN.{length}
+use Rattle.fields.proofs.Spells.{spells-whole, whole-spelled}
+use Rattle.settings.specs.Limits.{SettingsFit}
+use Rattle.settings.specs.SettingsLine.{settingsText, settingsAt, limited, judged, settingsOf, ExactSettings}
+use Rattle.settings.specs.declared.Settings.{Settings}
+use Rattle.settings.specs.declared.SettingsAt.{SettingsAt}
+use Rattle.settings.specs.declared.SettingsAt.the-variants as SettingsAt
+use Rattle.settings.specs.declared.SettingsRead.the-variants as SettingsRead
+use Rattle.settings.proofs.SettingsLines.{settings-sound, settings-complete}
+
+settings-line : (text : List ℕ) (s : Settings) → SettingsFit s → text ≡ settingsText s → settingsOf text ≡ limited s
+unfolding settingsOf judged
+settings-line text s fit p =
+    let end : 0 + length (settingsText s) ≡ length text = omega (arith, ap length p) in
+    rw (settings-complete text [] 0 s fit (whole-spelled text (settingsText s) p), eq-eqb (0 + length (settingsText s)) (length text) end)
+
+settings-only : (text : List ℕ) (answer : SettingsAt) → settingsAt text 0 ≡ answer → (judged text answer ≡ SettingsRead.Malformed → ⊥) → (s : Settings) × SettingsFit s × (text ≡ settingsText s)
+unfolding judged
+settings-only text (SettingsAt.Line s e) q n =
+    let found = settings-sound text 0 e s q in
+    (elim (eqb e (length text)) as (λ t. eqb e (length text) ≡ t → (cond t (limited s) SettingsRead.Malformed ≡ SettingsRead.Malformed → ⊥) → (s : Settings) × SettingsFit s × (text ≡ settingsText s)) [
+      | true ↦ λ t m. (s, found .1, spells-whole text (settingsText s) e (found .0) (eqb-true e (length text) t))
+      | false ↦ λ t m. absurd (m refl)
+    ]) refl n
+settings-only text SettingsAt.Malformed q n = absurd (n refl)
+
+pub exact-settings : (text : List ℕ) → ExactSettings text (settingsOf text)
+unfolding settingsOf
+exact-settings text = record { line = settings-line text; only = settings-only text (settingsAt text 0) refl }

@@ -1,0 +1,4 @@
+-- Laws on the settings line.
+pub mod SettingsLines
+pub mod Exact
+pub mod Lengths

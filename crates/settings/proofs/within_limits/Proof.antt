@@ -1,0 +1,20 @@
+-- `settings::within_limits` meets its contract: the code is the definition. Assumes nothing.
+use borrow.Author.Needs.{needs}
+use mir.Syntax.{w32}
+use mir.Val.{SFits}
+use mir.Facts.{toZ-ofZ}
+use Rattle.settings.specs.Limits.{withinLimits}
+use Rattle.settings.proofs.within_limits.Statement.{statement}
+use Rattle.settings.proofs.within_limits.Tie as tie
+
+returns : tie.Need-returns
+unfolding withinLimits
+returns c =
+    let s = c .before .before .before .before .before .before .before .before .before .args .s in
+    let told = c .struct-told .given in
+    let low : SFits w32 (s .low) = search needs in
+    let high : SFits w32 (s .high) = search needs in
+    rw (toZ-ofZ low, toZ-ofZ high)
+
+pub within-limits-spec : {M : Type 1} → statement M
+within-limits-spec = tie.close (tie.spec returns)

@@ -1,0 +1,4 @@
+-- Definitions on the settings and their line.
+pub mod Sizes
+pub mod Limits
+pub mod SettingsLine

@@ -1,0 +1,5 @@
+-- The longest settings line of the form. Assumes nothing.
+use Prim.Native.Nat.{ℕ}
+
+abbrev pub longestSettingsLine : ℕ
+longestSettingsLine = 102

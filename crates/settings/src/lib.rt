@@ -1,0 +1,109 @@
+// The settings line: what the installer sets.
+ghost use mathlib.Core.Path.{_≡_};
+ghost use Rattle.settings.specs.Limits.{withinLimits};
+ghost use Rattle.settings.specs.SettingsLine.{settingsAt, settingsOf, ExactSettings};
+use decimal::Integer;
+use decimal::Number;
+
+// The limits of the settings.
+pub const MAX_LINES: u32 = 8;
+
+pub const MIN_BUCKET: u32 = 100;
+
+pub const MAX_BUCKET: u32 = 36_000;
+
+pub const MAX_WINDOW: u32 = 16;
+
+pub const MAX_HOLD: u32 = 864_000;
+
+// The widest unsigned number that a setting may spell.
+const WIDTH: u32 = 4_294_967_295;
+
+pub struct Settings {
+    pub lines: u32,
+    pub bucket: u32,
+    pub window: u32,
+    pub hold: u32,
+    pub low: i32,
+    pub high: i32,
+}
+
+// The settings line that a text has from a place on, with the place behind it.
+pub enum SettingsAt {
+    Line(Settings, usize),
+    Malformed,
+}
+
+// What a settings text is read as.
+pub enum SettingsRead {
+    Accepted(Settings),
+    Malformed,
+    OutsideLimits,
+}
+
+// Whether every setting is inside its limits.
+pub fn within_limits(s: Settings) -> bool
+    ensures { λ r. ⌜ r ≡ withinLimits s ⌝ }
+{
+    ((1 <= s.lines) & (s.lines <= MAX_LINES))
+        & (((MIN_BUCKET <= s.bucket) & (s.bucket <= MAX_BUCKET))
+            & (((1 <= s.window) & (s.window <= MAX_WINDOW))
+                & ((s.hold <= MAX_HOLD) & (s.low <= s.high))))
+}
+
+// The settings line that the text has from `at` on.
+fn settings_at(s: &[u8], at: usize) -> SettingsAt
+    ensures { λ r. ⌜ r ≡ settingsAt (now (s .entry)) at ⌝ }
+{
+    let Number::Value(lines, e1) = fields::number_field(s, at, b"lines=", WIDTH) else {
+        return SettingsAt::Malformed;
+    };
+    let Number::Value(bucket, e2) = fields::number_field(s, e1, b" bucket=", WIDTH) else {
+        return SettingsAt::Malformed;
+    };
+    let Number::Value(window, e3) = fields::number_field(s, e2, b" window=", WIDTH) else {
+        return SettingsAt::Malformed;
+    };
+    let Number::Value(hold, e4) = fields::number_field(s, e3, b" hold=", WIDTH) else {
+        return SettingsAt::Malformed;
+    };
+    let Integer::Value(low, e5) = fields::integer_field(s, e4, b" low=") else {
+        return SettingsAt::Malformed;
+    };
+    let Integer::Value(high, e6) = fields::integer_field(s, e5, b" high=") else {
+        return SettingsAt::Malformed;
+    };
+    if fields::ends_line(s, e6) {
+        SettingsAt::Line(
+            Settings {
+                lines: lines,
+                bucket: bucket,
+                window: window,
+                hold: hold,
+                low: low,
+                high: high,
+            },
+            e6 + 1,
+        )
+    } else {
+        SettingsAt::Malformed
+    }
+}
+
+// What a settings text is read as: its settings, or refusal 1 or 2.
+pub fn read_settings(text: &[u8]) -> SettingsRead
+    ensures { λ r. ⌜ r ≡ settingsOf (now (text .entry)) ⌝ }
+    ensures { λ r. ⌜ ExactSettings (now (text .entry)) r ⌝ }
+{
+    let SettingsAt::Line(s, end) = settings_at(text, 0) else {
+        return SettingsRead::Malformed;
+    };
+    if end != text.len() {
+        return SettingsRead::Malformed;
+    }
+    if within_limits(s) {
+        SettingsRead::Accepted(s)
+    } else {
+        SettingsRead::OutsideLimits
+    }
+}
