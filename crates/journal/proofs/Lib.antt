@@ -1,0 +1,6 @@
+-- Laws on the journal line.
+pub mod Letters
+pub mod CallParts
+pub mod JournalLines
+pub mod Exact
+pub mod Lengths

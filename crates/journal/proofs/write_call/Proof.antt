@@ -1,0 +1,91 @@
+-- `journal::write_call` meets its contract: the longest line has room, and its two parts behind each other are the line.
+-- Assumes nothing.
+use native.Mathlib.Omega.{arith}
+use borrow.Author.Needs.{needs}
+use mathlib.Core.Path.{_≡_, refl, sym, ap, _∙_}
+use mathlib.Core.Bool.{true}
+use mathlib.Core.List.{List, _++_}
+use Prim.Native.Nat.{ℕ, _+_, _≤_}
+use borrow.Author.Tests.{lt-ltb, le-ltb}
+use lib.ListN.{length, length-append}
+use Rattle.area.specs.Laid.{laid, inFront}
+use Rattle.area.proofs.Laid.{laid-laid, laid-front}
+use Rattle.fields.specs.Written.{leaves}
+use Rattle.fields.specs.declared.Written.the-variants as Written
+use Rattle.journal.specs.Sizes.{longestJournalLine}
+use Rattle.journal.specs.JournalLine.{lineText, writtenCall, CallFits}
+use Rattle.journal.specs.JournalParts.{callHead, callTail}
+use Rattle.journal.specs.declared.Call.{Call}
+use Rattle.journal.proofs.JournalLines.{text-parts}
+use Rattle.journal.proofs.Lengths.{journal-line-short}
+use Rattle.journal.proofs.write_call.Statement.{statement}
+use Rattle.journal.proofs.write_call.Tie as tie
+
+is-letter-requires : tie.Need-is-letter-requires
+is-letter-requires c κs = search needs
+
+returns : tie.Need-returns
+unfolding writtenCall leaves
+returns c =
+    let b = c .before .before .before .before in
+    let letter = sym (c .before .before .is-letter .ensures) ∙ c .before .if1 .taken in
+    (rw (letter, lt-ltb (length (b .args .out .now)) longestJournalLine (c .if2 .taken)), refl)
+
+-- a call with a letter fits, so that its line is no longer than the longest
+parts-short : (c : tie.Then1) → length (callHead (c .before .before .before .args .c)) + length (callTail (c .before .before .before .args .c)) ≤ longestJournalLine
+parts-short c =
+    let k = c .before .before .before .args .c in
+    let letter = sym (c .before .is-letter .ensures) ∙ c .if1 .taken in
+    let fits : CallFits k =
+    record {
+      now = search needs;
+      line = search needs;
+      kind = letter;
+      id = search needs;
+      time = search needs;
+      meter = search needs;
+      value = search needs;
+    } in
+    omega (arith, journal-line-short k fits, ap length (text-parts k), length-append (callHead k) (callTail k))
+
+put-head-requires : tie.Need-put-head-requires
+put-head-requires c κs = omega (arith, parts-short (c .before .before))
+
+put-tail-requires : tie.Need-put-tail-requires
+put-tail-requires c κs =
+    let t = c .before .before .before .before .before .before in
+    let p = c .before .before .before .put-head in
+    omega (arith, parts-short t, c .before .before .before .before .before .if2 .left, p .ensures .0, p .kept .0)
+
+same-length : tie.Need-same-length
+same-length c = search needs
+
+returns-2 : tie.Need-returns-2
+unfolding writtenCall leaves
+returns-2 c =
+    let t = c .before .before .before .before .before .before .before .before .before in
+    let b = t .before .before .before in
+    let k = b .args .c in
+    let out = b .args .out .now in
+    let letter = sym (t .before .is-letter .ensures) ∙ t .if1 .taken in
+    let room = c .before .before .before .before .before .before .before .before .if2 .left in
+    let p = c .before .before .before .before .before .before .put-head in
+    let q = c .before .before .put-tail in
+    let size : q .result ≡ length (lineText k) = omega (arith, p .ensures .0, q .ensures .0, ap length (text-parts k), length-append (callHead k) (callTail k)) in
+    let whole : q .last .0 ≡ laid out 0 (lineText k) =
+    q .ensures .1
+    ∙ ap (λ (l : List ℕ). laid l (p .result) (callTail k)) (p .ensures .1)
+    ∙ laid-laid out 0 (p .result) (callHead k) (callTail k) (omega (arith, p .ensures .0))
+    ∙ ap (laid out 0) (sym (text-parts k)) in (
+      rw (letter, le-ltb (length out) longestJournalLine room) (ap Written.Text size),
+      whole ∙ laid-front out (lineText k) (omega (arith, parts-short t, room, ap length (text-parts k), length-append (callHead k) (callTail k))),
+    )
+
+returns-3 : tie.Need-returns-3
+unfolding writtenCall leaves
+returns-3 c = let no = sym (c .before .is-letter .ensures) ∙ c .if1 .left in (rw no, refl)
+
+pub write-call-spec : {M : Type 1} → statement M
+write-call-spec =
+    tie.close
+    (tie.spec is-letter-requires returns put-head-requires put-tail-requires same-length returns-2 returns-3)

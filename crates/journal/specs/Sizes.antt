@@ -1,0 +1,6 @@
+-- The longest journal line. Assumes nothing.
+use Prim.Native.Nat.{ℕ}
+
+-- bytes of the longest journal line (document 01, section 'Clocks, lines and readings')
+abbrev pub longestJournalLine : ℕ
+longestJournalLine = 89

@@ -1,0 +1,200 @@
+// The journal line: one call.
+ghost use mathlib.Core.Path.{_≡_};
+ghost use Prim.Native.Nat.{_+_, _≤_};
+ghost use lib.ListN.{length};
+ghost use Rattle.area.specs.Laid.{laid};
+ghost use Rattle.fields.specs.Written.{leaves};
+ghost use Rattle.journal.specs.Kinds.{isLetter};
+ghost use Rattle.journal.specs.JournalLine.{lineText, letterAt, letterField, callAt, callOf, hasForm, ExactCall, writtenCall};
+ghost use Rattle.journal.specs.JournalParts.{callHead, callTail};
+use clock::ArrivalTick;
+use clock::ReadingTime;
+use decimal::Integer;
+use decimal::Number;
+use fields::Written;
+
+// Bytes of the longest journal line.
+pub const LONGEST_JOURNAL_LINE: usize = 89;
+
+// The kinds of calls, by their letter's byte.
+pub const STABLE: u8 = b'S';
+
+pub const TENTATIVE: u8 = b'T';
+
+pub const BOUNDARY: u8 = b'B';
+
+pub const UNDO: u8 = b'U';
+
+pub const DONE: u8 = b'R';
+
+pub const STEP: u8 = b'P';
+
+// The widest unsigned numbers of 32 and of 8 bits.
+const WORD: u32 = 4_294_967_295;
+
+const BYTE: u32 = 255;
+
+// The fields of one journal line; the kind is its letter's byte.
+pub struct Call {
+    pub now: ArrivalTick,
+    pub id: u32,
+    pub time: ReadingTime,
+    pub value: i32,
+    pub line: u8,
+    pub kind: u8,
+    pub meter: u8,
+}
+
+// The journal line that a text has from a place on, with the place behind it.
+pub enum CallAt {
+    Line(Call, usize),
+    Malformed,
+}
+
+// What a call's text is read as.
+pub enum CallRead {
+    Accepted(Call),
+    Malformed,
+}
+
+// Whether a byte is the letter of a kind.
+fn is_letter(kind: u8) -> bool
+    ensures { λ r. ⌜ r ≡ isLetter kind ⌝ }
+{
+    (kind == STABLE)
+        | ((kind == TENTATIVE)
+            | ((kind == BOUNDARY) | ((kind == UNDO) | ((kind == DONE) | (kind == STEP)))))
+}
+
+// The letter that the text has at a place.
+fn letter_at(s: &[u8], at: usize) -> Number
+    ensures { λ r. ⌜ r ≡ letterAt (now (s .entry)) at ⌝ }
+{
+    if s.len() <= at {
+        return Number::Malformed;
+    }
+    let letter = s[at];
+    if is_letter(letter) {
+        Number::Value(letter as u32, at + 1)
+    } else {
+        Number::Malformed
+    }
+}
+
+// The letter of the field that the text has from `at` on.
+fn letter_field(s: &[u8], at: usize, key: &[u8]) -> Number
+    ensures { λ r. ⌜ r ≡ letterField (now (key .entry)) (now (s .entry)) at ⌝ }
+{
+    if fields::has_key(s, at, key) {
+        letter_at(s, at + key.len())
+    } else {
+        Number::Malformed
+    }
+}
+
+// The journal line that the text has from `at` on.
+fn call_at(s: &[u8], at: usize) -> CallAt
+    ensures { λ r. ⌜ r ≡ callAt (now (s .entry)) at ⌝ }
+{
+    let Number::Value(now, e1) = fields::number_field(s, at, b"now=", WORD) else {
+        return CallAt::Malformed;
+    };
+    let Number::Value(line, e2) = fields::number_field(s, e1, b" line=", BYTE) else {
+        return CallAt::Malformed;
+    };
+    let Number::Value(kind, e3) = letter_field(s, e2, b" kind=") else {
+        return CallAt::Malformed;
+    };
+    let Number::Value(id, e4) = fields::number_field(s, e3, b" id=", WORD) else {
+        return CallAt::Malformed;
+    };
+    let Number::Value(time, e5) = fields::number_field(s, e4, b" time=", WORD) else {
+        return CallAt::Malformed;
+    };
+    let Number::Value(meter, e6) = fields::number_field(s, e5, b" meter=", BYTE) else {
+        return CallAt::Malformed;
+    };
+    let Integer::Value(value, e7) = fields::integer_field(s, e6, b" value=") else {
+        return CallAt::Malformed;
+    };
+    if fields::ends_line(s, e7) {
+        CallAt::Line(
+            Call {
+                now: ArrivalTick(now),
+                id: id,
+                time: ReadingTime(time),
+                value: value,
+                line: line as u8,
+                kind: kind as u8,
+                meter: meter as u8,
+            },
+            e7 + 1,
+        )
+    } else {
+        CallAt::Malformed
+    }
+}
+
+// What a call's text is read as: the call whose line it is, or refusal 6.
+pub fn read_call(text: &[u8]) -> CallRead
+    ensures { λ r. ⌜ r ≡ callOf (now (text .entry)) ⌝ }
+    ensures { λ r. ⌜ ExactCall (now (text .entry)) r ⌝ }
+{
+    let CallAt::Line(c, end) = call_at(text, 0) else {
+        return CallRead::Malformed;
+    };
+    if end == text.len() {
+        CallRead::Accepted(c)
+    } else {
+        CallRead::Malformed
+    }
+}
+
+// Whether a text has the form of a journal line.
+pub fn has_form(text: &[u8]) -> bool
+    ensures { λ r. ⌜ r ≡ hasForm (now (text .entry)) ⌝ }
+{
+    match read_call(text) {
+        CallRead::Accepted(_) => true,
+        CallRead::Malformed => false,
+    }
+}
+
+// Lays a line's first part over the area; answers the place behind it.
+fn put_head(out: &mut [u8], c: Call) -> usize
+    requires { ⌜ length (callHead c) ≤ length (now out) ⌝ }
+    ensures { λ r. ⌜ r ≡ length (callHead c) ⌝ }
+    ensures { λ _. ⌜ now (out .exit) ≡ laid (now (out .entry)) 0 (callHead c) ⌝ }
+{
+    let e1 = fields::put_u32(out, 0, b"now=", c.now.0);
+    let e2 = fields::put_u32(out, e1, b" line=", c.line as u32);
+    fields::put_letter(out, e2, b" kind=", c.kind)
+}
+
+// Lays a line's last part over the area from `at` on; answers the place behind it.
+fn put_tail(out: &mut [u8], at: usize, c: Call) -> usize
+    requires { ⌜ at + length (callTail c) ≤ length (now out) ⌝ }
+    ensures { λ r. ⌜ r ≡ at + length (callTail c) ⌝ }
+    ensures { λ _. ⌜ now (out .exit) ≡ laid (now (out .entry)) at (callTail c) ⌝ }
+{
+    let e1 = fields::put_u32(out, at, b" id=", c.id);
+    let e2 = fields::put_u32(out, e1, b" time=", c.time.0);
+    let e3 = fields::put_u32(out, e2, b" meter=", c.meter as u32);
+    fields::put_last(out, e3, b" value=", c.value)
+}
+
+// Writes a call's line into the area: its length, or refusal 6 for a kind without a letter, then 5 for an area under the longest line.
+pub fn write_call(c: Call, out: &mut [u8]) -> Written
+    ensures { λ r. ⌜ r ≡ writtenCall c (now (out .entry)) ⌝ }
+    ensures { λ r. ⌜ now (out .exit) ≡ leaves r (lineText c) (now (out .entry)) ⌝ }
+{
+    if is_letter(c.kind) {
+        if out.len() < LONGEST_JOURNAL_LINE {
+            return Written::ShortArea;
+        }
+        let at = put_head(out, c);
+        Written::Text(put_tail(out, at, c))
+    } else {
+        Written::Malformed
+    }
+}
