@@ -1,0 +1,4 @@
+-- Laws on output records.
+pub mod BytesOf
+pub mod Decoding
+pub mod Stores

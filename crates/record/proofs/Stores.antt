@@ -1,0 +1,52 @@
+-- What the writer's runs of stores come to: each laid behind the one before, they are a record's bytes. Assumes nothing.
+use mathlib.Core.Path.{_≡_, refl, ap, _∙_}
+use mathlib.Core.List.{List, [], _∷_, _++_}
+use Prim.Native.Nat.{ℕ, _+_, _-_, _≤_}
+use native.Mathlib.Omega.{arith}
+use lib.ListN.{length, take, drop, take-append-drop}
+use lib.Seq.{length-take-le}
+use borrow.Rule.Slice.PartMut.{putMid}
+use Rattle.area.specs.Laid.{laid, inFront}
+use Rattle.area.proofs.Laid.{laid-laid, laid-front}
+use Rattle.area.proofs.Lent.{lent-inFront}
+use Rattle.signed.specs.Twos.{twos}
+use Rattle.endian.specs.LittleEndian.{littleEndian}
+use Rattle.record.specs.declared.Record.{Record}
+use Rattle.record.specs.Layout.{bytesOf}
+use Rattle.record.proofs.BytesOf.{length-bytesOf}
+
+module _ (l : List ℕ) (r : Record) where
+  -- tag, id and time
+  pub head-laid : laid (laid (laid l 0 (r .kind ∷ r .meter ∷ 0 ∷ 0 ∷ [])) 4 (littleEndian 4 (r .id))) 8 (littleEndian 4 (r .time .0)) ≡ laid l 0 (take 12 (bytesOf r))
+  unfolding bytesOf littleEndian
+  head-laid =
+      let tag = r .kind ∷ r .meter ∷ 0 ∷ 0 ∷ [] in
+      let id = littleEndian 4 (r .id) in
+      let time = littleEndian 4 (r .time .0) in
+      ap (λ (x : List ℕ). laid x 8 time) (laid-laid l 0 4 tag id refl) ∙ laid-laid l 0 8 (tag ++ id) time refl
+
+  -- count, sum, mean and last
+  pub values-laid :
+      laid (laid (laid (laid l 12 (littleEndian 4 (r .count))) 16 (littleEndian 8 (twos 64 (r .sum)))) 24 (littleEndian 4 (twos 32 (r .mean)))) 28 (littleEndian 4 (twos 32 (r .last)))
+      ≡ laid l 12 (drop 12 (bytesOf r))
+  unfolding bytesOf littleEndian
+  values-laid =
+      let count = littleEndian 4 (r .count) in
+      let sum = littleEndian 8 (twos 64 (r .sum)) in
+      let mean = littleEndian 4 (twos 32 (r .mean)) in
+      let last = littleEndian 4 (twos 32 (r .last)) in
+      ap (λ (x : List ℕ). laid (laid x 24 mean) 28 last) (laid-laid l 12 16 count sum refl)
+      ∙ ap (λ (x : List ℕ). laid x 28 last) (laid-laid l 12 24 (count ++ sum) mean refl)
+      ∙ laid-laid l 12 28 (count ++ sum ++ mean) last refl
+
+-- bytes laid down in two runs from the first place on are a new front
+pub halves-laid : (l b : List ℕ) (n : ℕ) → n ≤ length b → length b ≤ length l → laid (laid l 0 (take n b)) n (drop n b) ≡ inFront b l
+halves-laid l b n h fits =
+    laid-laid l 0 n (take n b) (drop n b) (omega (arith, length-take-le n b h))
+    ∙ ap (laid l 0) (take-append-drop n b)
+    ∙ laid-front l b fits
+
+-- for a caller that lends the writer the part of its area from a place on: what the whole area holds once the part is back
+pub record-lent : (area part : List ℕ) (r : Record) (at : ℕ) → part ≡ inFront (bytesOf r) (take (length area - at) (drop at area))
+    → putMid at (length area - at) area part ≡ take at area ++ bytesOf r ++ drop (at + 32) area
+record-lent area part r at e = rw (e, ← length-bytesOf r) (lent-inFront area (bytesOf r) at)
