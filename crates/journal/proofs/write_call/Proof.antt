@@ -29,7 +29,7 @@ unfolding writtenCall leaves
 returns c =
     let b = c .before .before .before .before in
     let letter = sym (c .before .before .is-letter .ensures) ∙ c .before .if1 .taken in
-    (rw (letter, lt-ltb (length (b .args .out .now)) longestJournalLine (c .if2 .taken)), refl)
+    (rw (letter, lt-ltb (length (b .args .out .now)) longestJournalLine (omega (arith, c .if2 .taken))), refl)
 
 -- a call with a letter fits, so that its line is no longer than the longest
 parts-short : (c : tie.Then1) → length (callHead (c .before .before .before .args .c)) + length (callTail (c .before .before .before .args .c)) ≤ longestJournalLine
@@ -77,7 +77,7 @@ returns-2 c =
     ∙ ap (λ (l : List ℕ). laid l (p .result) (callTail k)) (p .ensures .1)
     ∙ laid-laid out 0 (p .result) (callHead k) (callTail k) (omega (arith, p .ensures .0))
     ∙ ap (laid out 0) (sym (text-parts k)) in (
-      rw (letter, le-ltb (length out) longestJournalLine room) (ap Written.Text size),
+      rw (letter, le-ltb (length out) longestJournalLine (omega (arith, room))) (ap Written.Text size),
       whole ∙ laid-front out (lineText k) (omega (arith, parts-short t, room, ap length (text-parts k), length-append (callHead k) (callTail k))),
     )
 

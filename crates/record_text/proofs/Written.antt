@@ -1,0 +1,35 @@
+-- What the writer of a record's text answers and leaves, case by case: nothing of a text that is longer than the area, and else the text, read
+-- back from where it was made, in front. Assumes nothing.
+use mathlib.Core.Path.{_≡_, refl, ap, _∙_}
+use mathlib.Core.List.{List}
+use Prim.Native.Nat.{ℕ, _-_, _<_, _≤_}
+use native.Mathlib.Nat.{sub-zero}
+use lib.ListN.{length, take, drop}
+use lib.Seq.{take-at}
+use borrow.Author.Tests.{lt-ltb, le-ltb}
+use Rattle.area.specs.Laid.{laid, inFront}
+use Rattle.area.proofs.Laid.{laid-front}
+use Rattle.fields.specs.declared.Written.the-variants as Written
+use Rattle.record.specs.declared.Record.{Record}
+use Rattle.record.specs.declared.Decoded.the-variants as Decoded
+use Rattle.record_text.specs.RecordText.{recordText, writtenText}
+
+pub writtenText-short : (r : Record) (area : List ℕ) → length area < length (recordText r) → writtenText (Decoded.Is r) area ≡ Written.ShortArea
+unfolding writtenText
+writtenText-short r area h = rw (lt-ltb (length area) (length (recordText r)) h)
+
+pub writtenText-long : (r : Record) (area : List ℕ) → length (recordText r) ≤ length area → writtenText (Decoded.Is r) area ≡ Written.Text (length (recordText r))
+unfolding writtenText
+writtenText-long r area h = rw (le-ltb (length area) (length (recordText r)) h)
+
+-- a text is read back from where it was laid in front
+take-inFront : (t area : List ℕ) → take (length t) (inFront t area) ≡ t
+unfolding inFront
+take-inFront t area = take-at t (drop (length t) area) (length t) refl
+
+-- a text laid in front of one area, and from there in front of another
+pub copied : (area scratch held left t : List ℕ) (n : ℕ) → n ≡ length t → length t ≤ length scratch → length t ≤ length area
+    → held ≡ laid scratch 0 t → left ≡ laid area 0 (take (n - 0) (drop 0 held)) → left ≡ inFront t area
+copied area scratch held left t n e h k p q =
+    let part : take (n - 0) held ≡ t = rw (e, p, sub-zero, laid-front scratch t h) (take-inFront t scratch) in
+    q ∙ ap (laid area 0) part ∙ laid-front area t k

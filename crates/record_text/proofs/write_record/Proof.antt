@@ -1,0 +1,74 @@
+-- `record_text::write_record` meets its contract: the text is made in front of an array that holds the longest, and copied from there where
+-- the area has room for it. Assumes nothing.
+use native.Mathlib.Omega.{arith}
+use borrow.Author.Needs.{needs}
+use mathlib.Core.Path.{refl, sym}
+use Prim.Native.Nat.{_≤_}
+use lib.ListN.{length, replicate}
+use Rattle.fields.specs.Written.{leaves}
+use Rattle.record_text.specs.RecordText.{recordText}
+use Rattle.record_text.proofs.Longest.{text-short}
+use Rattle.record_text.proofs.Written.{writtenText-short, writtenText-long, copied}
+use Rattle.record_text.proofs.write_record.Statement.{statement}
+use Rattle.record_text.proofs.write_record.Tie as tie
+
+-- each field is within its type's width
+room : (s : tie.Start) → length (recordText (s .args .r)) ≤ 123
+room s =
+    text-short (s .args .r)
+    (record { kind = search needs; meter = search needs; id = search needs; time = search needs; count = search needs; sum = search needs; mean = search needs; last = search needs })
+
+slice-aggregate-put-text : tie.Need-slice-aggregate-put-text
+slice-aggregate-put-text c = search needs
+
+put-text-requires : tie.Need-put-text-requires
+put-text-requires c κs = room (c .before .before)
+
+returns : tie.Need-returns
+unfolding leaves
+returns c =
+    let s = c .before .before .before .before .before in
+    let p = c .before .before .put-text in
+    (sym (writtenText-short (s .args .r) (s .args .out .now) (omega (arith, p .ensures .0, c .if1 .taken))), refl)
+
+sub-put-bytes : tie.Need-sub-put-bytes
+sub-put-bytes c = search needs
+
+part-put-bytes-start : tie.Need-part-put-bytes-start
+part-put-bytes-start c = search needs
+
+part-put-bytes-end : tie.Need-part-put-bytes-end
+part-put-bytes-end c =
+    let p = c .before .before .before .before .put-text in
+    omega (arith, room (c .before .before .before .before .before .before .before), p .ensures .0, p .kept .0)
+
+put-bytes-requires : tie.Need-put-bytes-requires
+put-bytes-requires c κs = search needs
+
+same-length : tie.Need-same-length
+same-length c = search needs
+
+returns-2 : tie.Need-returns-2
+unfolding leaves
+returns-2 c =
+    let s = c .before .before .before .before .before .before .before .before .before .before .before in
+    let p = c .before .before .before .before .before .before .before .before .put-text in
+    let q = c .before .before .put-bytes in
+    let fits : length (recordText (s .args .r)) ≤ length (s .args .out .now) = omega (arith, p .ensures .0, c .before .before .before .before .before .before .if1 .left) in (
+      cc (p .ensures .0, writtenText-long (s .args .r) (s .args .out .now) fits),
+      copied (s .args .out .now) (replicate 123 0) (p .last .0) (q .last .0) (recordText (s .args .r)) (p .result) (p .ensures .0) (room s) fits (p .ensures .1) (q .ensures .1),
+    )
+
+pub write-record-spec : {M : Type 1} → statement M
+write-record-spec =
+    tie.close
+    (tie.spec
+    slice-aggregate-put-text
+    put-text-requires
+    returns
+    sub-put-bytes
+    part-put-bytes-start
+    part-put-bytes-end
+    put-bytes-requires
+    same-length
+    returns-2)

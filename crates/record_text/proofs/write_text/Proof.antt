@@ -1,0 +1,46 @@
+-- `record_text::write_text` meets its contract: a record's text is written, and nothing where the bytes are none. Assumes nothing.
+use borrow.Author.Needs.{needs}
+use mathlib.Core.Path.{refl, sym, _∙_}
+use Rattle.fields.specs.Written.{leaves}
+use Rattle.record_text.specs.RecordText.{textOf, writtenText}
+use Rattle.record_text.proofs.write_text.Statement.{statement}
+use Rattle.record_text.proofs.write_text.Tie as tie
+
+decode-requires : tie.Need-decode-requires
+decode-requires c κs = search needs
+
+enum-known-r : tie.Need-enum-known-r
+enum-known-r c = search needs
+
+write-record-requires : tie.Need-write-record-requires
+write-record-requires c κs = search needs
+
+enum-told : tie.Need-enum-told
+enum-told c = search needs
+
+same-length : tie.Need-same-length
+same-length c = search needs
+
+returns : tie.Need-returns
+unfolding textOf
+returns c =
+    let d = sym (c .before .before .before .before .before .before .before .decode .ensures) ∙ c .before .before .before .before .before .r .given .1 in
+    rw d (c .before .before .write-record .ensures)
+
+returns-2 : tie.Need-returns-2
+unfolding textOf writtenText leaves
+returns-2 c =
+    let d = sym (c .before .before .decode .ensures) ∙ c .enum-told .given .1 in
+    rw d (refl, refl)
+
+pub write-text-spec : {M : Type 1} → statement M
+write-text-spec =
+    tie.close
+    (tie.spec
+    decode-requires
+    enum-known-r
+    write-record-requires
+    enum-told
+    same-length
+    returns
+    returns-2)
