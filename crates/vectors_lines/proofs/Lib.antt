@@ -1,0 +1,2 @@
+-- The law that the walk through the lines of the input rests on.
+pub mod Lines
