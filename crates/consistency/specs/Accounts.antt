@@ -1,0 +1,46 @@
+-- What a list of calls is measured against, from the texts' fields and whether each call was accepted, and from nothing else: the day book
+-- and the accepted stable readings (document 01, section 'From the opening on'). Assumes nothing.
+use Prim.Native.Nat.{ℕ}
+use mathlib.Core.Bool.{Bool}
+use mathlib.Core.List.{List, [], _∷_, map}
+use lib.Dec.{eqb}
+use lib.ListN.{replicate}
+use Rattle.settings.specs.declared.Settings.{Settings}
+use Rattle.journal.specs.declared.CallRead.{CallRead}
+use Rattle.journal.specs.declared.CallRead.the-variants as CallRead
+use Rattle.journal.specs.JournalLine.{callOf}
+use Rattle.store.specs.declared.Reading.{Reading}
+use Rattle.protocol.specs.DayBook.{Page, DayBook, emptyBook, bookCall}
+use Rattle.protocol.specs.FailureFree.{stableAfter}
+use Rattle.protocol.specs.Demand.{withoutArrival}
+use Rattle.consistency.specs.Runs.{Box, Input, called, left}
+
+pub record Account : Type 0 where
+  pub book : DayBook
+  pub stables : List (List Reading)
+
+unfoldable pub emptyAccount : Settings → Account
+emptyAccount s = record { book = emptyBook s; stables = replicate (s .lines) [] }
+
+-- a text that is no journal line was refused, and changes nothing
+unfoldable pub accountWith : Settings → Account → CallRead → Bool → Account
+accountWith s a (CallRead.Accepted k) isAccepted =
+    record { book = bookCall s (a .book) k isAccepted; stables = stableAfter (a .stables) k isAccepted }
+accountWith s a CallRead.Malformed isAccepted = a
+
+-- accepted: the returned answer is 0
+unfoldable pub accountNext : Settings → Account → Box → Input → Account
+accountNext s a b (Input.journal text area) =
+    accountWith s a (callOf text) (eqb (called b (Input.journal text area) .answer) 0)
+
+unfoldable pub accountAfter : Settings → Account → Box → List Input → Account
+accountAfter s a b [] = a
+accountAfter s a b (i ∷ is) = accountAfter s (accountNext s a b i) (left b i) is
+
+-- the accepted stable readings of each line, in the order accepted, in every field but `now`
+unfoldable pub sentIn : Account → List (List Reading)
+sentIn a = map (map withoutArrival) (a .stables)
+
+-- each line's greatest boundary
+unfoldable pub boundariesIn : Account → List ℕ
+boundariesIn a = map (λ (g : Page). g .boundary) (a .book .pages)

@@ -1,0 +1,103 @@
+-- Demand 3: the statement. It speaks of texts and areas, states and columns, and of bytes. Assumes nothing.
+use Prim.Native.Nat.{ℕ, zero, suc, _+_, _≤_}
+use mathlib.Core.Path.{_≡_}
+use mathlib.Core.Bool.{true, false}
+use mathlib.Core.List.{List, [], _∷_, _++_, map}
+use Rattle.settings.specs.declared.Settings.{Settings}
+use Rattle.journal.specs.declared.Call.{Call}
+use Rattle.journal.specs.declared.CallRead.the-variants as CallRead
+use Rattle.journal.specs.JournalLine.{callOf}
+use Rattle.record.specs.Layout.{bytesOf}
+use Rattle.record.specs.Kinds.{isTentative}
+use Rattle.protocol.specs.Kinds.{Kind, kindOf}
+use Rattle.protocol.specs.DayBook.{stableBuckets, leftToWork}
+use Rattle.protocol.specs.FailureFree.{failureFree}
+use Rattle.protocol.specs.Demand.{Every}
+use Rattle.node.specs.declared.State.{State}
+use Rattle.node.specs.Columns.{Columns}
+use Rattle.node.specs.Opening.{Opened, openedOn}
+use Rattle.node.specs.Calls.{Called}
+use Rattle.consistency.specs.Runs.{Box, Input, called, left, leftAfter, output}
+use Rattle.consistency.specs.Undos.{pieceKind, appliedPieces, struckPieces, stablePieces, markDueIn}
+use Rattle.consistency.specs.Accounts.{Account, emptyAccount, accountAfter, sentIn, boundariesIn}
+
+-- what is handed to an opening: any earlier state, also one in use, any store, any text
+pub record Handed : Type 0 where
+  pub state : State
+  pub columns : Columns
+  pub text : List ℕ
+
+unfoldable pub opening : Handed → Opened
+opening h = openedOn (h .state) (h .columns) (h .text)
+
+unfoldable pub isOpened : Handed → Type 0
+isOpened h = opening h .answer ≡ 0
+
+-- the box that an accepted opening leaves, its settings, and a list's account and output from there on
+unfoldable pub boxOf : Handed → Box
+boxOf h = record { state = opening h .state; columns = opening h .columns }
+
+unfoldable pub settingsIn : Handed → Settings
+settingsIn h = opening h .state .settings
+
+unfoldable pub accountOf : Handed → List Input → Account
+accountOf h is = accountAfter (settingsIn h) (emptyAccount (settingsIn h)) (boxOf h) is
+
+unfoldable pub outputOf : Handed → List Input → List (List ℕ)
+outputOf h is = output (boxOf h) is
+
+-- the failure-free run over the accepted stable readings through the buckets that the day book has worked as stable, in bytes
+unfoldable pub failureFreeBytes : Handed → List Input → List (List ℕ)
+failureFreeBytes h is =
+    map bytesOf (failureFree (settingsIn h) (accountOf h is .stables) (accountOf h is .book .d) .records)
+
+-- the stable buckets left to work
+unfoldable pub remaining : Handed → List Input → ℕ
+remaining h is = leftToWork (settingsIn h) (accountOf h is .book)
+
+-- clauses 1 and 2: with its undos applied the output is the failure-free results, and then tentative ones; only tentative ones were
+-- struck; the stable records as they came are the failure-free results; no more buckets were worked than are stable
+pub record Clean (h : Handed) (is : List Input) : Type 0 where
+  pub tentative : List (List ℕ)
+  pub undone : appliedPieces [] (outputOf h is) ≡ failureFreeBytes h is ++ tentative
+  pub allTentative : Every (λ (b : List ℕ). isTentative (pieceKind b) ≡ true) tentative
+  pub neverStruck : Every (λ (b : List ℕ). isTentative (pieceKind b) ≡ true) (struckPieces [] (outputOf h is))
+  pub asTheyCame : stablePieces (outputOf h is) ≡ failureFreeBytes h is
+  pub worked : accountOf h is .book .d ≤ stableBuckets (settingsIn h) (accountOf h is .book)
+
+-- a list of steps, none refused: texts that read as P, clocks and areas free
+pub data Steps : Box → ℕ → List Input → Type 0 where
+  rest : {b : Box} → Steps b zero []
+  step :
+      {b : Box} {n : ℕ} {is : List Input} (text area : List ℕ) (k : Call) →
+      callOf text ≡ CallRead.Accepted k →
+      kindOf (k .kind) ≡ Kind.P →
+      called b (Input.journal text area) .answer ≡ 0 →
+      Steps (left b (Input.journal text area)) n is →
+      Steps b (suc n) (Input.journal text area ∷ is)
+
+-- a call that is refused leaves the box as it was and gives no record
+unfoldable pub Unchanged : Box → Input → Type 0
+Unchanged b i = (left b i ≡ b) × (called b i .records ≡ 0)
+
+pub record Demand3 : Type 0 where
+  -- 1 and 2
+  pub clean : (h : Handed) → isOpened h → (is : List Input) → Clean h is
+  -- 3: two boxes with equal settings, and on each line equal accepted stable readings and equal greatest boundary, have given the same
+  -- stable results, in every byte and in this order, once neither has a stable bucket left to work
+  pub replicas :
+      (h g : Handed) → isOpened h → isOpened g →
+      settingsIn h ≡ settingsIn g →
+      (is js : List Input) →
+      sentIn (accountOf h is) ≡ sentIn (accountOf g js) →
+      boundariesIn (accountOf h is) ≡ boundariesIn (accountOf g js) →
+      remaining h is ≡ 0 →
+      remaining g js ≡ 0 →
+      stablePieces (outputOf h is) ≡ stablePieces (outputOf g js)
+  -- 4: with k stable buckets left to work, k + 2 steps leave none, and no closing mark due
+  pub settles :
+      (h : Handed) → isOpened h → (is js : List Input) →
+      Steps (leftAfter (boxOf h) is) (remaining h is + 2) js →
+      (remaining h (is ++ js) ≡ 0) × (markDueIn false (outputOf h (is ++ js)) ≡ false)
+  -- and whatever is refused between changes nothing
+  pub refused : (b : Box) (i : Input) → (called b i .answer ≡ 0 → ⊥) → Unchanged b i

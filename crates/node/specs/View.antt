@@ -1,0 +1,94 @@
+-- What a state and a store stand for, and a node laid into them again (document 01, section 'Store and output area'). Assumes nothing.
+use Prim.Native.Nat.{ℕ, zero, suc, _*_, _-_, max}
+use mathlib.Core.List.{List, [], _∷_, _++_}
+use lib.IntN.{pos}
+use lib.ListN.{length, take, drop, replicate}
+use Rattle.store.specs.declared.Reading.{Reading}
+use Rattle.protocol.specs.Node.{Line, Node}
+use Rattle.protocol.specs.Refusals.{readingsPerLine}
+use Rattle.node.specs.Columns.{Columns, rows, withRows}
+use Rattle.node.specs.declared.LineHead.{LineHead}
+use Rattle.node.specs.declared.State.{State}
+
+-- ---- what they stand for
+
+-- a line: its head, and its kept readings, which fill the first places of its share
+unfoldable pub viewLine : LineHead → List Reading → Line
+viewLine h share =
+    record {
+      boundary = h .boundary;
+      lastId = h .«last_id»;
+      lastStableId = h .«last_stable_id»;
+      kept = take (h .kept) share;
+    }
+
+-- the first n lines; shares stand in line order
+unfoldable pub viewLines : ℕ → List LineHead → List Reading → List Line
+viewLines zero hs rs = []
+viewLines (suc n) [] rs = []
+viewLines (suc n) (h ∷ hs) rs = viewLine h (take readingsPerLine rs) ∷ viewLines n hs (drop readingsPerLine rs)
+
+-- the places of the lines' shares
+unfoldable pub places : State → ℕ
+places st = st .settings .lines * readingsPerLine
+
+unfoldable pub view : State → Columns → Node
+view st x =
+    record {
+      clock = st .clock;
+      c = st .c;
+      p = st .p;
+      phase = st .phase;
+      operator = st .operator;
+      checkpoint = st .checkpoint;
+      lines = viewLines (st .settings .lines) (st .heads) (rows x (places st));
+    }
+
+-- ---- a node laid into them
+
+unfoldable pub zeroed : Reading
+zeroed =
+    record {
+      id = 0;
+      time = record { 0 = 0 };
+      value = pos 0;
+      arrival = record { 0 = 0 };
+      kind = 0;
+      meter = 0;
+    }
+
+unfoldable pub headOf : Line → LineHead
+headOf l =
+    record { boundary = l .boundary; «last_id» = l .lastId; «last_stable_id» = l .lastStableId; kept = length (l .kept) }
+
+-- the heads of these lines, and those past them as they were
+unfoldable pub headsWith : List LineHead → List Line → List LineHead
+headsWith hs [] = hs
+headsWith [] (l ∷ ls) = []
+headsWith (h ∷ hs) (l ∷ ls) = headOf l ∷ headsWith hs ls
+
+-- a share that kept n readings and now keeps these: places given up are zeroed, the rest is as it was
+unfoldable pub shareWith : List Reading → ℕ → List Reading → List Reading
+shareWith share n kept = kept ++ (replicate (n - length kept) zeroed ++ drop (max n (length kept)) share)
+
+unfoldable pub sharesWith : List LineHead → List Reading → List Line → List Reading
+sharesWith hs rs [] = rs
+sharesWith [] rs (l ∷ ls) = rs
+sharesWith (h ∷ hs) rs (l ∷ ls) =
+    shareWith (take readingsPerLine rs) (h .kept) (l .kept) ++ sharesWith hs (drop readingsPerLine rs) ls
+
+unfoldable pub putState : State → Node → State
+putState st n =
+    record {
+      operator = n .operator;
+      checkpoint = n .checkpoint;
+      heads = headsWith (st .heads) (n .lines);
+      settings = st .settings;
+      clock = n .clock;
+      c = n .c;
+      p = n .p;
+      phase = n .phase;
+    }
+
+unfoldable pub putColumns : State → Columns → Node → Columns
+putColumns st x n = withRows x (sharesWith (st .heads) (rows x (places st)) (n .lines))

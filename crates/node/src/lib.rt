@@ -1,0 +1,26 @@
+// The node as its caller holds it: a state by value, and a lent store in columns.
+use clock::ArrivalTick;
+use clock::ReadingTime;
+use operator::Operator;
+use protocol::Phase;
+use settings::Settings;
+
+// What the state knows of a line; its kept readings stand in the store.
+pub struct LineHead {
+    pub boundary: ReadingTime,
+    pub last_id: u32,
+    pub last_stable_id: u32,
+    pub kept: u32,
+}
+
+// A state with lines 0 is closed: no network is open, and every call on it is refused.
+pub struct State {
+    pub operator: Operator,
+    pub checkpoint: Operator,
+    pub heads: [LineHead; 8],
+    pub settings: Settings,
+    pub clock: ArrivalTick,
+    pub c: u32,
+    pub p: u32,
+    pub phase: Phase,
+}

@@ -1,0 +1,4 @@
+-- Definitions on the operator.
+pub mod Meters
+pub mod Results
+pub mod Work

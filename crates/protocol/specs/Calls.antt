@@ -1,0 +1,61 @@
+-- What a call does to the node (document 01, sections 'Clocks, lines and readings' and 'One step'). Assumes nothing.
+use Prim.Native.Nat.{ℕ, _-_}
+use mathlib.Core.Bool.{cond}
+use mathlib.Core.List.{List, []}
+use lib.Dec.{eqb}
+use Rattle.clock.specs.declared.ArrivalTick.{ArrivalTick}
+use Rattle.settings.specs.declared.Settings.{Settings}
+use Rattle.journal.specs.declared.Call.{Call}
+use Rattle.store.specs.Lists.{modify}
+use Rattle.protocol.specs.Kinds.{Kind, kindOf}
+use Rattle.protocol.specs.Node.{Node, onLine}
+use Rattle.protocol.specs.Rules.{Outcome, ruleOf, act}
+use Rattle.protocol.specs.Refusals.{answerTo}
+
+-- an input: only its line changes
+unfoldable pub input : Node → Call → Kind → Outcome
+input n k kind =
+    record {
+      node =
+          record {
+            clock = n .clock;
+            c = n .c;
+            p = n .p;
+            phase = n .phase;
+            operator = n .operator;
+            checkpoint = n .checkpoint;
+            lines = modify (onLine k kind) (k .line - 1) (n .lines);
+          };
+      records = [];
+    }
+
+-- what a call of this kind does
+unfoldable pub done : Settings → Node → Call → Kind → Outcome
+done s n k Kind.S = input n k Kind.S
+done s n k Kind.T = input n k Kind.T
+done s n k Kind.B = input n k Kind.B
+done s n k Kind.U = input n k Kind.U
+done s n k Kind.R = input n k Kind.R
+done s n k Kind.P = act s n (ruleOf s n (k .now))
+
+-- accepting a call sets the clock
+unfoldable pub accepted : ArrivalTick → Outcome → Outcome
+accepted now o =
+    record {
+      node =
+          record {
+            clock = now;
+            c = o .node .c;
+            p = o .node .p;
+            phase = o .node .phase;
+            operator = o .node .operator;
+            checkpoint = o .node .checkpoint;
+            lines = o .node .lines;
+          };
+      records = o .records;
+    }
+
+-- a refused call changes nothing and gives no record
+unfoldable pub outcomeOf : Settings → Node → Call → Outcome
+outcomeOf s n k =
+    cond (eqb (answerTo s n k) 0) (accepted (k .now) (done s n k (kindOf (k .kind)))) (record { node = n; records = [] })

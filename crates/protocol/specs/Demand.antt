@@ -1,0 +1,74 @@
+-- Demand 3 on the node's meaning. Assumes nothing.
+use Prim.Native.Nat.{ℕ, zero, suc, _+_, _≤_, _<_}
+use mathlib.Core.Path.{_≡_}
+use mathlib.Core.Bool.{true, false}
+use mathlib.Core.List.{List, [], _∷_, _++_, map}
+use Rattle.clock.specs.declared.ArrivalTick.{ArrivalTick}
+use Rattle.settings.specs.declared.Settings.{Settings}
+use Rattle.journal.specs.declared.Call.{Call}
+use Rattle.record.specs.declared.Record.{Record}
+use Rattle.record.specs.Kinds.{isStable, isTentative}
+use Rattle.store.specs.declared.Reading.{Reading}
+use Rattle.store.specs.Lists.{keep}
+use Rattle.protocol.specs.Kinds.{Kind, kindOf}
+use Rattle.protocol.specs.Refusals.{answerTo}
+use Rattle.protocol.specs.DayBook.{Page, stableBuckets, leftToWork}
+use Rattle.protocol.specs.FailureFree.{failureFree}
+use Rattle.protocol.specs.Undos.{applied, struck, markDue}
+use Rattle.protocol.specs.Runs.{Event, Trace, start, next, after}
+
+abbrev pub Every : {A : Type 0} → (A → Type 0) → List A → Type 0
+Every Q [] = Unit {0}
+Every Q (x ∷ xs) = Q x × Every Q xs
+
+-- the results of the failure-free run through exactly the buckets that the day book has worked as stable
+unfoldable pub stableResults : Settings → Trace → List Record
+stableResults s t = failureFree s (t .stables) (t .book .d) .records
+
+-- the records of stable results in an output, as they came
+unfoldable pub stableRecords : List Record → List Record
+stableRecords = keep (λ (r : Record). isStable (r .kind))
+
+-- the output with its undos applied is the failure-free results and then tentative ones; only tentative ones were struck; the stable
+-- records as they came are the failure-free results too
+pub record Clean (s : Settings) (t : Trace) : Type 0 where
+  pub tentative : List Record
+  pub undone : applied [] (t .output) ≡ stableResults s t ++ tentative
+  pub allStable : Every (λ (r : Record). isStable (r .kind) ≡ true) (stableResults s t)
+  pub allTentative : Every (λ (r : Record). isTentative (r .kind) ≡ true) tentative
+  pub neverStruck : Every (λ (r : Record). isTentative (r .kind) ≡ true) (struck [] (t .output))
+  pub asTheyCame : stableRecords (t .output) ≡ stableResults s t
+  pub worked : t .book .d ≤ stableBuckets s (t .book)
+
+unfoldable pub boundaries : Trace → List ℕ
+boundaries t = map (λ (g : Page). g .boundary) (t .book .pages)
+
+-- a reading but for its arrival
+unfoldable pub withoutArrival : Reading → Reading
+withoutArrival r =
+    record { id = r .id; time = r .time; value = r .value; arrival = record { 0 = 0 }; kind = r .kind; meter = r .meter }
+
+unfoldable pub sent : Trace → List (List Reading)
+sent t = map (map withoutArrival) (t .stables)
+
+-- so many steps, none refused
+pub data Steps (s : Settings) : Trace → ℕ → Trace → Type 0 where
+  rest : {t : Trace} → Steps s t zero t
+  step : {t u : Trace} {n : ℕ} (k : Call) → kindOf (k .kind) ≡ Kind.P → answerTo s (t .node) k ≡ 0 → Steps s (next s t (Event.journal k)) n u → Steps s t (suc n) u
+
+pub record Demand3 : Type 0 where
+  -- after any list: clean
+  pub clean : (s : Settings) → 0 < s .bucket → 0 < s .lines → (es : List Event) → Clean s (after s (start s) es)
+  -- two nodes with the same settings, sent readings and greatest boundaries, none left to work: the same stable records
+  pub replicas :
+      (s : Settings) → 0 < s .bucket → 0 < s .lines → (es fs : List Event) →
+      sent (after s (start s) es) ≡ sent (after s (start s) fs) →
+      boundaries (after s (start s) es) ≡ boundaries (after s (start s) fs) →
+      leftToWork s (after s (start s) es .book) ≡ 0 →
+      leftToWork s (after s (start s) fs .book) ≡ 0 →
+      stableRecords (after s (start s) es .output) ≡ stableRecords (after s (start s) fs .output)
+  -- with k left to work, k + 2 steps leave none and no closing mark due
+  pub settles :
+      (s : Settings) → 0 < s .bucket → 0 < s .lines → (es : List Event) (t : Trace) →
+      Steps s (after s (start s) es) (leftToWork s (after s (start s) es .book) + 2) t →
+      (leftToWork s (t .book) ≡ 0) × (markDue false (t .output) ≡ false)

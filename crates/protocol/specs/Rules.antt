@@ -1,0 +1,130 @@
+-- One step: which of the five rules applies, and what it does (document 01, section 'One step'). Assumes nothing.
+use Prim.Native.Nat.{ℕ, suc}
+use mathlib.Core.Bool.{Bool, true, false, cond, not, _&&_}
+use mathlib.Core.List.{List, [], _∷_, _++_, map}
+use lib.Dec.{leb, ltb}
+use Rattle.clock.specs.declared.ArrivalTick.{ArrivalTick}
+use Rattle.clock.specs.Buckets.{bucketOf, bucketEnd}
+use Rattle.clock.specs.Windows.{closesWindow}
+use Rattle.clock.specs.Hold.{isDue}
+use Rattle.settings.specs.declared.Settings.{Settings}
+use Rattle.journal.specs.Kinds.{letterS, letterT, letterB, letterU, letterR}
+use Rattle.record.specs.declared.Record.{Record}
+use Rattle.store.specs.declared.Reading.{Reading}
+use Rattle.store.specs.Lists.{keep, someOf}
+use Rattle.store.specs.Order.{isIn, inBucket}
+use Rattle.operator.specs.Results.{plain}
+use Rattle.operator.specs.Work.{Worked, work}
+use Rattle.protocol.specs.Node.{Line, Node, isStable, keptOf}
+use Rattle.protocol.specs.declared.Phase.{Phase}
+use Rattle.protocol.specs.declared.Phase.the-variants as Phase
+
+-- rules 1 to 5
+pub data Rule : Type 0 where
+  withdraw workStable endCorrection workTentative idle : Rule
+
+-- the first rule that applies: bucket c is stable, tentative work is out, the node is correcting, a reading is due
+unfoldable pub firstRule : Bool → Bool → Bool → Bool → Rule
+firstRule stable ahead correcting due =
+    cond stable (cond ahead Rule.withdraw Rule.workStable)
+    (cond correcting Rule.endCorrection (cond due Rule.workTentative Rule.idle))
+
+unfoldable pub isCorrecting : Phase → Bool
+isCorrecting Phase.Stable = false
+isCorrecting Phase.Failure = false
+isCorrecting Phase.Correcting = true
+
+-- a kept reading of bucket p or later has waited out the hold
+unfoldable pub isOverdue : Settings → ℕ → ArrivalTick → Reading → Bool
+isOverdue s p now r = leb p (bucketOf (s .bucket) (r .time)) && isDue (s .hold) (r .arrival) now
+
+unfoldable pub someOverdue : Settings → ℕ → ArrivalTick → List Line → Bool
+someOverdue s p now = someOf (λ (l : Line). someOf (isOverdue s p now) (l .kept))
+
+unfoldable pub ruleOf : Settings → Node → ArrivalTick → Rule
+ruleOf s n now =
+    firstRule (isStable s (n .c) (n .lines)) (ltb (n .c) (n .p)) (isCorrecting (n .phase)) (someOverdue s (n .p) now (n .lines))
+
+-- a node after a call, and the records given
+pub record Outcome : Type 0 where
+  pub node : Node
+  pub records : List Record
+
+-- a line without the readings of bucket j
+unfoldable pub without : Settings → ℕ → Line → Line
+without s j l =
+    record {
+      boundary = l .boundary;
+      lastId = l .lastId;
+      lastStableId = l .lastStableId;
+      kept = keep (λ (r : Reading). not (isIn (s .bucket) j r)) (l .kept);
+    }
+
+-- the boundary that follows a window's stable results, at the window's end
+unfoldable pub boundaryAt : Settings → ℕ → List Record
+boundaryAt s j =
+    cond (closesWindow (s .window) j) (plain letterB 0 (record { 0 = bucketEnd (s .bucket) j }) ∷ []) []
+
+-- bucket j worked with all that is kept of it
+unfoldable pub worked : Settings → ℕ → ℕ → Node → Worked
+worked s kind j n = work s kind j (inBucket (s .bucket) j (keptOf (n .lines))) (n .operator)
+
+-- what a rule does; the clock is set where the call is accepted
+unfoldable pub act : Settings → Node → Rule → Outcome
+act s n Rule.withdraw =
+    record {
+      node =
+          record {
+            clock = n .clock;
+            c = n .c;
+            p = n .c;
+            phase = Phase.Correcting;
+            operator = n .checkpoint;
+            checkpoint = n .checkpoint;
+            lines = n .lines;
+          };
+      records = plain letterU (n .checkpoint .number) (record { 0 = 0 }) ∷ [];
+    }
+act s n Rule.workStable =
+    record {
+      node =
+          record {
+            clock = n .clock;
+            c = suc (n .c);
+            p = suc (n .p);
+            phase = n .phase;
+            operator = worked s letterS (n .c) n .operator;
+            checkpoint = worked s letterS (n .c) n .operator;
+            lines = map (without s (n .c)) (n .lines);
+          };
+      records = worked s letterS (n .c) n .records ++ boundaryAt s (n .c);
+    }
+act s n Rule.endCorrection =
+    record {
+      node =
+          record {
+            clock = n .clock;
+            c = n .c;
+            p = n .p;
+            phase = Phase.Stable;
+            operator = n .operator;
+            checkpoint = n .checkpoint;
+            lines = n .lines;
+          };
+      records = plain letterR 0 (record { 0 = 0 }) ∷ [];
+    }
+act s n Rule.workTentative =
+    record {
+      node =
+          record {
+            clock = n .clock;
+            c = n .c;
+            p = suc (n .p);
+            phase = Phase.Failure;
+            operator = worked s letterT (n .p) n .operator;
+            checkpoint = n .checkpoint;
+            lines = n .lines;
+          };
+      records = worked s letterT (n .p) n .records;
+    }
+act s n Rule.idle = record { node = n; records = [] }

@@ -1,0 +1,33 @@
+-- Undos applied to an output, record by record (document 01, section 'From the opening on'). Assumes nothing.
+use Prim.Native.Nat.{ℕ}
+use mathlib.Core.Bool.{Bool, true, false, cond, not}
+use mathlib.Core.List.{List, [], _∷_, _++_}
+use lib.Dec.{leb, eqb}
+use Rattle.record.specs.declared.Record.{Record}
+use Rattle.record.specs.Kinds.{isResult}
+use Rattle.journal.specs.Kinds.{letterU, letterR}
+use Rattle.store.specs.Lists.{keep}
+
+-- a result goes to the end; an undo strikes the results with an id above its own; others do nothing
+unfoldable pub applyOne : List Record → Record → List Record
+applyOne results r =
+    cond (isResult (r .kind)) (results ++ r ∷ [])
+    (cond (eqb (r .kind) letterU) (keep (λ (x : Record). leb (x .id) (r .id)) results) results)
+
+unfoldable pub applied : List Record → List Record → List Record
+applied results [] = results
+applied results (r ∷ rs) = applied (applyOne results r) rs
+
+-- the results that one record strikes, and those that all of them strike
+unfoldable pub struckByOne : List Record → Record → List Record
+struckByOne results r =
+    cond (eqb (r .kind) letterU) (keep (λ (x : Record). not (leb (x .id) (r .id))) results) []
+
+unfoldable pub struck : List Record → List Record → List Record
+struck results [] = []
+struck results (r ∷ rs) = struckByOne results r ++ struck (applyOne results r) rs
+
+-- the closing mark is due: an undo has no R behind it
+unfoldable pub markDue : Bool → List Record → Bool
+markDue due [] = due
+markDue due (r ∷ rs) = markDue (cond (eqb (r .kind) letterU) true (cond (eqb (r .kind) letterR) false due)) rs
