@@ -1,0 +1,2 @@
+-- Laws on what C is answered.
+pub mod Answers

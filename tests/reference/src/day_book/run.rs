@@ -1,0 +1,74 @@
+//! A run of the node of this crate under watch.
+
+use super::watch::{check_settled, Watch};
+use crate::node::{call, open, Reading, State, LINES, SHARE};
+use crate::record::{AREA_BYTES, RECORD_BYTES};
+use crate::refusal::Refusal;
+use crate::text::{read_call, write_call, Call, JOURNAL_LONGEST, STEP};
+
+/// A node with its store, from a fresh opening on, and the watch over it.
+#[derive(Clone, Debug)]
+pub struct Run {
+    pub state: State,
+    pub store: Vec<Reading>,
+    pub watch: Watch,
+}
+
+impl Run {
+    /// Opens a node with a store of exactly the places of eight lines.
+    pub fn open(settings: &[u8]) -> Result<Self, Refusal> {
+        let mut store = vec![Reading::ZERO; LINES * SHARE];
+        let state = open(settings, &mut store)?;
+        let watch = Watch::new(state.settings);
+        Ok(Run {
+            state,
+            store,
+            watch,
+        })
+    }
+
+    /// Calls the node with a text and a fresh area of so many bytes; gives the answer.
+    pub fn feed_area(&mut self, text: &[u8], area: &mut [u8]) -> Result<u32, String> {
+        let (answer, records) = call(&mut self.state, &mut self.store, text, area);
+        let written = &area[..records * RECORD_BYTES];
+        self.watch.see(read_call(text).as_ref(), answer, written)?;
+        Ok(answer)
+    }
+
+    /// Calls the node with a text and an area of the least length.
+    pub fn feed(&mut self, text: &[u8]) -> Result<u32, String> {
+        self.feed_area(text, &mut [0; AREA_BYTES])
+    }
+
+    /// Calls the node with a call whose kind has a letter.
+    pub fn feed_call(&mut self, call: &Call) -> Result<u32, String> {
+        let mut text = [0; JOURNAL_LONGEST];
+        let length = write_call(call, &mut text).map_err(|_| "a kind without a letter")?;
+        self.feed(&text[..length])
+    }
+
+    /// A step at some arrival tick.
+    pub fn step(&mut self, now: u32) -> Result<u32, String> {
+        self.feed_call(&Call {
+            now,
+            line: 0,
+            kind: STEP,
+            id: 0,
+            time: 0,
+            meter: 0,
+            value: 0,
+        })
+    }
+
+    /// The third part of demand 3: k + 2 steps, each some ticks after the one before, settle it.
+    pub fn settle(&mut self, pace: u32) -> Result<(), String> {
+        for _ in 0..self.watch.book.left() + 2 {
+            let now = self.state.clock.saturating_add(pace);
+            let answer = self.step(now)?;
+            if answer != 0 {
+                return Err(format!("a step refused with {answer}"));
+            }
+        }
+        check_settled(&self.watch)
+    }
+}

@@ -1,0 +1,9 @@
+//! The merge box of document 01 as a plain reference, to compare other implementations with.
+
+pub mod day_book;
+pub mod generate;
+pub mod node;
+pub mod playback;
+pub mod record;
+pub mod refusal;
+pub mod text;

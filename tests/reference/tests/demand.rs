@@ -1,0 +1,138 @@
+//! Demand 3 on generated journals: clean, never struck, failure-free, settling, replicas.
+
+mod common;
+
+use common::twin::twin;
+use reference::day_book::{check, check_replicas, Run};
+use reference::generate::{journal, Kind, Random};
+use reference::node::{Reading, State, Word, SHARE};
+use reference::record::AREA_BYTES;
+use reference::text::{next_line, read_call, Call};
+
+/// From so many stable buckets left on, a journal is not always worked to its end.
+const FAR: u32 = 2_000;
+/// From so many on never.
+const TOO_FAR: u32 = 150_000;
+
+/// What became of a journal.
+#[derive(Debug, Default)]
+struct Tally {
+    journals: u32,
+    calls: u64,
+    results: usize,
+    undone: u64,
+    replicas: u32,
+}
+
+/// Plays a journal, sometimes over short areas; checks at some places on the way and at the end.
+fn play(kind: Kind, seed: u64, lines: u64, tally: &mut Tally) -> Option<(Run, Vec<Call>)> {
+    let bytes = journal(kind, seed, lines);
+    let mut random = Random::new(seed);
+    let settings = next_line(&bytes);
+    let mut rest = &bytes[settings.len()..];
+    let mut run = Run::open(settings).ok()?;
+    let mut accepted = Vec::new();
+    while !rest.is_empty() {
+        let text = next_line(rest);
+        rest = &rest[text.len()..];
+        let short = if random.once_in(50) { 1 } else { 0 };
+        let mut area = [0; AREA_BYTES];
+        let answer = run.feed_area(text, &mut area[short..]).unwrap();
+        assert_eq!(answer == 5, short == 1);
+        tally.calls += 1;
+        tally.undone += u64::from(answer == 0 && area[0] == b'U');
+        accepted.extend(read_call(text).filter(|_| answer == 0));
+        if random.once_in(60) {
+            check(&run.watch).unwrap();
+            check_facts(&run, &accepted);
+            if run.watch.book.left() < FAR {
+                let pace = random.pick(&[0, 1, 60, 900_000]);
+                run.clone().settle(pace).unwrap();
+            }
+        }
+    }
+    tally.journals += 1;
+    Some((run, accepted))
+}
+
+/// Facts that hold of every list from a fresh opening (decision A44).
+fn check_facts(run: &Run, accepted: &[Call]) {
+    let (state, book) = (&run.state, &run.watch.book);
+    assert_eq!((state.c, state.p), (book.d(), book.t()));
+    assert_eq!(state.word == Word::Correcting, book.mark());
+    assert_eq!(state.word == Word::Failure, book.t() > book.d());
+    if state.p == state.c {
+        assert_eq!(state.operator, state.checkpoint);
+    }
+    for line in 0..state.settings.lines as usize {
+        let stable = |call: &&Call| call.kind == b'S' && usize::from(call.line) == line + 1;
+        let count = accepted.iter().filter(stable).count();
+        check_line(state, &run.store, line, count as u32);
+    }
+}
+
+fn check_line(state: &State, store: &[Reading], line: usize, stable: u32) {
+    let head = &state.heads[line];
+    let share = &store[line * SHARE..(line + 1) * SHARE];
+    let (kept, free) = share.split_at(head.kept as usize);
+    assert!(free.iter().all(|place| *place == Reading::ZERO));
+    assert_eq!(head.last_stable_id, stable);
+    let tentative = kept.iter().any(|reading| reading.kind == b'T');
+    assert_eq!(tentative, head.last_stable_id < head.last_id);
+    for reading in kept {
+        assert!(reading.time / state.settings.bucket >= state.c);
+        assert!(reading.kind == b'S' || reading.time >= head.boundary);
+        assert!(reading.id <= head.last_id && reading.arrival <= state.clock);
+    }
+}
+
+/// Plays journals of one kind, each to its end and on until it has settled, with a replica.
+fn play_all(kind: Kind, seeds: std::ops::Range<u64>, lines: u64) -> Tally {
+    let mut tally = Tally::default();
+    for seed in seeds {
+        let Some((mut run, accepted)) = play(kind, seed, lines, &mut tally) else {
+            continue;
+        };
+        let mut random = Random::new(seed ^ 0xFF);
+        check(&run.watch).unwrap();
+        let left = run.watch.book.left();
+        if left >= TOO_FAR || (left >= FAR && seed % 10 != 0) {
+            continue;
+        }
+        run.settle(random.pick(&[0, 3, 100])).unwrap();
+        check(&run.watch).unwrap();
+        check_facts(&run, &accepted);
+        tally.results += run.watch.output.stable().unwrap().len();
+        if let Some(mut other) = twin(&run, &accepted, &mut random) {
+            check(&other.watch).unwrap();
+            other.settle(1).unwrap();
+            check(&other.watch).unwrap();
+            let compared = check_replicas(&run.watch, &other.watch).unwrap();
+            tally.replicas += u32::from(compared);
+        }
+    }
+    tally
+}
+
+#[test]
+fn demand_3_on_nasty_journals() {
+    let tally = play_all(Kind::Nasty, 0..2_500, 400);
+    assert!(tally.journals > 2_300 && tally.calls > 900_000, "{tally:?}");
+    assert!(tally.results > 15_000 && tally.undone > 6_000, "{tally:?}");
+    assert!(tally.replicas > 2_100, "{tally:?}");
+}
+
+#[test]
+fn demand_3_on_days() {
+    let tally = play_all(Kind::Day, 0..500, 1_500);
+    assert!(tally.journals == 500 && tally.results > 15_000, "{tally:?}");
+    assert!(tally.undone > 500, "{tally:?}");
+    assert!(tally.replicas > 400, "{tally:?}");
+}
+
+#[test]
+fn demand_3_on_malformed_journals() {
+    let tally = play_all(Kind::Malformed, 0..1_000, 400);
+    assert!(tally.journals > 800 && tally.results > 1_500, "{tally:?}");
+    assert!(tally.replicas > 700, "{tally:?}");
+}
