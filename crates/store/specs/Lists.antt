@@ -1,4 +1,4 @@
--- Lists by tests on their elements. Assumes nothing.
+-- Lists by tests and properties of their elements. Assumes nothing.
 use Prim.Native.Nat.{ℕ, zero, suc}
 use mathlib.Core.Bool.{Bool, true, false, cond, _&&_, _||_}
 use mathlib.Core.List.{List, [], _∷_}
@@ -24,3 +24,13 @@ module _ {A : Type 0} where
   modify f i [] = []
   modify f zero (x ∷ xs) = f x ∷ xs
   modify f (suc i) (x ∷ xs) = x ∷ modify f i xs
+
+  -- every element has the property
+  abbrev pub Every : (A → Type 0) → List A → Type 0
+  Every Q [] = Unit {0}
+  Every Q (x ∷ xs) = Q x × Every Q xs
+
+  -- of every two elements the earlier one is so related to the later one
+  abbrev pub Pairwise : (A → A → Type 0) → List A → Type 0
+  Pairwise R [] = Unit {0}
+  Pairwise R (x ∷ xs) = Every (R x) xs × Pairwise R xs

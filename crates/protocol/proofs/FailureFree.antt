@@ -1,0 +1,126 @@
+-- The failure-free run depends only on the readings of the buckets that it works, and not on their arrivals; and an accepted call adds no
+-- reading to a bucket that was worked as stable, since its time is at or above the boundary. Assumes nothing.
+use Prim.Native.Nat.{ℕ, zero, suc, _*_, _≤_, _<_}
+use mathlib.Core.Path.{_≡_, refl, sym, _∙_, ap, ap₂}
+use mathlib.Core.Bool.{true, false, cond}
+use mathlib.Core.List.{List, [], _∷_, _++_, map}
+use native.Mathlib.Omega.{arith}
+use native.Mathlib.Nat.{le-refl}
+use lib.ListN.{getD}
+use borrow.Author.Tests.{leb-true, ltb-false, ne-eqb}
+use Rattle.clock.specs.Buckets.{bucketOf}
+use Rattle.settings.specs.declared.Settings.{Settings}
+use Rattle.journal.specs.declared.Call.{Call}
+use Rattle.journal.specs.Kinds.{letterS}
+use Rattle.store.specs.declared.Reading.{Reading}
+use Rattle.store.specs.Lists.{keep, modify}
+use Rattle.store.specs.Order.{Placed, before, insert, sort, isIn, gather, inBucket}
+use Rattle.operator.specs.declared.Operator.{Operator}
+use Rattle.operator.specs.Meters.{add, addAll}
+use Rattle.operator.specs.Work.{work}
+use Rattle.protocol.specs.Kinds.{Kind}
+use Rattle.protocol.specs.Node.{Line, noLine}
+use Rattle.protocol.specs.Refusals.{tooEarly}
+use Rattle.protocol.specs.DayBook.{Page}
+use Rattle.protocol.specs.FailureFree.{stableReading, withStable, failureFree}
+use Rattle.protocol.specs.Demand.{withoutArrival}
+use Rattle.protocol.proofs.Lists.{map-append, map-map, keep-map}
+use Rattle.protocol.proofs.Places.{Each, done, more}
+use Rattle.protocol.proofs.Lines.{isFrom, from-start, keep-but-last, Agrees}
+
+pub failureFree-same : (s : Settings) (ls ms : List (List Reading)) (n : ℕ) → ((j : ℕ) → j < n → gather (s .bucket) j 1 ls ≡ gather (s .bucket) j 1 ms) → failureFree s ls n ≡ failureFree s ms n
+unfolding failureFree inBucket
+failureFree-same s ls ms zero h = refl
+failureFree-same s ls ms (suc n) h =
+    rw (failureFree-same s ls ms n (λ j g. h j (omega arith)), h n (le-refl _))
+
+-- an accepted call and a bucket below c
+module _ (s : Settings) (room : 0 < s .bucket) (c : ℕ) (k : Call) (j : ℕ) (below : j < c) where
+  not-in : (l : Line) → c * s .bucket ≤ l .boundary .0 → tooEarly l (k .time .0) Kind.S ≡ false → isIn (s .bucket) j (stableReading k) ≡ false
+  unfolding tooEarly isFrom isIn stableReading
+  not-in l past early =
+      let g : c ≤ bucketOf (s .bucket) (k .time) =
+      leb-true _ _ (from-start (s .bucket) c (stableReading k) room (omega (arith, ltb-false))) in
+      ne-eqb (bucketOf (s .bucket) (k .time)) j (omega arith)
+
+  one-line : (kind : Kind) (l : Line) (rs : List Reading) → c * s .bucket ≤ l .boundary .0 → tooEarly l (k .time .0) kind ≡ false → keep (isIn (s .bucket) j) (withStable k kind rs) ≡ keep (isIn (s .bucket) j) rs
+  unfolding withStable
+  one-line Kind.S l rs past early = keep-but-last (isIn (s .bucket) j) rs (stableReading k) (not-in l past early)
+  one-line Kind.T l rs past early = refl
+  one-line Kind.B l rs past early = refl
+  one-line Kind.U l rs past early = refl
+  one-line Kind.R l rs past early = refl
+  one-line Kind.P l rs past early = refl
+
+  pub gather-input : {ls : List Line} {gs : List Page} {zs : List (List Reading)} (kind : Kind) (i n : ℕ) → tooEarly (getD ls i noLine) (k .time .0) kind ≡ false → Each (Agrees s c) ls gs zs → gather (s .bucket) j n (modify (withStable k kind) i zs) ≡ gather (s .bucket) j n zs
+  unfolding gather modify
+  gather-input kind i n early done = refl
+  gather-input kind zero n early (more {a = l} {c = rs} r rest) = rw (one-line kind l rs (r .past) early)
+  gather-input kind (suc i) n early (more r rest) = rw (gather-input kind i (suc n) early rest)
+
+-- arrivals
+
+unfoldable pub placedWithout : Placed → Placed
+placedWithout x = record { line = x .line; reading = withoutArrival (x .reading) }
+
+same-before : (x y : Placed) → before (placedWithout x) (placedWithout y) ≡ before x y
+unfolding before placedWithout withoutArrival
+same-before x y = refl
+
+insert-without : (x : Placed) (ys : List Placed) → insert (placedWithout x) (map placedWithout ys) ≡ map placedWithout (insert x ys)
+unfolding insert
+insert-without x [] = refl
+insert-without x (y ∷ ys) =
+    rw (same-before x y)
+    (elim (before x y) as
+    (λ b.
+    cond b (placedWithout x ∷ placedWithout y ∷ map placedWithout ys) (placedWithout y ∷ insert (placedWithout x) (map placedWithout ys)) ≡
+    map placedWithout (cond b (x ∷ y ∷ ys) (y ∷ insert x ys))) [
+      | true ↦ refl
+      | false ↦ rw (insert-without x ys)
+    ])
+
+sort-without : (xs : List Placed) → sort (map placedWithout xs) ≡ map placedWithout (sort xs)
+unfolding sort
+sort-without [] = refl
+sort-without (x ∷ xs) = rw (sort-without xs) (insert-without x (sort xs))
+
+kept-without : (length j n : ℕ) (rs : List Reading) → map (λ (r : Reading). record { line = n; reading = r }) (keep (isIn length j) (map withoutArrival rs)) ≡ map placedWithout (map (λ (r : Reading). record { line = n; reading = r }) (keep (isIn length j) rs))
+unfolding placedWithout isIn withoutArrival
+kept-without length j n rs =
+    ap (map (λ (r : Reading). record { line = n; reading = r })) (keep-map withoutArrival (isIn length j) rs) ∙
+    map-map withoutArrival (λ (r : Reading). record { line = n; reading = r }) (keep (isIn length j) rs) ∙
+    sym (map-map (λ (r : Reading). record { line = n; reading = r }) placedWithout (keep (isIn length j) rs))
+
+gather-without : (length j n : ℕ) (ls : List (List Reading)) → gather length j n (map (map withoutArrival) ls) ≡ map placedWithout (gather length j n ls)
+unfolding gather
+gather-without length j n [] = refl
+gather-without length j n (l ∷ ls) =
+    ap₂ _++_ (kept-without length j n l) (gather-without length j (suc n) ls) ∙
+    sym
+    (map-append placedWithout
+    (map (λ (r : Reading). record { line = n; reading = r }) (keep (isIn length j) l))
+    (gather length j (suc n) ls))
+
+addAll-without : (s : Settings) (o : Operator) (rs : List Placed) → addAll s o (map placedWithout rs) ≡ addAll s o rs
+unfolding addAll add placedWithout withoutArrival
+addAll-without s o [] = refl
+addAll-without s o (r ∷ rs) = addAll-without s (add s o (r .reading)) rs
+
+work-without : (s : Settings) (kind j : ℕ) (rs : List Placed) (o : Operator) → work s kind j (map placedWithout rs) o ≡ work s kind j rs o
+unfolding work
+work-without s kind j rs o = rw (addAll-without s o rs)
+
+inBucket-without : (length j : ℕ) (ls : List (List Reading)) → inBucket length j (map (map withoutArrival) ls) ≡ map placedWithout (inBucket length j ls)
+unfolding inBucket
+inBucket-without length j ls = ap sort (gather-without length j 1 ls) ∙ sort-without (gather length j 1 ls)
+
+pub failureFree-without : (s : Settings) (ls : List (List Reading)) (n : ℕ) → failureFree s (map (map withoutArrival) ls) n ≡ failureFree s ls n
+unfolding failureFree
+failureFree-without s ls zero = refl
+failureFree-without s ls (suc n) =
+    rw (
+      failureFree-without s ls n,
+      inBucket-without (s .bucket) n ls,
+      work-without s letterS n (inBucket (s .bucket) n ls) (failureFree s ls n .operator),
+    )

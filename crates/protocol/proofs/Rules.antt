@@ -1,0 +1,114 @@
+-- The node and the day book choose the same rule: bucket c is stable where c is below the least boundary divided by the bucket length, and
+-- an overdue reading of bucket p or later is kept, since p is at or above c. Assumes nothing.
+use Prim.Native.Nat.{ℕ, suc, _+_, _*_, _/_, _≤_, _<_}
+use mathlib.Core.Path.{_≡_, refl, sym, _∙_, ap, ap₂, subst}
+use mathlib.Core.Bool.{Bool, true, false, cond, _&&_, _||_}
+use mathlib.Core.List.{List, [], _∷_, map}
+use native.Mathlib.Omega.{arith}
+use native.Mathlib.Nat.{le-div-iff-mul-le, not-suc-le-zero}
+use lib.Dec.{leb, ltb}
+use lib.ListN.{length}
+use borrow.Author.Tests.{leb-true, le-leb}
+use Rattle.clock.specs.declared.ArrivalTick.{ArrivalTick}
+use Rattle.clock.specs.Buckets.{bucketOf, bucketEnd, finishes}
+use Rattle.clock.specs.Hold.{isDue}
+use Rattle.settings.specs.declared.Settings.{Settings}
+use Rattle.store.specs.declared.Reading.{Reading}
+use Rattle.store.specs.Lists.{someOf, allOf}
+use Rattle.protocol.specs.Node.{Line, Node, isStable}
+use Rattle.protocol.specs.Rules.{Rule, firstRule, isCorrecting, isOverdue, someOverdue, ruleOf}
+use Rattle.protocol.specs.DayBook.{Page, DayBook, leastBoundary, stableBuckets, entryDue, anyDue, bookStep}
+use Rattle.protocol.specs.Demand.{Every}
+use Rattle.protocol.proofs.Tests.{and-left, both-ways, leb-min}
+use Rattle.protocol.proofs.Lists.{some-kept, some-map}
+use Rattle.protocol.proofs.Places.{Each, done, more}
+use Rattle.protocol.proofs.Lines.{isFrom, entryOfReading, Agrees}
+
+-- the rule that the day book's tests give, and what it does to the book
+unfoldable pub bookRule : Settings → DayBook → ℕ → Rule
+bookRule s y now = firstRule (ltb (y .d) (stableBuckets s y)) (ltb (y .d) (y .t)) (y .mark) (anyDue s (y .t) now (y .pages))
+
+unfoldable pub bookAct : DayBook → Rule → DayBook
+bookAct y Rule.withdraw = record { d = y .d; t = y .d; mark = true; pages = y .pages }
+bookAct y Rule.workStable = record { d = suc (y .d); t = suc (y .d); mark = y .mark; pages = y .pages }
+bookAct y Rule.endCorrection = record { d = y .d; t = y .t; mark = false; pages = y .pages }
+bookAct y Rule.workTentative = record { d = y .d; t = suc (y .t); mark = y .mark; pages = y .pages }
+bookAct y Rule.idle = y
+
+-- the five cases of a step, with what the tests were
+pub rule-cases : (a b m d : Bool) (G : Rule → Type 0) → (a ≡ true → b ≡ true → G Rule.withdraw) → (a ≡ true → b ≡ false → G Rule.workStable) → (a ≡ false → m ≡ true → G Rule.endCorrection) → (a ≡ false → m ≡ false → G Rule.workTentative) → (a ≡ false → m ≡ false → G Rule.idle) → G (firstRule a b m d)
+unfolding firstRule
+rule-cases true true m d G u f k t i = u refl refl
+rule-cases true false m d G u f k t i = f refl refl
+rule-cases false b true d G u f k t i = k refl refl
+rule-cases false b false true G u f k t i = t refl refl
+rule-cases false b false false G u f k t i = i refl refl
+
+-- the book's own chain of tests is the node's chain of rules
+by-tests : (y : DayBook) (a b m d : Bool) → cond a (cond b (bookAct y Rule.withdraw) (bookAct y Rule.workStable)) (cond m (bookAct y Rule.endCorrection) (cond d (bookAct y Rule.workTentative) (bookAct y Rule.idle))) ≡ bookAct y (firstRule a b m d)
+unfolding firstRule
+by-tests y true true m d = refl
+by-tests y true false m d = refl
+by-tests y false b true d = refl
+by-tests y false b false true = refl
+by-tests y false b false false = refl
+
+pub book-step : (s : Settings) (y : DayBook) (now : ℕ) → bookStep s y now ≡ bookAct y (bookRule s y now)
+unfolding bookStep bookAct bookRule
+book-step s y now = by-tests y (ltb (y .d) (stableBuckets s y)) (ltb (y .d) (y .t)) (y .mark) (anyDue s (y .t) now (y .pages))
+
+module _ (s : Settings) (c : ℕ) where
+  -- a number at or below every line's boundary is at or below the least of the pages'
+  pub all-least : {ls : List Line} {gs : List Page} {zs : List (List Reading)} (x : ℕ) → 0 < length ls → Each (Agrees s c) ls gs zs → allOf (λ (l : Line). leb x (l .boundary .0)) ls ≡ leb x (leastBoundary gs)
+  unfolding allOf leastBoundary
+  all-least x h done = absurd (not-suc-le-zero h)
+  all-least x h (more {a = l} {b = g} r done) =
+      both-ways (leb x (l .boundary .0) && true) (leb x (g .boundary))
+      (λ e. subst (λ n. leb x n ≡ true) (r .boundary) (and-left _ _ e)) (λ e. rw (r .boundary, e))
+  all-least x h (more {a = l} {b = g} r (more {b = g₁} {ys = gs} q rs)) =
+      ap₂ _&&_ (ap (leb x) (r .boundary)) (all-least x (omega arith) (more q rs)) ∙
+      sym (leb-min x (g .boundary) (leastBoundary (g₁ ∷ gs)))
+
+  pub stable-least : {ls : List Line} {gs : List Page} {zs : List (List Reading)} → 0 < s .bucket → 0 < length ls → Each (Agrees s c) ls gs zs → isStable s c ls ≡ ltb c (leastBoundary gs / s .bucket)
+  unfolding isStable finishes bucketEnd
+  stable-least {gs} room h v =
+      all-least (c * s .bucket + s .bucket) h v ∙
+      both-ways (leb (c * s .bucket + s .bucket) (leastBoundary gs)) (ltb c (leastBoundary gs / s .bucket))
+      (λ e.
+      let h : c * s .bucket + s .bucket ≤ leastBoundary gs = leb-true _ _ e in
+      let low : suc c * s .bucket ≤ leastBoundary gs = omega arith in
+      le-leb _ _ (le-div-iff-mul-le room .1 low))
+      (λ e.
+      let low : suc c * s .bucket ≤ leastBoundary gs = le-div-iff-mul-le room .0 (leb-true _ _ e) in
+      le-leb (c * s .bucket + s .bucket) (leastBoundary gs) (omega arith))
+
+  overdue-from : (p : ℕ) (now : ArrivalTick) → c ≤ p → (rs : List Reading) → Every (λ (r : Reading). isOverdue s p now r ≡ true → isFrom (s .bucket) c r ≡ true) rs
+  unfolding isOverdue isFrom
+  overdue-from p now h [] = tt
+  overdue-from p now h (r ∷ rs) = (
+    λ e.
+        let g : p ≤ bucketOf (s .bucket) (r .time) = leb-true _ _ (and-left _ _ e) in
+        le-leb c (bucketOf (s .bucket) (r .time)) (omega arith),
+    overdue-from p now h rs,
+  )
+
+  entries-due : (p : ℕ) (now : ArrivalTick) (rs : List Reading) → someOf (entryDue s p (now .0)) (map entryOfReading rs) ≡ someOf (isOverdue s p now) rs
+  unfolding entryDue isOverdue entryOfReading bucketOf isDue
+  entries-due p now rs = some-map entryOfReading (entryDue s p (now .0)) rs
+
+  -- an overdue reading of bucket p or later is kept
+  pub overdue-kept : {ls : List Line} {gs : List Page} {zs : List (List Reading)} (p : ℕ) (now : ArrivalTick) → c ≤ p → Each (Agrees s c) ls gs zs → someOverdue s p now ls ≡ anyDue s p (now .0) gs
+  unfolding someOf someOverdue anyDue
+  overdue-kept p now h done = refl
+  overdue-kept p now h (more {b = g} r rs) =
+      ap₂ _||_
+      (ap (someOf (isOverdue s p now)) (r .kept) ∙
+      some-kept (isOverdue s p now) (isFrom (s .bucket) c) (r .all) (overdue-from p now h (r .all)) ∙
+      sym (entries-due p now (r .all)) ∙
+      ap (someOf (entryDue s p (now .0))) (sym (r .entries)))
+      (overdue-kept p now h rs)
+
+pub same-rule : (s : Settings) → 0 < s .bucket → (n : Node) (y : DayBook) (zs : List (List Reading)) (now : ArrivalTick) → 0 < length (n .lines) → n .c ≡ y .d → n .p ≡ y .t → isCorrecting (n .phase) ≡ y .mark → n .c ≤ n .p → Each (Agrees s (n .c)) (n .lines) (y .pages) zs → ruleOf s n now ≡ bookRule s y (now .0)
+unfolding ruleOf bookRule stableBuckets
+same-rule s room n y zs now h same-c same-p same-mark order v =
+    rw (stable-least s (n .c) room h v, overdue-kept s (n .c) (n .p) now order v, same-mark, same-c, same-p)

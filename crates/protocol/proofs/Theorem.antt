@@ -1,0 +1,124 @@
+-- Demand 3 on the node's meaning. A clean output is what the invariant says of the output; two nodes with none left to work have worked the
+-- same buckets, since both worked all below the least boundary; and the steps left settle within the buckets and two. Assumes nothing.
+use Prim.Native.Nat.{ℕ, _*_, _/_, _≤_, _<_, min}
+use mathlib.Core.Path.{_≡_, refl, sym, _∙_, ap, subst}
+use mathlib.Core.Bool.{true}
+use mathlib.Core.List.{List, [], _∷_, _++_, map}
+use native.Mathlib.Omega.{arith}
+use native.Mathlib.Nat.{le-div-iff-mul-le}
+use lib.Dec.{leb}
+use borrow.Author.Tests.{leb-true, le-leb}
+use Rattle.settings.specs.declared.Settings.{Settings}
+use Rattle.journal.specs.Kinds.{letterS, letterT}
+use Rattle.record.specs.declared.Record.{Record}
+use Rattle.record.specs.Kinds.{isStable, isTentative}
+use Rattle.store.specs.declared.Reading.{Reading}
+use Rattle.store.specs.Lists.{allOf}
+use Rattle.operator.specs.Work.{Worked}
+use Rattle.protocol.specs.Node.{Line}
+use Rattle.protocol.specs.DayBook.{Page, leastBoundary, stableBuckets, leftToWork}
+use Rattle.protocol.specs.FailureFree.{failureFree}
+use Rattle.protocol.specs.Undos.{applied, struck}
+use Rattle.protocol.specs.Runs.{Trace, start, after}
+use Rattle.protocol.specs.Demand.{stableResults, stableRecords, Clean, boundaries, sent, Demand3}
+use Rattle.protocol.proofs.Lists.{every-to}
+use Rattle.protocol.proofs.Places.{Each, done, more}
+use Rattle.protocol.proofs.Lines.{Agrees}
+use Rattle.protocol.proofs.Rules.{all-least}
+use Rattle.protocol.proofs.Numbers.{Numbered, failureFree-numbered}
+use Rattle.protocol.proofs.FailureFree.{failureFree-without}
+use Rattle.protocol.proofs.Invariant.{Invariant}
+use Rattle.protocol.proofs.Opening.{invariant}
+use Rattle.protocol.proofs.Settling.{settled}
+
+-- the buckets worked are below the least boundary
+
+all-past : (s : Settings) (c : ℕ) {ls : List Line} {gs : List Page} {zs : List (List Reading)} → Each (Agrees s c) ls gs zs → allOf (λ (l : Line). leb (c * s .bucket) (l .boundary .0)) ls ≡ true
+unfolding allOf
+all-past s c done = refl
+all-past s c (more {a = l} r rs) = rw (le-leb (c * s .bucket) (l .boundary .0) (r .past), all-past s c rs)
+
+worked-stable : (s : Settings) → 0 < s .bucket → (t : Trace) → Invariant s t → t .book .d ≤ stableBuckets s (t .book)
+unfolding stableBuckets
+worked-stable s room t v =
+    subst (λ n. n ≤ leastBoundary (t .book .pages) / s .bucket) (v .same-c)
+    (le-div-iff-mul-le room .1
+    (leb-true _ _
+    (sym (all-least s (t .node .c) (t .node .c * s .bucket) (v .some) (v .lines)) ∙ all-past s (t .node .c) (v .lines))))
+
+-- clean
+
+stable-letter : (r : Record) → r .kind ≡ letterS → isStable (r .kind) ≡ true
+unfolding isStable
+stable-letter r e = ap isStable e
+
+tentative-letter : (r : Record) → r .kind ≡ letterT → isTentative (r .kind) ≡ true
+unfolding isTentative
+tentative-letter r e = ap isTentative e
+
+came : (s : Settings) (t : Trace) → Invariant s t → stableRecords (t .output) ≡ stableResults s t
+unfolding stableResults
+came s t v = v .output .asTheyCame ∙ ap (λ n. failureFree s (t .stables) n .records) (v .same-c)
+
+clean-after : (s : Settings) → 0 < s .bucket → (t : Trace) → Invariant s t → Clean s t
+unfolding stableResults
+clean-after s room t v =
+    record {
+      tentative = v .output .tentative;
+      undone =
+          subst (λ n. applied [] (t .output) ≡ failureFree s (t .stables) n .records ++ v .output .tentative) (v .same-c)
+          (v .output .undone);
+      allStable =
+          every-to (failureFree s (t .stables) (t .book .d) .records)
+          (λ r (b : Numbered letterS 0 (failureFree s (t .stables) (t .book .d) .operator .number) r). stable-letter r (b .kind))
+          (failureFree-numbered s (t .stables) (t .book .d));
+      allTentative =
+          every-to (v .output .tentative)
+          (λ r (b : Numbered letterT (t .node .checkpoint .number) (t .node .operator .number) r). tentative-letter r (b .kind))
+          (v .output .numbers);
+      neverStruck = every-to (struck [] (t .output)) (λ r e. tentative-letter r e) (v .output .strikes);
+      asTheyCame = came s t v;
+      worked = worked-stable s room t v;
+    }
+
+-- two nodes
+
+least : List ℕ → ℕ
+least [] = 0
+least (n ∷ []) = n
+least (n ∷ m ∷ ns) = min n (least (m ∷ ns))
+
+least-boundaries : (gs : List Page) → leastBoundary gs ≡ least (map (λ (g : Page). g .boundary) gs)
+unfolding leastBoundary least
+least-boundaries [] = refl
+least-boundaries (g ∷ []) = refl
+least-boundaries (g ∷ h ∷ gs) = ap (min (g .boundary)) (least-boundaries (h ∷ gs))
+
+all-worked : (s : Settings) → 0 < s .bucket → (t : Trace) → Invariant s t → leftToWork s (t .book) ≡ 0 → t .book .d ≡ least (boundaries t) / s .bucket
+unfolding leftToWork boundaries stableBuckets
+all-worked s room t v e =
+    let none : t .book .d ≡ leastBoundary (t .book .pages) / s .bucket = omega (arith, worked-stable s room t v) in
+    none ∙ ap (λ n. n / s .bucket) (least-boundaries (t .book .pages))
+
+of-sent : (s : Settings) (t : Trace) → stableResults s t ≡ failureFree s (sent t) (t .book .d) .records
+unfolding stableResults sent
+of-sent s t = ap (λ (w : Worked). w .records) (sym (failureFree-without s (t .stables) (t .book .d)))
+
+same-results : (s : Settings) → 0 < s .bucket → (t u : Trace) → Invariant s t → Invariant s u → sent t ≡ sent u → boundaries t ≡ boundaries u → leftToWork s (t .book) ≡ 0 → leftToWork s (u .book) ≡ 0 → stableResults s t ≡ stableResults s u
+same-results s room t u v w same-sent same-boundaries et eu =
+    let same : t .book .d ≡ u .book .d =
+    all-worked s room t v et ∙ ap (λ ns. least ns / s .bucket) same-boundaries ∙ sym (all-worked s room u w eu) in
+    of-sent s t ∙ ap (λ n. failureFree s (sent t) n .records) same ∙
+    ap (λ ls. failureFree s ls (u .book .d) .records) same-sent ∙ sym (of-sent s u)
+
+pub demand3 : Demand3
+demand3 =
+    record {
+      clean = λ s room h es. clean-after s room (after s (start s) es) (invariant s room h es);
+      replicas =
+          λ s room h es fs same-sent same-boundaries et eu.
+          came s (after s (start s) es) (invariant s room h es) ∙
+          same-results s room (after s (start s) es) (after s (start s) fs) (invariant s room h es) (invariant s room h fs) same-sent same-boundaries et eu ∙
+          sym (came s (after s (start s) fs) (invariant s room h fs));
+      settles = λ s room h es t q. settled s room (after s (start s) es) t (invariant s room h es) q;
+    }

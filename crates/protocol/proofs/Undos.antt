@@ -1,0 +1,87 @@
+-- What records do to an output with its undos applied: results go to the end and strike nothing; an undo at a number takes away exactly the
+-- results above it. Assumes nothing.
+use Prim.Native.Nat.{ℕ, _≤_, _<_}
+use mathlib.Core.Path.{_≡_, refl, sym, _∙_, ap}
+use mathlib.Core.Bool.{Bool, true, false, cond, not}
+use mathlib.Core.List.{List, [], _∷_, _++_, append-nil, append-assoc}
+use lib.Dec.{leb, eqb}
+use borrow.Author.Tests.{le-leb, lt-leb}
+use Rattle.clock.specs.declared.ReadingTime.{ReadingTime}
+use Rattle.journal.specs.Kinds.{letterS, letterT, letterU, letterR}
+use Rattle.record.specs.declared.Record.{Record}
+use Rattle.record.specs.Kinds.{isStable, isTentative, isResult}
+use Rattle.operator.specs.Results.{plain}
+use Rattle.protocol.specs.Undos.{applyOne, applied, struckByOne, struck, markDue}
+use Rattle.protocol.specs.Demand.{Every}
+use Rattle.protocol.proofs.Lists.{every-to, keep-append, keep-all, keep-none}
+
+pub applied-append : (results xs ys : List Record) → applied results (xs ++ ys) ≡ applied (applied results xs) ys
+unfolding applied
+applied-append results [] ys = refl
+applied-append results (x ∷ xs) ys = applied-append (applyOne results x) xs ys
+
+pub struck-append : (results xs ys : List Record) → struck results (xs ++ ys) ≡ struck results xs ++ struck (applied results xs) ys
+unfolding struck applied
+struck-append results [] ys = refl
+struck-append results (x ∷ xs) ys =
+    rw (struck-append (applyOne results x) xs ys)
+    (sym (append-assoc (struckByOne results x) (struck (applyOne results x) xs) (struck (applied (applyOne results x) xs) ys)))
+
+pub markDue-append : (due : Bool) (xs ys : List Record) → markDue due (xs ++ ys) ≡ markDue (markDue due xs) ys
+unfolding markDue
+markDue-append due [] ys = refl
+markDue-append due (x ∷ xs) ys =
+    markDue-append (cond (eqb (x .kind) letterU) true (cond (eqb (x .kind) letterR) false due)) xs ys
+
+-- a result, by the tests that go by its kind
+pub record IsResult (r : Record) : Type 0 where
+  pub result : isResult (r .kind) ≡ true
+  pub noUndo : eqb (r .kind) letterU ≡ false
+  pub noMark : eqb (r .kind) letterR ≡ false
+
+pub stable-result : (r : Record) → r .kind ≡ letterS → IsResult r
+unfolding isResult isStable
+stable-result r e =
+    record { result = ap isResult e; noUndo = ap (λ n. eqb n letterU) e; noMark = ap (λ n. eqb n letterR) e }
+
+pub tentative-result : (r : Record) → r .kind ≡ letterT → IsResult r
+unfolding isResult isStable isTentative
+tentative-result r e =
+    record { result = ap isResult e; noUndo = ap (λ n. eqb n letterU) e; noMark = ap (λ n. eqb n letterR) e }
+
+pub applied-results : (results rs : List Record) → Every IsResult rs → applied results rs ≡ results ++ rs
+unfolding applied applyOne
+applied-results results [] h = sym (append-nil results)
+applied-results results (r ∷ rs) h =
+    rw (h .0 .result) (applied-results (results ++ r ∷ []) rs (h .1) ∙ append-assoc results (r ∷ []) rs)
+
+pub struck-results : (results rs : List Record) → Every IsResult rs → struck results rs ≡ []
+unfolding struck struckByOne
+struck-results results [] h = refl
+struck-results results (r ∷ rs) h = rw (h .0 .noUndo) (struck-results (applyOne results r) rs (h .1))
+
+pub markDue-results : (due : Bool) (rs : List Record) → Every IsResult rs → markDue due rs ≡ due
+unfolding markDue
+markDue-results due [] h = refl
+markDue-results due (r ∷ rs) h = rw (h .0 .noUndo, h .0 .noMark) (markDue-results due rs (h .1))
+
+-- an undo at n of results up to n and then results above it
+module _ (n : ℕ) (time : ReadingTime) (xs ys : List Record) (low : Every (λ (r : Record). r .id ≤ n) xs) (high : Every (λ (r : Record). n < r .id) ys) where
+  pub undo-applied : applied (xs ++ ys) (plain letterU n time ∷ []) ≡ xs
+  unfolding applied applyOne isResult isStable isTentative plain
+  undo-applied =
+      keep-append (λ (x : Record). leb (x .id) n) xs ys ∙
+      rw (
+        keep-all (λ (x : Record). leb (x .id) n) xs (every-to xs (λ x h. le-leb (x .id) n h) low),
+        keep-none (λ (x : Record). leb (x .id) n) ys (every-to ys (λ x h. lt-leb (x .id) n h) high),
+      )
+      (append-nil xs)
+
+  pub undo-struck : struck (xs ++ ys) (plain letterU n time ∷ []) ≡ ys
+  unfolding struck struckByOne plain
+  undo-struck =
+      append-nil _ ∙ keep-append (λ (x : Record). not (leb (x .id) n)) xs ys ∙
+      rw (
+        keep-none (λ (x : Record). not (leb (x .id) n)) xs (every-to xs (λ x h. ap not (le-leb (x .id) n h)) low),
+        keep-all (λ (x : Record). not (leb (x .id) n)) ys (every-to ys (λ x h. ap not (lt-leb (x .id) n h)) high),
+      )

@@ -1,0 +1,22 @@
+-- Laws of tests and of `cond`, by the test's two values. Assumes nothing.
+use mathlib.Core.Path.{_≡_, refl, sym}
+use mathlib.Core.Bool.{Bool, true, false, cond, _&&_, true≢false}
+
+-- a test that cannot be true
+pub false-unless : (b : Bool) → (b ≡ true → ⊥) → b ≡ false
+false-unless true f = absurd (f refl)
+false-unless false f = refl
+
+pub and-parts : (b c : Bool) → b && c ≡ true → (b ≡ true) × (c ≡ true)
+and-parts true c e = (refl, e)
+and-parts false c e = absurd (true≢false (sym e))
+
+-- a choice has a property where each side has it, under its value of the test
+pub cond-either : {A : Type 0} (P : A → Type 0) (b : Bool) {x y : A} → (b ≡ true → P x) → (b ≡ false → P y) → P (cond b x y)
+cond-either P true f g = f refl
+cond-either P false f g = g refl
+
+-- a function goes through a choice
+pub cond-map : {A B : Type 0} (f : A → B) (b : Bool) (x y : A) → cond b (f x) (f y) ≡ f (cond b x y)
+cond-map f true x y = refl
+cond-map f false x y = refl

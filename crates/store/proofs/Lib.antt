@@ -1,0 +1,12 @@
+-- Laws on the order of readings inside a bucket.
+pub mod Choices
+pub mod Pairs
+pub mod Permutations
+pub mod Keeping
+pub mod Order
+pub mod Sorting
+pub mod Uniqueness
+pub mod Gathering
+pub mod Apart
+pub mod Bucket
+pub mod Maps

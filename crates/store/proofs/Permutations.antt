@@ -1,0 +1,34 @@
+-- Laws of permutations: they go back, and what holds of every element, or of every two whichever comes first, holds after them too. Each
+-- goes by the permutation. Assumes nothing.
+use mathlib.Core.List.{List, [], _∷_, List·Memᴰ}
+use Rattle.store.specs.Lists.{Every, Pairwise}
+use Rattle.store.specs.Sorted.{Permutation, empty, behind, exchange, chain}
+use Rattle.store.proofs.Pairs.{every-of, every-self}
+
+module _ {A : Type 0} where
+  pub permutation-same : (xs : List A) → Permutation xs xs
+  permutation-same [] = empty
+  permutation-same (x ∷ xs) = behind x (permutation-same xs)
+
+  pub permutation-back : {xs ys : List A} → Permutation xs ys → Permutation ys xs
+  permutation-back empty = empty
+  permutation-back (behind x p) = behind x (permutation-back p)
+  permutation-back (exchange x y xs) = exchange y x xs
+  permutation-back (chain p q) = chain (permutation-back q) (permutation-back p)
+
+  pub every-permuted : (P : A → Type 0) {xs ys : List A} → Permutation xs ys → Every P xs → Every P ys
+  every-permuted P empty h = tt
+  every-permuted P (behind x p) h = (h .0, every-permuted P p (h .1))
+  every-permuted P (exchange x y xs) h = (h .1 .0, (h .0, h .1 .1))
+  every-permuted P (chain p q) h = every-permuted P q (every-permuted P p h)
+
+  -- a relation that goes both ways does not mind the order
+  pub pairwise-permuted : (R : A → A → Type 0) → ((x y : A) → R x y → R y x) → {xs ys : List A} → Permutation xs ys → Pairwise R xs → Pairwise R ys
+  pairwise-permuted R s empty h = tt
+  pairwise-permuted R s (behind x p) h = (every-permuted (R x) p (h .0), pairwise-permuted R s p (h .1))
+  pairwise-permuted R s (exchange x y xs) h = ((s x y (h .0 .0), h .1 .0), (h .0 .1, h .1 .1))
+  pairwise-permuted R s (chain p q) h = pairwise-permuted R s q (pairwise-permuted R s p h)
+
+  pub permutation-holds : {z : A} {xs ys : List A} → Permutation xs ys → List·Memᴰ z xs → List·Memᴰ z ys
+  permutation-holds {ys} p m =
+      every-of (λ x. List·Memᴰ x ys) m (every-permuted (λ x. List·Memᴰ x ys) (permutation-back p) (every-self ys))
