@@ -24,9 +24,9 @@ use Rattle.protocol.specs.Refusals.{tooEarly}
 use Rattle.protocol.specs.DayBook.{Page}
 use Rattle.protocol.specs.FailureFree.{stableReading, withStable, failureFree}
 use Rattle.protocol.specs.Demand.{withoutArrival}
-use Rattle.protocol.proofs.Lists.{map-append, map-map, keep-map}
+use Rattle.protocol.proofs.Lists.{keep-but-last, map-append, map-map, keep-map}
 use Rattle.protocol.proofs.Places.{Each, done, more}
-use Rattle.protocol.proofs.Lines.{isFrom, from-start, keep-but-last, Agrees}
+use Rattle.protocol.proofs.Lines.{isFrom, from-start, Agrees}
 
 pub failureFree-same : (s : Settings) (ls ms : List (List Reading)) (n : ℕ) → ((j : ℕ) → j < n → gather (s .bucket) j 1 ls ≡ gather (s .bucket) j 1 ms) → failureFree s ls n ≡ failureFree s ms n
 unfolding failureFree inBucket

@@ -60,9 +60,8 @@ module _ (s : Settings) (room : 0 < s .bucket) (c : ℕ) (l : Line) (g : Page) (
         entries = v .entries;
         kept =
             rw (v .kept)
-            (keep-twice (λ (r : Reading). not (isIn (s .bucket) c r)) (isFrom (s .bucket) c) (v .all) ∙
-            keep-same (λ (r : Reading). isFrom (s .bucket) c r && not (isIn (s .bucket) c r)) (isFrom (s .bucket) (suc c)) (v .all)
-            (later-readings (s .bucket) c (v .all)));
+            (keep-twice _ (isFrom (s .bucket) c) (v .all) ∙
+            keep-same _ (isFrom (s .bucket) (suc c)) (v .all) (later-readings (s .bucket) c (v .all)));
         stable = v .stable;
         late = v .late;
         low = v .low;

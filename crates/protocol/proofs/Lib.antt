@@ -15,3 +15,5 @@ pub mod Invariant
 pub mod Opening
 pub mod Settling
 pub mod Theorem
+pub mod Faults
+pub mod Acceptance

@@ -7,7 +7,7 @@ use mathlib.Core.Bool.{Bool, true, false, not}
 use mathlib.Core.List.{List, [], _∷_, _++_, map, append-nil}
 use native.Mathlib.Omega.{arith}
 use native.Mathlib.Nat.{le-div-iff-mul-le, le-refl}
-use lib.Dec.{leb, ltb, eqb}
+use lib.Dec.{leb, eqb}
 use borrow.Author.Tests.{ltb-false, leb-true, eqb-true, not-true, not-false, le-leb}
 use Rattle.clock.specs.Buckets.{bucketOf}
 use Rattle.settings.specs.declared.Settings.{Settings}
@@ -22,7 +22,7 @@ use Rattle.protocol.specs.DayBook.{Entry, Page, entryOf, onPage}
 use Rattle.protocol.specs.FailureFree.{stableReading, withStable}
 use Rattle.protocol.specs.Demand.{Every}
 use Rattle.protocol.proofs.Tests.{and-left, not-both}
-use Rattle.protocol.proofs.Lists.{every-to, every-append, every-keep, every-from-kept, keep-append, keep-swap, keep-implied, none-passes, map-append, keep-map}
+use Rattle.protocol.proofs.Lists.{every-to, every-append, every-keep, every-from-kept, keep-last, keep-but-last, keep-swap, keep-implied, none-passes, map-append, keep-map}
 use Rattle.protocol.proofs.Letters.{kind-S, kind-T}
 
 -- a reading of bucket c or later
@@ -41,14 +41,17 @@ entryOfReading r = record { id = r .id; time = r .time .0; arrival = r .arrival 
 
 -- the line agrees with its page and its accepted stable readings, c being the first bucket not yet worked as stable
 pub record Agrees (s : Settings) (c : ℕ) (l : Line) (g : Page) (stables : List Reading) : Type 0 where
+  -- accepted and not undone
   pub all : List Reading
   pub boundary : l .boundary .0 ≡ g .boundary
   pub entries : g .entries ≡ map entryOfReading all
   pub kept : l .kept ≡ keep (isFrom (s .bucket) c) all
   pub stable : keep isStableReading all ≡ stables
+  -- a tentative reading is not below the boundary, a stable one not above the last stable id
   pub late : Every (λ (r : Reading). isTentativeReading r ≡ true → l .boundary .0 ≤ r .time .0) all
   pub low : Every (λ (r : Reading). isTentativeReading r ≡ false → r .id ≤ l .lastStableId) all
   pub ids : l .lastStableId ≤ l .lastId
+  -- the buckets below c are finished
   pub past : c * s .bucket ≤ l .boundary .0
 
 -- a time at or above the start of bucket c is of bucket c or later
@@ -56,15 +59,7 @@ pub from-start : (length c : ℕ) (r : Reading) → 0 < length → c * length �
 unfolding isFrom bucketOf
 from-start length c r room h = le-leb c (r .time .0 / length) (le-div-iff-mul-le room .1 h)
 
-keep-last : {A : Type 0} (test : A → Bool) (xs : List A) (x : A) → test x ≡ true → keep test (xs ++ x ∷ []) ≡ keep test xs ++ x ∷ []
-unfolding keep
-keep-last test xs x e = keep-append test xs (x ∷ []) ∙ rw e
-
-pub keep-but-last : {A : Type 0} (test : A → Bool) (xs : List A) (x : A) → test x ≡ false → keep test (xs ++ x ∷ []) ≡ keep test xs
-unfolding keep
-keep-but-last test xs x e = keep-append test xs (x ∷ []) ∙ rw e (append-nil (keep test xs))
-
--- a call of the letter S
+-- the reading of a call with the letter S is the one of the failure-free run, and not tentative; with the letter T it is tentative
 call-S : (k : Call) → k .kind ≡ letterS → (readingOf k ≡ stableReading k) × (isTentativeReading (readingOf k) ≡ false)
 unfolding readingOf stableReading isTentativeReading
 call-S k e = (λ i. record { id = k .id; time = k .time; value = k .value; arrival = k .now; kind = e i; meter = k .meter }, ap (λ n. eqb n letterT) e)
@@ -90,15 +85,15 @@ unfolding isTentativeReading
 none-tentative rs e = none-passes (λ (r : Reading). eqb (r .kind) letterT) rs e
 
 module _ (s : Settings) (room : 0 < s .bucket) (c : ℕ) (k : Call) (l : Line) (g : Page) (stables : List Reading) (v : Agrees s c l g stables) where
-  after-start : ltb (k .time .0) (l .boundary .0) ≡ false → isFrom (s .bucket) c (readingOf k) ≡ true
+  after-start : l .boundary .0 ≤ k .time .0 → isFrom (s .bucket) c (readingOf k) ≡ true
   unfolding readingOf
-  after-start early = from-start (s .bucket) c (readingOf k) room (omega (arith, v .past, ltb-false))
+  after-start inTime = from-start (s .bucket) c (readingOf k) room (omega (arith, v .past))
 
   more-entries : g .entries ++ entryOf k ∷ [] ≡ map entryOfReading (v .all ++ readingOf k ∷ [])
   more-entries = rw (call-entry k, v .entries) (sym (map-append entryOfReading (v .all) (readingOf k ∷ [])))
 
-  more-kept : ltb (k .time .0) (l .boundary .0) ≡ false → l .kept ++ readingOf k ∷ [] ≡ keep (isFrom (s .bucket) c) (v .all ++ readingOf k ∷ [])
-  more-kept early = rw (v .kept) (sym (keep-last (isFrom (s .bucket) c) (v .all) (readingOf k) (after-start early)))
+  more-kept : l .boundary .0 ≤ k .time .0 → l .kept ++ readingOf k ∷ [] ≡ keep (isFrom (s .bucket) c) (v .all ++ readingOf k ∷ [])
+  more-kept inTime = rw (v .kept) (sym (keep-last (isFrom (s .bucket) c) (v .all) (readingOf k) (after-start inTime)))
 
   stable-call : k .kind ≡ letterS → wrongId l (k .id) Kind.S ≡ false → tooEarly l (k .time .0) Kind.S ≡ false → Agrees s c (onLine k Kind.S l) (onPage k Kind.S g) (withStable k Kind.S stables)
   unfolding onLine onPage withStable wrongId tooEarly readingOf
@@ -108,7 +103,7 @@ module _ (s : Settings) (room : 0 < s .bucket) (c : ℕ) (k : Call) (l : Line) (
         all = v .all ++ readingOf k ∷ [];
         boundary = v .boundary;
         entries = more-entries;
-        kept = more-kept early;
+        kept = more-kept (ltb-false _ _ early);
         stable =
             keep-last isStableReading (v .all) (readingOf k) (stable-tentative (readingOf k) false (call-S k e .1)) ∙
             rw (v .stable, call-S k e .0);
@@ -129,7 +124,7 @@ module _ (s : Settings) (room : 0 < s .bucket) (c : ℕ) (k : Call) (l : Line) (
         all = v .all ++ readingOf k ∷ [];
         boundary = v .boundary;
         entries = more-entries;
-        kept = more-kept early;
+        kept = more-kept (ltb-false _ _ early);
         stable = keep-but-last isStableReading (v .all) (readingOf k) (stable-tentative (readingOf k) true (call-T k e)) ∙ v .stable;
         late = every-append _ (v .all) (readingOf k ∷ []) (v .late) (λ q. ltb-false _ _ early, tt);
         low = every-append _ (v .all) (readingOf k ∷ []) (v .low) (λ q. not-both (call-T k e) q, tt);

@@ -2,7 +2,7 @@
 -- list and by cases on one test. Assumes nothing.
 use mathlib.Core.Path.{_≡_, refl, sym, _∙_}
 use mathlib.Core.Bool.{Bool, true, false, cond, _&&_, _||_, true≢false}
-use mathlib.Core.List.{List, [], _∷_, _++_, map}
+use mathlib.Core.List.{List, [], _∷_, _++_, map, append-nil}
 use Rattle.store.specs.Lists.{keep, someOf}
 use Rattle.protocol.specs.Demand.{Every}
 use Rattle.protocol.proofs.Tests.{and-comm, and-implied}
@@ -34,6 +34,14 @@ module _ {A : Type 0} where
         | true ↦ rw (keep-append test xs ys)
         | false ↦ keep-append test xs ys
       ]
+
+  pub keep-last : (test : A → Bool) (xs : List A) (x : A) → test x ≡ true → keep test (xs ++ x ∷ []) ≡ keep test xs ++ x ∷ []
+  unfolding keep
+  keep-last test xs x e = keep-append test xs (x ∷ []) ∙ rw e
+
+  pub keep-but-last : (test : A → Bool) (xs : List A) (x : A) → test x ≡ false → keep test (xs ++ x ∷ []) ≡ keep test xs
+  unfolding keep
+  keep-but-last test xs x e = keep-append test xs (x ∷ []) ∙ rw e (append-nil (keep test xs))
 
   pub keep-same : (p q : A → Bool) (xs : List A) → Every (λ x. p x ≡ q x) xs → keep p xs ≡ keep q xs
   unfolding keep

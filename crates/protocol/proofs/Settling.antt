@@ -19,11 +19,11 @@ use Rattle.protocol.specs.Demand.{Steps, rest, step}
 use Rattle.protocol.proofs.Rules.{bookRule, bookAct, book-step, rule-cases}
 use Rattle.protocol.proofs.Invariant.{Invariant, next-kept}
 
-stepsNeeded : ℕ → ℕ → ℕ → Bool → ℕ
+unfoldable pub stepsNeeded : ℕ → ℕ → ℕ → Bool → ℕ
 stepsNeeded m d t mark =
     cond (ltb d m) (cond (ltb d t) (suc (suc (m - d))) (suc (m - d))) (cond mark 1 0)
 
-stepsLeft : Settings → DayBook → ℕ
+unfoldable pub stepsLeft : Settings → DayBook → ℕ
 stepsLeft s y = stepsNeeded (stableBuckets s y) (y .d) (y .t) (y .mark)
 
 at-most : (a b mark : Bool) (k : ℕ) → cond a (cond b (suc (suc k)) (suc k)) (cond mark 1 0) ≤ k + 2
@@ -32,7 +32,7 @@ at-most true false mark k = omega arith
 at-most false b true k = omega arith
 at-most false b false k = omega arith
 
-left-and-two : (s : Settings) (y : DayBook) → stepsLeft s y ≤ leftToWork s y + 2
+pub left-and-two : (s : Settings) (y : DayBook) → stepsLeft s y ≤ leftToWork s y + 2
 unfolding stepsLeft stepsNeeded leftToWork
 left-and-two s y = at-most (ltb (y .d) (stableBuckets s y)) (ltb (y .d) (y .t)) (y .mark) (stableBuckets s y - y .d)
 
@@ -97,11 +97,10 @@ steps-down s room {u} (step {t = t} {n = n} k e a q) v =
     rw (next-book s t k e a) (step-down s (t .book) (k .now .0)) in
     (r .0, omega arith)
 
-pub settled : (s : Settings) → 0 < s .bucket → (t u : Trace) → Invariant s t → Steps s t (leftToWork s (t .book) + 2) u → (leftToWork s (u .book) ≡ 0) × (markDue false (u .output) ≡ false)
+pub settled : (s : Settings) → 0 < s .bucket → {n : ℕ} (t u : Trace) → Invariant s t → Steps s t n u → stepsLeft s (t .book) ≤ n → (leftToWork s (u .book) ≡ 0) × (markDue false (u .output) ≡ false)
 unfolding leftToWork stepsLeft
-settled s room t u v q =
-    let r : Invariant s u × (stepsLeft s (u .book) ≤ stepsLeft s (t .book) - (leftToWork s (t .book) + 2)) =
-    steps-down s room q v in
+settled s room {n} t u v q enough =
+    let r : Invariant s u × (stepsLeft s (u .book) ≤ stepsLeft s (t .book) - n) = steps-down s room q v in
     let none : (stableBuckets s (u .book) - u .book .d ≡ 0) × (u .book .mark ≡ false) =
-    none-needed (stableBuckets s (u .book)) (u .book .d) (u .book .t) (u .book .mark) (omega (arith, left-and-two s (t .book), r .1)) in
+    none-needed (stableBuckets s (u .book)) (u .book .d) (u .book .t) (u .book .mark) (omega (arith, enough, r .1)) in
     (none .0, r .0 .output .due ∙ r .0 .same-mark ∙ none .1)

@@ -29,7 +29,7 @@ use Rattle.protocol.proofs.Numbers.{Numbered, failureFree-numbered}
 use Rattle.protocol.proofs.FailureFree.{failureFree-without}
 use Rattle.protocol.proofs.Invariant.{Invariant}
 use Rattle.protocol.proofs.Opening.{invariant}
-use Rattle.protocol.proofs.Settling.{settled}
+use Rattle.protocol.proofs.Settling.{left-and-two, settled}
 
 -- the buckets worked are below the least boundary
 
@@ -120,5 +120,8 @@ demand3 =
           came s (after s (start s) es) (invariant s room h es) ∙
           same-results s room (after s (start s) es) (after s (start s) fs) (invariant s room h es) (invariant s room h fs) same-sent same-boundaries et eu ∙
           sym (came s (after s (start s) fs) (invariant s room h fs));
-      settles = λ s room h es t q. settled s room (after s (start s) es) t (invariant s room h es) q;
+      settles =
+          λ s room h es t q.
+          settled s room (after s (start s) es) t (invariant s room h es) q
+          (omega (arith, left-and-two s (after s (start s) es .book)));
     }

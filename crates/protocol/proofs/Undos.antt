@@ -1,10 +1,10 @@
 -- What records do to an output with its undos applied: results go to the end and strike nothing; an undo at a number takes away exactly the
 -- results above it. Assumes nothing.
 use Prim.Native.Nat.{ℕ, _≤_, _<_}
-use mathlib.Core.Path.{_≡_, refl, sym, _∙_, ap}
+use mathlib.Core.Path.{_≡_, refl, sym, _∙_, ap, ap₂}
 use mathlib.Core.Bool.{Bool, true, false, cond, not}
 use mathlib.Core.List.{List, [], _∷_, _++_, append-nil, append-assoc}
-use lib.Dec.{leb, eqb}
+use lib.Dec.{eqb}
 use borrow.Author.Tests.{le-leb, lt-leb}
 use Rattle.clock.specs.declared.ReadingTime.{ReadingTime}
 use Rattle.journal.specs.Kinds.{letterS, letterT, letterU, letterR}
@@ -70,18 +70,15 @@ module _ (n : ℕ) (time : ReadingTime) (xs ys : List Record) (low : Every (λ (
   pub undo-applied : applied (xs ++ ys) (plain letterU n time ∷ []) ≡ xs
   unfolding applied applyOne isResult isStable isTentative plain
   undo-applied =
-      keep-append (λ (x : Record). leb (x .id) n) xs ys ∙
-      rw (
-        keep-all (λ (x : Record). leb (x .id) n) xs (every-to xs (λ x h. le-leb (x .id) n h) low),
-        keep-none (λ (x : Record). leb (x .id) n) ys (every-to ys (λ x h. lt-leb (x .id) n h) high),
-      )
-      (append-nil xs)
+      keep-append _ xs ys ∙
+      ap₂ _++_ (keep-all _ xs (every-to xs (λ x h. le-leb (x .id) n h) low))
+      (keep-none _ ys (every-to ys (λ x h. lt-leb (x .id) n h) high)) ∙
+      append-nil xs
 
   pub undo-struck : struck (xs ++ ys) (plain letterU n time ∷ []) ≡ ys
   unfolding struck struckByOne plain
   undo-struck =
-      append-nil _ ∙ keep-append (λ (x : Record). not (leb (x .id) n)) xs ys ∙
-      rw (
-        keep-none (λ (x : Record). not (leb (x .id) n)) xs (every-to xs (λ x h. ap not (le-leb (x .id) n h)) low),
-        keep-all (λ (x : Record). not (leb (x .id) n)) ys (every-to ys (λ x h. ap not (lt-leb (x .id) n h)) high),
-      )
+      append-nil _ ∙
+      keep-append _ xs ys ∙
+      ap₂ _++_ (keep-none _ xs (every-to xs (λ x h. ap not (le-leb (x .id) n h)) low))
+      (keep-all _ ys (every-to ys (λ x h. ap not (lt-leb (x .id) n h)) high))

@@ -3,7 +3,7 @@
 //
 // The expected output was written by hand, from the form, the widths and the limits that document 01 gives (section 'Clocks, lines and
 // readings') and its refusals 1, 2 and 6; it was not recorded from this program. A journal line of the form has two lines of output, every
-// other line has one. The groups, by their lines in `stdin` and in `stdout`:
+// other line has one. The groups, by their lines in `stdin` and in `stdout`, where only 0A ends a line:
 //
 //  1. 1-10, 1-19: the ten lines of document 01's example, written out; the settings come first.
 //  2. 11-31, 20-61: journal lines of the form: fields at their ends, each letter, unused fields that are not 0; the last has 89 bytes.
@@ -18,7 +18,7 @@
 // 11. 218-234, 248-264: settings with a number past its width.
 // 12. 235-284, 265-314: settings not of the form.
 // 13. 285, 315: a journal line that the end of the input cuts off before its 0A.
-// 14. the texts of `judge_other_texts`, 316-322.
+// 14. the texts of `judge_other_texts`, 316-325.
 use fields::Written;
 use journal::Call;
 use journal::CallRead;
@@ -83,13 +83,16 @@ fn judge_lines(text: &[u8]) {
     }
 }
 
-// Texts that are no line of an input: the empty one, and lines that lack their 0A or have bytes behind it.
+// Texts that are no line of an input: the empty one, and lines that lack their 0A, end in another byte or have bytes behind the 0A.
 fn judge_other_texts() {
     judge(b"");
     judge(b"lines=2 bucket=100 window=1 hold=50 low=-1000 high=1000");
+    judge(b"lines=2 bucket=100 window=1 hold=50 low=-1000 high=1000\0");
     judge(b"lines=2 bucket=100 window=1 hold=50 low=-1000 high=1000\n\n");
     judge(b"lines=9 bucket=100 window=1 hold=50 low=-1000 high=1000\nlines=9");
     judge(b"now=0 line=1 kind=S id=1 time=10 meter=3 value=7");
+    judge(b"now=0 line=1 kind=S id=1 time=10 meter=3 value=7\r");
+    judge(b"now=0 line=1 kind=S id=1 time=10 meter=3 value=7\0");
     judge(b"now=0 line=1 kind=S id=1 time=10 meter=3 value=7\n\n");
     judge(
         b"now=62 line=0 kind=P id=0 time=0 meter=0 value=0\nnow=62 line=0 kind=P id=0 time=0 meter=0 value=0\n",

@@ -68,7 +68,7 @@ fn buckets_of(length: u32)
 }
 
 // The same in four lengths, then the last tick of a bucket and the first of the next.
-pub fn buckets() {
+pub(crate) fn buckets() {
     buckets_of(100);
     buckets_of(128);
     buckets_of(256);
@@ -82,7 +82,7 @@ pub fn buckets() {
 }
 
 // bucket_end(length, j): up to the greatest c that is in shape; none wraps at 2^32.
-pub fn ends() {
+pub(crate) fn ends() {
     bucket_end(100, 0);
     bucket_end(100, 1);
     bucket_end(100, 42949671);
@@ -94,7 +94,7 @@ pub fn ends() {
     bucket_end(128, 42949673);
 }
 
-pub fn ends_of_longer() {
+pub(crate) fn ends_of_longer() {
     bucket_end(256, 0);
     bucket_end(256, 16777214);
     bucket_end(256, 16777215);
@@ -107,7 +107,7 @@ pub fn ends_of_longer() {
 }
 
 // is_finished(length, boundary, j): a boundary one tick early and at the end, the last bucket, and ends at 2^32 and past it.
-pub fn finished() {
+pub(crate) fn finished() {
     is_finished(100, 99, 0);
     is_finished(100, 100, 0);
     is_finished(100, 199, 1);
@@ -118,7 +118,7 @@ pub fn finished() {
     is_finished(100, 4294967295, 42949673);
 }
 
-pub fn finished_longer() {
+pub(crate) fn finished_longer() {
     is_finished(128, 4294967295, 33554430);
     is_finished(128, 4294967295, 33554431);
     is_finished(128, 0, 33554431);
@@ -133,7 +133,7 @@ pub fn finished_longer() {
 }
 
 // is_due(hold, arrival, now): on both sides of the hold, sums past 2^32, and arrivals later than now.
-pub fn holds() {
+pub(crate) fn holds() {
     is_due(50, 0, 49);
     is_due(50, 0, 50);
     is_due(50, 0, 51);
@@ -149,7 +149,7 @@ pub fn holds() {
 }
 
 // closes_window(window, j).
-pub fn windows() {
+pub(crate) fn windows() {
     closes_window(1, 0);
     closes_window(1, 1);
     closes_window(1, 42949673);
@@ -161,7 +161,7 @@ pub fn windows() {
     closes_window(3, 5);
 }
 
-pub fn windows_further() {
+pub(crate) fn windows_further() {
     closes_window(3, 42949673);
     closes_window(3, 4294967295);
     closes_window(16, 0);
@@ -173,7 +173,7 @@ pub fn windows_further() {
 }
 
 // window_start(length, window, j), also for a j whose window would begin before time 0.
-pub fn starts() {
+pub(crate) fn starts() {
     window_start(100, 1, 0);
     window_start(100, 1, 1);
     window_start(100, 1, 42949672);
@@ -186,7 +186,7 @@ pub fn starts() {
     window_start(100, 16, 31);
 }
 
-pub fn starts_of_longer() {
+pub(crate) fn starts_of_longer() {
     window_start(128, 1, 33554431);
     window_start(128, 16, 33554431);
     window_start(256, 3, 16777214);

@@ -48,7 +48,7 @@ fn signed64(word: u64) {
 }
 
 // mean_of(sum, count): document 01's four examples, then halves and thirds.
-pub fn means() {
+pub(crate) fn means() {
     mean_of(5, 2);
     mean_of(-5, 2);
     mean_of(7, 3);
@@ -62,7 +62,7 @@ pub fn means() {
 }
 
 // Quarters, and the mean of nothing.
-pub fn means_of_more() {
+pub(crate) fn means_of_more() {
     mean_of(1, 4);
     mean_of(2, 4);
     mean_of(-2, 4);
@@ -75,7 +75,7 @@ pub fn means_of_more() {
 }
 
 // mean_of(sum, count) at the ends of the range: of one value, of as many as a state and a bucket can count, and of as many as 32 bits can.
-pub fn means_at_the_ends() {
+pub(crate) fn means_at_the_ends() {
     mean_of(2147483647, 1);
     mean_of(-2147483648, 1);
     mean_of(70368744144896, 32768);
@@ -90,7 +90,7 @@ pub fn means_at_the_ends() {
     mean_of(-9223372034707292160, 4294967295);
 }
 
-pub fn magnitudes() {
+pub(crate) fn magnitudes() {
     magnitude(0);
     magnitude(1);
     magnitude(-1);
@@ -99,7 +99,7 @@ pub fn magnitudes() {
     magnitude(-9223372036854775808);
 }
 
-pub fn words32() {
+pub(crate) fn words32() {
     bits32(0);
     bits32(1);
     bits32(-1);
@@ -108,7 +108,7 @@ pub fn words32() {
     bits32(-2147483648);
 }
 
-pub fn words64() {
+pub(crate) fn words64() {
     bits64(0);
     bits64(1);
     bits64(-1);
@@ -117,7 +117,7 @@ pub fn words64() {
     bits64(-9223372036854775808);
 }
 
-pub fn numbers32() {
+pub(crate) fn numbers32() {
     signed32(0);
     signed32(1);
     signed32(2147483647);
@@ -126,7 +126,7 @@ pub fn numbers32() {
     signed32(4294967295);
 }
 
-pub fn numbers64() {
+pub(crate) fn numbers64() {
     signed64(0);
     signed64(1);
     signed64(9223372036854775807);

@@ -1,16 +1,16 @@
 // What the cases print with.
 use libc::STDOUT_FILENO;
 
-pub fn print(text: &[u8]) {
+pub(crate) fn print(text: &[u8]) {
     io::write_all(STDOUT_FILENO, text);
 }
 
-pub fn print_number(n: u64) {
+pub(crate) fn print_number(n: u64) {
     io::print_decimal(STDOUT_FILENO, n);
 }
 
 // A signed number, with a minus where it is below zero.
-pub fn print_integer(z: i64) {
+pub(crate) fn print_integer(z: i64) {
     if z < 0 {
         print(b"-");
     }
@@ -18,24 +18,24 @@ pub fn print_integer(z: i64) {
 }
 
 // A signed number of 32 bits as one of 64.
-pub fn widen(z: i32) -> i64 {
+pub(crate) fn widen(z: i32) -> i64 {
     z as i64
 }
 
 // The end of a case: what the call answered.
-pub fn answer_number(n: u64) {
+pub(crate) fn answer_number(n: u64) {
     print(b") = ");
     print_number(n);
     print(b"\n");
 }
 
-pub fn answer_integer(z: i64) {
+pub(crate) fn answer_integer(z: i64) {
     print(b") = ");
     print_integer(z);
     print(b"\n");
 }
 
-pub fn answer_truth(yes: bool) {
+pub(crate) fn answer_truth(yes: bool) {
     if yes {
         print(b") = true\n");
     } else {
@@ -49,7 +49,7 @@ fn print_byte(b: u8) {
     io::print_hex(STDOUT_FILENO, b as u64, 2);
 }
 
-pub fn print_bytes(bytes: &[u8]) {
+pub(crate) fn print_bytes(bytes: &[u8]) {
     let mut i = 0;
     while i < bytes.len() {
         print_byte(bytes[i]);

@@ -27,7 +27,7 @@ fn word8(x: u64) {
     print(b"\n");
 }
 
-pub fn fours() {
+pub(crate) fn fours() {
     word4(0);
     word4(1);
     word4(255);
@@ -37,7 +37,7 @@ pub fn fours() {
     word4(4294967295);
 }
 
-pub fn eights() {
+pub(crate) fn eights() {
     word8(0);
     word8(1);
     word8(255);

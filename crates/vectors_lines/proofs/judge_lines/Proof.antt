@@ -4,7 +4,7 @@ use borrow.Author.Needs.{needs}
 use mathlib.Core.Path.{_≡_, ap}
 use Prim.Native.Nat.{_≤_, _<_, _-_}
 use lib.ListN.{length, take, drop, length-take, length-drop}
-use Rattle.vectors_lines.proofs.Lines.{line-within, line-some}
+use Rattle.fields.proofs.Lines.{line-within, line-some}
 use Rattle.vectors_lines.proofs.judge_lines.Statement.{statement}
 use Rattle.vectors_lines.proofs.judge_lines.Tie as tie
 

@@ -1,0 +1,134 @@
+-- What holds of every meter while readings are added, and how many meters and results there are. A law on meters that may grow with each
+-- reading is carried along the list; two instances: the last value fits 32 bits, and the sum stays in the range of a count that grows by
+-- at most one a reading. Assumes nothing.
+use Prim.Native.Nat.{ℕ, suc, _+_, _≤_, _<_, _^_}
+use mathlib.Core.Path.{_≡_, refl, _∙_}
+use mathlib.Core.Bool.{true, false, cond}
+use mathlib.Core.List.{List, [], _∷_}
+use native.Mathlib.Omega.{arith}
+use native.Mathlib.Nat.{add-zero}
+use lib.IntN.{ℤ}
+use lib.ListN.{length, getD, set, length-set}
+use lib.Signed.{mag}
+use Rattle.signed.specs.Mean.{InRange}
+use Rattle.settings.specs.declared.Settings.{Settings}
+use Rattle.store.specs.declared.Reading.{Reading}
+use Rattle.store.specs.Order.{Placed}
+use Rattle.store.proofs.Pairs.{every-to}
+use Rattle.operator.specs.declared.Meter.{Meter}
+use Rattle.operator.specs.declared.Operator.{Operator}
+use Rattle.operator.specs.Meters.{noMeter, withValue, isCounted, add, addAll}
+use Rattle.protocol.specs.Demand.{Every}
+use Rattle.consistency.proofs.Lists.{every-set, every-at}
+use Rattle.consistency.proofs.Sums.{add-range}
+
+-- a reading's value fits 32 bits
+abbrev pub ValueFits : Placed → Type 0
+ValueFits r = mag (r .reading .value) < 2 ^ 31
+
+-- ---- how many meters
+
+length-add : (s : Settings) (o : Operator) (r : Reading) → length (add s o r .meters) ≡ length (o .meters)
+unfolding add
+length-add s o r =
+    elim (isCounted s (r .value)) as
+    (λ b.
+    length
+    (cond b
+    (record { meters = set (o .meters) (r .meter) (withValue (r .value) (getD (o .meters) (r .meter) noMeter)); number = o .number })
+    o
+    .meters) ≡
+    length (o .meters)) [
+      | true ↦ length-set (o .meters) (r .meter) (withValue (r .value) (getD (o .meters) (r .meter) noMeter))
+      | false ↦ refl
+    ]
+
+pub length-addAll : (s : Settings) (o : Operator) (rs : List Placed) → length (addAll s o rs .meters) ≡ length (o .meters)
+unfolding addAll
+length-addAll s o [] = refl
+length-addAll s o (r ∷ rs) = length-addAll s (add s o (r .reading)) rs ∙ length-add s o (r .reading)
+
+-- readings do not number
+number-add : (s : Settings) (o : Operator) (r : Reading) → add s o r .number ≡ o .number
+unfolding add
+number-add s o r =
+    elim (isCounted s (r .value)) as
+    (λ b.
+    cond b
+    (record { meters = set (o .meters) (r .meter) (withValue (r .value) (getD (o .meters) (r .meter) noMeter)); number = o .number })
+    o
+    .number ≡
+    o .number) [
+      | true ↦ refl
+      | false ↦ refl
+    ]
+
+pub number-addAll : (s : Settings) (o : Operator) (rs : List Placed) → addAll s o rs .number ≡ o .number
+unfolding addAll
+number-addAll s o [] = refl
+number-addAll s o (r ∷ rs) = number-addAll s (add s o (r .reading)) rs ∙ number-add s o (r .reading)
+
+-- ---- what holds of every meter
+
+module _
+    (law : ℕ → Meter → Type 0)
+    (none : (n : ℕ) → law n noMeter)
+    (more : (n : ℕ) (m : Meter) → law n m → law (suc n) m)
+    (valued : (n : ℕ) (v : ℤ) (m : Meter) → mag v < 2 ^ 31 → law n m → law (suc n) (withValue v m))
+    (s : Settings)
+  where
+    every-add : (n : ℕ) (o : Operator) (r : Reading) → mag (r .value) < 2 ^ 31 → Every (law n) (o .meters) → Every (law (suc n)) (add s o r .meters)
+    unfolding add
+    every-add n o r f h =
+        elim (isCounted s (r .value)) as
+        (λ b.
+        Every (law (suc n))
+        (cond b
+        (record { meters = set (o .meters) (r .meter) (withValue (r .value) (getD (o .meters) (r .meter) noMeter)); number = o .number })
+        o
+        .meters)) [
+          | true ↦
+              every-set (law (suc n)) (o .meters) (r .meter) (withValue (r .value) (getD (o .meters) (r .meter) noMeter))
+              (valued n (r .value) (getD (o .meters) (r .meter) noMeter) f (every-at (law n) (o .meters) (r .meter) noMeter (none n) h))
+              (every-to (o .meters) (more n) h)
+          | false ↦ every-to (o .meters) (more n) h
+        ]
+
+    pub every-addAll : (n : ℕ) (o : Operator) (rs : List Placed) → Every ValueFits rs → Every (law n) (o .meters) → Every (law (n + length rs)) (addAll s o rs .meters)
+    unfolding addAll
+    every-addAll n o [] f h = rw (add-zero n) h
+    every-addAll n o (r ∷ rs) f h =
+        let e : n + suc (length rs) ≡ suc n + length rs = omega arith in
+        rw e (every-addAll (suc n) (add s o (r .reading)) rs (f .1) (every-add n o (r .reading) (f .0) h))
+
+-- the last value fits 32 bits
+abbrev pub LastFits : Meter → Type 0
+LastFits m = mag (m .last) < 2 ^ 31
+
+-- at most n values, and a sum that so many can have
+pub record Counted (n : ℕ) (m : Meter) : Type 0 where
+  pub count : m .count ≤ n
+  pub range : InRange (m .sum) (m .count)
+
+pub no-last : LastFits noMeter
+unfolding noMeter
+no-last = omega arith
+
+pub no-counted : (n : ℕ) → Counted n noMeter
+unfolding noMeter
+no-counted n = record { count = omega arith; range = omega arith }
+
+counted-value : (n : ℕ) (v : ℤ) (m : Meter) → mag v < 2 ^ 31 → Counted n m → Counted (suc n) (withValue v m)
+unfolding withValue
+counted-value n v m f h = record { count = omega (arith, h .count); range = add-range (m .count) (m .sum) v (h .range) f }
+
+last-value : (v : ℤ) (m : Meter) → mag v < 2 ^ 31 → LastFits (withValue v m)
+unfolding withValue
+last-value v m f = f
+
+pub lasts-addAll : (s : Settings) (o : Operator) (rs : List Placed) → Every ValueFits rs → Every LastFits (o .meters) → Every LastFits (addAll s o rs .meters)
+lasts-addAll s o rs f h = every-addAll (λ n m. LastFits m) (λ n. no-last) (λ n m g. g) (λ n v m g _. last-value v m g) s 0 o rs f h
+
+pub counted-addAll : (s : Settings) (n : ℕ) (o : Operator) (rs : List Placed) → Every ValueFits rs → Every (Counted n) (o .meters) → Every (Counted (n + length rs)) (addAll s o rs .meters)
+counted-addAll s n o rs f h =
+    every-addAll Counted no-counted (λ n m g. record { count = omega (arith, g .count); range = g .range }) counted-value s n o rs f h

@@ -1,0 +1,11 @@
+-- A call that is refused leaves the box as it was and gives no record: by the node's law on refused calls. Assumes nothing.
+use mathlib.Core.Path.{_≡_}
+use Rattle.node.proofs.Calls.{refused-call}
+use Rattle.consistency.specs.Runs.{Box, Input, called, left}
+use Rattle.consistency.specs.Demand.{Unchanged}
+
+pub refused : (b : Box) (i : Input) → (called b i .answer ≡ 0 → ⊥) → Unchanged b i
+unfolding Unchanged called left
+refused b (Input.journal text area) wasRefused =
+    let same = refused-call (b .state) (b .columns) text area wasRefused in
+    (λ i. record { state = same .state i; columns = same .columns i }, same .records)

@@ -1,0 +1,213 @@
+-- Demand 3: the theorem. A list of calls from an accepted opening on has the account and, in bytes, the output of a run on the meaning;
+-- what holds there of records holds of their bytes. Assumes nothing.
+use Prim.Native.Nat.{ℕ, _≤_, _<_}
+use mathlib.Core.Path.{_≡_, refl, sym, _∙_, ap, subst}
+use mathlib.Core.Bool.{true, false}
+use mathlib.Core.List.{List, [], _∷_, _++_, map, map-append}
+use native.Mathlib.Omega.{arith}
+use Rattle.settings.specs.declared.Settings.{Settings}
+use Rattle.record.specs.Layout.{bytesOf}
+use Rattle.record.specs.Kinds.{isTentative}
+use Rattle.protocol.specs.Node.{Node, opened}
+use Rattle.protocol.specs.Refusals.{answerTo}
+use Rattle.protocol.specs.DayBook.{stableBuckets, leftToWork}
+use Rattle.protocol.specs.FailureFree.{failureFree}
+use Rattle.protocol.specs.Undos.{struck, markDue}
+use Rattle.protocol.specs.Runs.{Event, Trace, start, next, after}
+use Rattle.protocol.specs.Demand.{Every, stableResults, sent, boundaries}
+use Rattle.protocol.specs.Demand as meaning
+use Rattle.protocol.proofs.Theorem as meaningProved
+use Rattle.node.specs.View.{view}
+use Rattle.node.proofs.Limits.{Limits}
+use Rattle.node.proofs.Opening as opening
+use Rattle.node.proofs.Calls.{accepted-call}
+use Rattle.consistency.specs.Runs.{Box, Input, called, left, leftAfter}
+use Rattle.consistency.specs.Undos.{pieceKind, appliedPieces, struckPieces, stablePieces, markDueIn}
+use Rattle.consistency.specs.Accounts.{Account, emptyAccount, sentIn, boundariesIn}
+use Rattle.consistency.specs.Demand.{Handed, opening as openingOf, isOpened, boxOf, settingsIn, accountOf, outputOf, failureFreeBytes, remaining, Clean, Steps, Demand3}
+use Rattle.consistency.proofs.Lists.{every-right}
+use Rattle.consistency.proofs.Fits.{opened-fits}
+use Rattle.consistency.proofs.Records.{Decodes}
+use Rattle.consistency.proofs.Undos.{every-applied, every-struck, appliedPieces-bytesOf, struckPieces-bytesOf, stablePieces-bytesOf, markDueIn-bytesOf, tentative-bytesOf}
+use Rattle.consistency.proofs.Runs.{Stands, accountIn, eventOf, eventsOf, event-accepted, call-follows, runs}
+use Rattle.consistency.proofs.Refused.{refused}
+
+-- ---- from the opening on
+
+-- what an accepted opening leaves stands for the node as opened
+box-stands : (h : Handed) → isOpened h → Stands (settingsIn h) (boxOf h .state) (boxOf h .columns) (opened (settingsIn h))
+unfolding isOpened settingsIn boxOf openingOf
+box-stands h e =
+    let o = opening.opened-on (h .state) (h .columns) (h .text) e in
+    record {
+      settings = refl;
+      is =
+          opening.opened-view (h .state) (h .columns) (h .text) o ∙
+          ap opened (sym (opening.opened-settings (h .state) (h .columns) (h .text) o));
+      room = opening.opened-fits (h .state) (h .columns) (h .text) o;
+      fits = opened-fits (settingsIn h);
+    }
+
+settings-limits : (h : Handed) → isOpened h → Limits (settingsIn h)
+unfolding isOpened settingsIn openingOf
+settings-limits h e =
+    let o = opening.opened-on (h .state) (h .columns) (h .text) e in
+    subst Limits (sym (opening.opened-settings (h .state) (h .columns) (h .text) o)) (opening.opened-limits (h .state) (h .columns) (h .text) o)
+
+some-bucket : (h : Handed) → isOpened h → 0 < settingsIn h .bucket
+some-bucket h e = omega (arith, settings-limits h e .leastBucket)
+
+some-lines : (h : Handed) → isOpened h → 0 < settingsIn h .lines
+some-lines h e = omega (arith, settings-limits h e .someLines)
+
+-- the run on the meaning
+abbrev traceOf : Settings → Handed → List Input → Trace
+traceOf s h is = after s (start s) (eventsOf (boxOf h) is)
+
+-- it has the account and, in bytes, the output
+record Mirrors (s : Settings) (h : Handed) (is : List Input) : Type 0 where
+  pub account : accountOf h is ≡ accountIn (traceOf s h is)
+  pub decode : Every Decodes (traceOf s h is .output)
+  pub laid : outputOf h is ≡ map bytesOf (traceOf s h is .output)
+
+mirrors : (h : Handed) → isOpened h → (is : List Input) → Mirrors (settingsIn h) h is
+unfolding accountOf outputOf emptyAccount accountIn start
+mirrors h e is =
+    let run = runs (settingsIn h) is (start (settingsIn h)) (boxOf h) (box-stands h e) in
+    record {
+      account = run .account;
+      decode = rw (run .given) (run .decode);
+      laid = run .laid ∙ ap (map bytesOf) (sym (run .given));
+    }
+
+-- ---- 1 and 2
+
+free-bytes : (h : Handed) (is : List Input) → Mirrors (settingsIn h) h is → failureFreeBytes h is ≡ map bytesOf (stableResults (settingsIn h) (traceOf (settingsIn h) h is))
+unfolding failureFreeBytes stableResults accountIn
+free-bytes h is m =
+    ap (λ (a : Account). map bytesOf (failureFree (settingsIn h) (a .stables) (a .book .d) .records)) (m .account)
+
+clean : (h : Handed) → isOpened h → (is : List Input) → Clean h is
+unfolding accountIn
+clean h e is =
+    let s = settingsIn h in
+    let t = traceOf s h is in
+    let m = mirrors h e is in
+    let c = meaningProved.demand3 .clean s (some-bucket h e) (some-lines h e) (eventsOf (boxOf h) is) in
+    let free = free-bytes h is m in
+    let strikes : struckPieces [] (outputOf h is) ≡ map bytesOf (struck [] (t .output)) =
+    ap (struckPieces []) (m .laid) ∙ struckPieces-bytesOf [] (t .output) tt (m .decode) in
+    let all : Every Decodes (stableResults s t ++ c .tentative) =
+    subst (Every Decodes) (c .undone) (every-applied Decodes [] (t .output) tt (m .decode)) in
+    record {
+      tentative = map bytesOf (c .tentative);
+      undone =
+          ap (appliedPieces []) (m .laid) ∙ appliedPieces-bytesOf [] (t .output) tt (m .decode) ∙
+          ap (map bytesOf) (c .undone) ∙ map-append bytesOf (stableResults s t) (c .tentative) ∙
+          ap (λ (l : List (List ℕ)). l ++ map bytesOf (c .tentative)) (sym free);
+      allTentative =
+          tentative-bytesOf (c .tentative) (every-right Decodes (stableResults s t) (c .tentative) all) (c .allTentative);
+      neverStruck =
+          subst (Every (λ (b : List ℕ). isTentative (pieceKind b) ≡ true)) (sym strikes)
+          (tentative-bytesOf (struck [] (t .output)) (every-struck Decodes [] (t .output) tt (m .decode)) (c .neverStruck));
+      asTheyCame =
+          ap stablePieces (m .laid) ∙ stablePieces-bytesOf (t .output) (m .decode) ∙ ap (map bytesOf) (c .asTheyCame) ∙ sym free;
+      worked = subst (λ (a : Account). a .book .d ≤ stableBuckets s (a .book)) (sym (m .account)) (c .worked);
+    }
+
+-- ---- 3
+
+replicas :
+    (h g : Handed) → isOpened h → isOpened g →
+    settingsIn h ≡ settingsIn g →
+    (is js : List Input) →
+    sentIn (accountOf h is) ≡ sentIn (accountOf g js) →
+    boundariesIn (accountOf h is) ≡ boundariesIn (accountOf g js) →
+    remaining h is ≡ 0 →
+    remaining g js ≡ 0 →
+    stablePieces (outputOf h is) ≡ stablePieces (outputOf g js)
+unfolding sentIn sent boundariesIn boundaries remaining accountIn
+replicas h g eh eg same is js same-sent same-boundaries none-h none-g =
+    let s = settingsIn h in
+    let m = mirrors h eh is in
+    let n : Mirrors s g js = subst (λ (z : Settings). Mirrors z g js) (sym same) (mirrors g eg js) in
+    let results =
+    meaningProved.demand3 .replicas s (some-bucket h eh) (some-lines h eh) (eventsOf (boxOf h) is) (eventsOf (boxOf g) js)
+    (ap sentIn (sym (m .account)) ∙ same-sent ∙ ap sentIn (n .account))
+    (ap boundariesIn (sym (m .account)) ∙ same-boundaries ∙ ap boundariesIn (n .account))
+    (ap (λ (a : Account). leftToWork s (a .book)) (sym (m .account)) ∙ none-h)
+    (ap (λ (a : Account). leftToWork s (a .book)) (sym (n .account)) ∙
+    ap (λ (z : Settings). leftToWork z (accountOf g js .book)) same ∙ none-g) in
+    ap stablePieces (m .laid) ∙ stablePieces-bytesOf (traceOf s h is .output) (m .decode) ∙
+    ap (map bytesOf) results ∙
+    sym (ap stablePieces (n .laid) ∙ stablePieces-bytesOf (traceOf s g js .output) (n .decode))
+
+-- ---- 4
+
+-- steps on the box are steps on the meaning
+steps-follow :
+    (s : Settings) {b : Box} {n : ℕ} {js : List Input} (t : Trace) → Stands s (b .state) (b .columns) (t .node) →
+    Steps b n js → meaning.Steps s t n (after s t (eventsOf b js))
+unfolding after eventsOf called left
+steps-follow s t stands Steps.rest = meaning.Steps.rest
+steps-follow s {b} t stands (Steps.step {n = n} {is = is} text area k read kind accepted more) =
+    let st = b .state in
+    let x = b .columns in
+    let i = Input.journal text area in
+    let v = accepted-call st x text area accepted in
+    let same : v .call ≡ k = cc (read, v .read) in
+    let answered : answerTo s (t .node) k ≡ 0 =
+    ap (λ (z : Settings). answerTo z (t .node) k) (sym (stands .settings)) ∙
+    ap (λ (z : Node). answerTo (st .settings) z k) (sym (stands .is)) ∙
+    ap (answerTo (st .settings) (view st x)) (sym same) ∙ v .answered in
+    let rest = steps-follow s (next s t (eventOf b i)) (call-follows s t b text area stands .stands) more in
+    meaning.Steps.step k kind answered
+    (subst (λ (z : Event). meaning.Steps s (next s t z) n (after s (next s t (eventOf b i)) (eventsOf (left b i) is)))
+    (event-accepted b text area k read accepted) rest)
+
+events-append : (b : Box) (is js : List Input) → eventsOf b (is ++ js) ≡ eventsOf b is ++ eventsOf (leftAfter b is) js
+unfolding eventsOf leftAfter
+events-append b [] js = refl
+events-append b (i ∷ is) js = ap (λ (es : List Event). eventOf b i ∷ es) (events-append (left b i) is js)
+
+after-append : (s : Settings) (t : Trace) (es fs : List Event) → after s t (es ++ fs) ≡ after s (after s t es) fs
+unfolding after
+after-append s t [] fs = refl
+after-append s t (e ∷ es) fs = after-append s (next s t e) es fs
+
+-- what the meaning says of the whole list, in bytes
+settled-bytes :
+    (h : Handed) → isOpened h → (is js : List Input) →
+    let u : Trace = after (settingsIn h) (traceOf (settingsIn h) h is) (eventsOf (leftAfter (boxOf h) is) js) in
+    (leftToWork (settingsIn h) (u .book) ≡ 0) × (markDue false (u .output) ≡ false) →
+    (remaining h (is ++ js) ≡ 0) × (markDueIn false (outputOf h (is ++ js)) ≡ false)
+unfolding remaining accountIn
+settled-bytes h e is js settled =
+    let s = settingsIn h in
+    let m = mirrors h e (is ++ js) in
+    let same : traceOf s h (is ++ js) ≡ after s (traceOf s h is) (eventsOf (leftAfter (boxOf h) is) js) =
+    ap (after s (start s)) (events-append (boxOf h) is js) ∙
+    after-append s (start s) (eventsOf (boxOf h) is) (eventsOf (leftAfter (boxOf h) is) js) in (
+      ap (λ (a : Account). leftToWork s (a .book)) (m .account) ∙ ap (λ (t : Trace). leftToWork s (t .book)) same ∙ settled .0,
+      ap (markDueIn false) (m .laid) ∙ markDueIn-bytesOf false (traceOf s h (is ++ js) .output) (m .decode) ∙
+          ap (λ (t : Trace). markDue false (t .output)) same ∙ settled .1,
+    )
+
+-- ---- whole
+
+pub demand3 : Demand3
+unfolding remaining accountIn start
+demand3 =
+    record {
+      clean = clean;
+      replicas = replicas;
+      settles =
+          λ h e is js steps.
+          let s = settingsIn h in
+          let t = traceOf s h is in
+          settled-bytes h e is js
+          (meaningProved.demand3 .settles s (some-bucket h e) (some-lines h e) (eventsOf (boxOf h) is)
+          (after s t (eventsOf (leftAfter (boxOf h) is) js))
+          (steps-follow s t (runs s is (start s) (boxOf h) (box-stands h e) .stands) (rw (mirrors h e is .account) at steps)));
+      refused = refused;
+    }

@@ -1,0 +1,2 @@
+-- The customer's starred examples, proved.
+pub mod Starred

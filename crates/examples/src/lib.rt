@@ -1,0 +1,1 @@
+// The customer's worked examples, proved: definitions and proofs only.

@@ -1,0 +1,123 @@
+-- What a call leaves has as many lines, and each line keeps at most what its share has places for: a reading more is refused at 256 kept,
+-- everything else keeps as many or fewer. By cases on kind and rule. Assumes nothing.
+use Prim.Native.Nat.{ℕ, _-_}
+use mathlib.Core.Path.{_≡_, refl}
+use mathlib.Core.Bool.{Bool, true, false, cond, not}
+use mathlib.Core.List.{List, [], _∷_}
+use native.Mathlib.Omega.{arith}
+use borrow.Author.Tests.{leb-false, eqb-true}
+use lib.Dec.{leb, eqb}
+use lib.ListN.{length, length-append, length-map}
+use Rattle.settings.specs.declared.Settings.{Settings}
+use Rattle.journal.specs.declared.Call.{Call}
+use Rattle.store.specs.declared.Reading.{Reading}
+use Rattle.store.specs.Order.{isIn}
+use Rattle.protocol.specs.Demand.{Every}
+use Rattle.protocol.specs.Kinds.{Kind, kindOf}
+use Rattle.protocol.specs.Node.{Line, Node, noLine, onLine}
+use Rattle.protocol.specs.Refusals.{Test, firstFailed, lineOf, isFull, testsOf, answerTo}
+use Rattle.protocol.specs.Rules.{Rule, Outcome, ruleOf, without, act}
+use Rattle.protocol.specs.Calls.{input, done, accepted, outcomeOf}
+use Rattle.node.proofs.Lists.{every-map, every-modify, length-modify, length-keep}
+use Rattle.node.proofs.Shares.{SmallLine}
+
+-- ---- answer 0
+
+-- where no test is numbered 0, answer 0 says that none failed
+pub all-passed : (ts : List Test) → Every (λ (t : Test). t .number ≡ 0 → ⊥) ts → firstFailed ts ≡ 0 → Every (λ (t : Test). t .fails ≡ false) ts
+unfolding firstFailed
+all-passed [] h e = tt
+all-passed (t ∷ ts) h e =
+    (elim (t .fails) as (λ b. t .fails ≡ b → cond b (t .number) (firstFailed ts) ≡ 0 → Every (λ (t : Test). t .fails ≡ false) (t ∷ ts)) [
+      | true ↦ λ q e. absurd (h .0 e)
+      | false ↦ λ q e. (q, all-passed ts (h .1) e)
+    ])
+    refl e
+
+-- a call that is accepted finds a free place where it takes one
+not-full : (s : Settings) (n : Node) (k : Call) → answerTo s n k ≡ 0 → isFull (lineOf n k) (kindOf (k .kind)) ≡ false
+unfolding answerTo testsOf
+not-full s n k e = all-passed (testsOf s n k (kindOf (k .kind))) (omega arith) e .1 .1 .1 .1 .1 .1 .1 .0
+
+-- ---- an input
+
+onLine-small : (k : Call) (kind : Kind) (l : Line) → isFull l kind ≡ false → SmallLine l → SmallLine (onLine k kind l)
+unfolding onLine isFull
+onLine-small k Kind.S l e h = simp length-append (omega (arith, leb-false))
+onLine-small k Kind.T l e h = simp length-append (omega (arith, leb-false))
+onLine-small k Kind.B l e h = h
+onLine-small k Kind.U l e h = omega (arith, length-keep (λ (r : Reading). leb (r .id) (k .id)) (l .kept))
+onLine-small k Kind.R l e h = h
+onLine-small k Kind.P l e h = h
+
+input-lines : (n : Node) (k : Call) (kind : Kind) → length (input n k kind .node .lines) ≡ length (n .lines)
+unfolding input
+input-lines n k kind = length-modify (onLine k kind) (k .line - 1) (n .lines)
+
+input-small : (n : Node) (k : Call) (kind : Kind) → isFull (lineOf n k) kind ≡ false → Every SmallLine (n .lines) → Every SmallLine (input n k kind .node .lines)
+unfolding input lineOf
+input-small n k kind e h =
+    every-modify SmallLine (onLine k kind) noLine (k .line - 1) (n .lines) (onLine-small k kind (lineOf n k) e) h
+
+-- ---- a step
+
+act-lines : (s : Settings) (n : Node) (q : Rule) → length (act s n q .node .lines) ≡ length (n .lines)
+unfolding act
+act-lines s n Rule.withdraw = refl
+act-lines s n Rule.workStable = length-map (n .lines) (without s (n .c))
+act-lines s n Rule.endCorrection = refl
+act-lines s n Rule.workTentative = refl
+act-lines s n Rule.idle = refl
+
+without-small : (s : Settings) (j : ℕ) (l : Line) → SmallLine l → SmallLine (without s j l)
+unfolding without
+without-small s j l h = omega (arith, length-keep (λ (r : Reading). not (isIn (s .bucket) j r)) (l .kept))
+
+act-small : (s : Settings) (n : Node) (q : Rule) → Every SmallLine (n .lines) → Every SmallLine (act s n q .node .lines)
+unfolding act
+act-small s n Rule.withdraw h = h
+act-small s n Rule.workStable h = every-map SmallLine (without s (n .c)) (without-small s (n .c)) (n .lines) h
+act-small s n Rule.endCorrection h = h
+act-small s n Rule.workTentative h = h
+act-small s n Rule.idle h = h
+
+-- ---- a call
+
+done-lines : (s : Settings) (n : Node) (k : Call) (kind : Kind) → length (done s n k kind .node .lines) ≡ length (n .lines)
+unfolding done
+done-lines s n k Kind.S = input-lines n k Kind.S
+done-lines s n k Kind.T = input-lines n k Kind.T
+done-lines s n k Kind.B = input-lines n k Kind.B
+done-lines s n k Kind.U = input-lines n k Kind.U
+done-lines s n k Kind.R = input-lines n k Kind.R
+done-lines s n k Kind.P = act-lines s n (ruleOf s n (k .now))
+
+done-small : (s : Settings) (n : Node) (k : Call) (kind : Kind) → isFull (lineOf n k) kind ≡ false → Every SmallLine (n .lines) → Every SmallLine (done s n k kind .node .lines)
+unfolding done
+done-small s n k Kind.S e h = input-small n k Kind.S e h
+done-small s n k Kind.T e h = input-small n k Kind.T e h
+done-small s n k Kind.B e h = input-small n k Kind.B e h
+done-small s n k Kind.U e h = input-small n k Kind.U e h
+done-small s n k Kind.R e h = input-small n k Kind.R e h
+done-small s n k Kind.P e h = act-small s n (ruleOf s n (k .now)) h
+
+-- an outcome, the call accepted or not
+abbrev outcomeIf : Settings → Node → Call → Bool → Outcome
+outcomeIf s n k b = cond b (accepted (k .now) (done s n k (kindOf (k .kind)))) (record { node = n; records = [] })
+
+pub outcome-lines : (s : Settings) (n : Node) (k : Call) → length (outcomeOf s n k .node .lines) ≡ length (n .lines)
+unfolding outcomeOf accepted
+outcome-lines s n k =
+    elim (eqb (answerTo s n k) 0) as (λ b. length (outcomeIf s n k b .node .lines) ≡ length (n .lines)) [
+      | true ↦ done-lines s n k (kindOf (k .kind))
+      | false ↦ refl
+    ]
+
+pub outcome-kept : (s : Settings) (n : Node) (k : Call) → Every SmallLine (n .lines) → Every SmallLine (outcomeOf s n k .node .lines)
+unfolding outcomeOf accepted
+outcome-kept s n k h =
+    (elim (eqb (answerTo s n k) 0) as (λ b. eqb (answerTo s n k) 0 ≡ b → Every SmallLine (outcomeIf s n k b .node .lines)) [
+      | true ↦ λ e. done-small s n k (kindOf (k .kind)) (not-full s n k (eqb-true _ _ e)) h
+      | false ↦ λ e. h
+    ])
+    refl

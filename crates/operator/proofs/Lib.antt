@@ -1,0 +1,9 @@
+-- Laws on the operator.
+pub mod Counted
+pub mod Values
+pub mod Adding
+pub mod Totals
+pub mod Results
+pub mod Numbers
+pub mod Gives
+pub mod Closing

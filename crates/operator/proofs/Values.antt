@@ -1,0 +1,72 @@
+-- The values that a run of readings brings to one meter, in order, with their number, sum and last: what a meter is to hold. A run of
+-- readings behind another brings its values behind the other's. Each law goes by the list. Assumes nothing.
+use Prim.Native.Nat.{ℕ, _+_}
+use mathlib.Core.Path.{_≡_, refl, sym, _∙_, ap}
+use mathlib.Core.Bool.{Bool, true, false, cond, _&&_}
+use mathlib.Core.List.{List, [], _∷_, _++_}
+use lib.Dec.{eqb}
+use lib.IntN.{ℤ, pos, _+ℤ_, +ℤ-idl, +ℤ-assoc}
+use lib.ListN.{length, length-append}
+use Rattle.settings.specs.declared.Settings.{Settings}
+use Rattle.store.specs.Order.{Placed}
+use Rattle.operator.specs.Meters.{isCounted}
+
+-- a reading of meter i with a value that is not dropped
+unfoldable pub countsFor : Settings → ℕ → Placed → Bool
+countsFor s i r = isCounted s (r .reading .value) && eqb (r .reading .meter) i
+
+-- the values of these readings
+unfoldable pub valuesOf : Settings → ℕ → List Placed → List ℤ
+valuesOf s i [] = []
+valuesOf s i (r ∷ rs) = cond (countsFor s i r) (r .reading .value ∷ valuesOf s i rs) (valuesOf s i rs)
+
+unfoldable pub total : List ℤ → ℤ
+total [] = pos 0
+total (v ∷ vs) = v +ℤ total vs
+
+-- the last of these, or the first argument where there is none
+unfoldable pub lastOr : ℤ → List ℤ → ℤ
+lastOr old [] = old
+lastOr old (v ∷ vs) = lastOr v vs
+
+unfoldable pub countOf : Settings → ℕ → List Placed → ℕ
+countOf s i rs = length (valuesOf s i rs)
+
+unfoldable pub sumOf : Settings → ℕ → List Placed → ℤ
+sumOf s i rs = total (valuesOf s i rs)
+
+pub valuesOf-append : (s : Settings) (i : ℕ) (rs qs : List Placed) → valuesOf s i (rs ++ qs) ≡ valuesOf s i rs ++ valuesOf s i qs
+unfolding valuesOf
+valuesOf-append s i [] qs = refl
+valuesOf-append s i (r ∷ rs) qs =
+    elim (countsFor s i r) as
+    (λ b.
+    cond b (r .reading .value ∷ valuesOf s i (rs ++ qs)) (valuesOf s i (rs ++ qs)) ≡
+    cond b (r .reading .value ∷ valuesOf s i rs) (valuesOf s i rs) ++ valuesOf s i qs) [
+      | true ↦ ap (λ (vs : List ℤ). r .reading .value ∷ vs) (valuesOf-append s i rs qs)
+      | false ↦ valuesOf-append s i rs qs
+    ]
+
+pub total-append : (vs ws : List ℤ) → total (vs ++ ws) ≡ total vs +ℤ total ws
+unfolding total
+total-append [] ws = sym (+ℤ-idl (total ws))
+total-append (v ∷ vs) ws = ap (λ (z : ℤ). v +ℤ z) (total-append vs ws) ∙ sym (+ℤ-assoc v (total vs) (total ws))
+
+pub countOf-append : (s : Settings) (i : ℕ) (rs qs : List Placed) → countOf s i (rs ++ qs) ≡ countOf s i rs + countOf s i qs
+unfolding countOf
+countOf-append s i rs qs = ap length (valuesOf-append s i rs qs) ∙ length-append (valuesOf s i rs) (valuesOf s i qs)
+
+pub sumOf-append : (s : Settings) (i : ℕ) (rs qs : List Placed) → sumOf s i (rs ++ qs) ≡ sumOf s i rs +ℤ sumOf s i qs
+unfolding sumOf
+sumOf-append s i rs qs = ap total (valuesOf-append s i rs qs) ∙ total-append (valuesOf s i rs) (valuesOf s i qs)
+
+-- the last one is the last one
+pub lastOr-end : (old v : ℤ) (vs : List ℤ) → lastOr old (vs ++ v ∷ []) ≡ v
+unfolding lastOr
+lastOr-end old v [] = refl
+lastOr-end old v (w ∷ ws) = lastOr-end w v ws
+
+pub lastOr-append : (old : ℤ) (vs ws : List ℤ) → lastOr old (vs ++ ws) ≡ lastOr (lastOr old vs) ws
+unfolding lastOr
+lastOr-append old [] ws = refl
+lastOr-append old (v ∷ vs) ws = lastOr-append v vs ws
