@@ -18,6 +18,7 @@ use Rattle.journal.proofs.Letters.{letter-byte}
 use Rattle.store.specs.declared.Reading.{Reading}
 use Rattle.store.specs.Order.{Placed, isIn, inBucket}
 use Rattle.store.proofs.Pairs.{every-to, every-append, every-keep, every-map}
+use Rattle.store.specs.Lists.{Every}
 use Rattle.operator.specs.declared.Operator.{Operator}
 use Rattle.operator.specs.Meters.{meterCount, noMeter, fresh, addAll}
 use Rattle.operator.specs.Work.{close, work}
@@ -26,7 +27,6 @@ use Rattle.protocol.specs.Node.{Line, Node, noLine, opened, keptOf, readingOf, 
 use Rattle.protocol.specs.Rules.{Rule, Outcome, ruleOf, without, worked, act}
 use Rattle.protocol.specs.Refusals.{answerTo}
 use Rattle.protocol.specs.Calls.{input, done, accepted, outcomeOf}
-use Rattle.protocol.specs.Demand.{Every}
 use Rattle.node.proofs.Lists.{every-replicate, every-modify}
 use Rattle.consistency.proofs.Meters.{LastFits, ValueFits, no-last, length-addAll, lasts-addAll}
 use Rattle.consistency.proofs.Gathered.{every-inBucket}

@@ -6,7 +6,7 @@ use mathlib.Core.List.{List, [], _∷_, map}
 use native.Mathlib.Omega.{arith}
 use lib.ListN.{length, length-append, length-map}
 use Rattle.store.specs.declared.Reading.{Reading}
-use Rattle.store.specs.Lists.{keep}
+use Rattle.store.specs.Lists.{Every, keep}
 use Rattle.store.specs.Order.{Placed, isIn, gather, inBucket}
 use Rattle.store.specs.Sorted.{Permutation, empty, behind, exchange, chain}
 use Rattle.store.proofs.Pairs.{every-append, every-keep, every-map}
@@ -14,7 +14,6 @@ use Rattle.store.proofs.Permutations.{every-permuted}
 use Rattle.store.proofs.Gathering.{place}
 use Rattle.store.proofs.Bucket.{inBucket-permutes}
 use Rattle.protocol.specs.Node.{Line, keptOf}
-use Rattle.protocol.specs.Demand.{Every}
 use Rattle.node.proofs.Lists.{length-keep}
 
 module _ (law : Reading → Type 0) (size j : ℕ) where

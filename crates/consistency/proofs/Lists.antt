@@ -2,7 +2,7 @@
 use Prim.Native.Nat.{ℕ, zero, suc}
 use mathlib.Core.List.{List, [], _∷_, _++_}
 use lib.ListN.{getD, set}
-use Rattle.protocol.specs.Demand.{Every}
+use Rattle.store.specs.Lists.{Every}
 
 module _ {A : Type 0} where
   pub every-right : (law : A → Type 0) (xs ys : List A) → Every law (xs ++ ys) → Every law ys

@@ -15,10 +15,10 @@ use Rattle.settings.specs.declared.Settings.{Settings}
 use Rattle.store.specs.declared.Reading.{Reading}
 use Rattle.store.specs.Order.{Placed}
 use Rattle.store.proofs.Pairs.{every-to}
+use Rattle.store.specs.Lists.{Every}
 use Rattle.operator.specs.declared.Meter.{Meter}
 use Rattle.operator.specs.declared.Operator.{Operator}
 use Rattle.operator.specs.Meters.{noMeter, withValue, isCounted, add, addAll}
-use Rattle.protocol.specs.Demand.{Every}
 use Rattle.consistency.proofs.Lists.{every-set, every-at}
 use Rattle.consistency.proofs.Sums.{add-range}
 

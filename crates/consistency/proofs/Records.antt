@@ -22,13 +22,13 @@ use Rattle.record.specs.Decoded.{decoded}
 use Rattle.record.proofs.Decoding.{decoded-bytesOf}
 use Rattle.store.specs.Order.{inBucket}
 use Rattle.store.proofs.Pairs.{every-to, every-append}
+use Rattle.store.specs.Lists.{Every}
 use Rattle.operator.specs.Results.{plain}
 use Rattle.protocol.specs.Kinds.{Kind, kindOf}
 use Rattle.protocol.specs.Node.{Line, Node, isStable, keptOf}
 use Rattle.protocol.specs.Rules.{Rule, firstRule, isCorrecting, someOverdue, ruleOf, boundaryAt, worked, act}
 use Rattle.protocol.specs.Refusals.{readingsPerLine, answerTo}
 use Rattle.protocol.specs.Calls.{input, done, accepted, outcomeOf}
-use Rattle.protocol.specs.Demand.{Every}
 use Rattle.node.specs.Sizes.{resultsPerBucket, recordsPerCall, areaBytes, lastBucket, countLimit}
 use Rattle.node.specs.Calls.{allBytes}
 use Rattle.node.proofs.Bytes.{length-allBytes}

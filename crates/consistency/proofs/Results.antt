@@ -15,12 +15,12 @@ use Rattle.record.specs.declared.Record.{Record}
 use Rattle.record.specs.Within.{Within}
 use Rattle.record.specs.Kinds.{isRecord}
 use Rattle.store.specs.Order.{Placed}
+use Rattle.store.specs.Lists.{Every}
 use Rattle.operator.specs.declared.Meter.{Meter}
 use Rattle.operator.specs.declared.Operator.{Operator}
 use Rattle.operator.specs.Meters.{meterCount, addAll}
 use Rattle.operator.specs.Results.{hasResult, result, results, plain}
 use Rattle.operator.specs.Work.{windowResults, close, work}
-use Rattle.protocol.specs.Demand.{Every}
 use Rattle.consistency.proofs.Lists.{every-both}
 use Rattle.consistency.proofs.Sums.{range-fits}
 use Rattle.consistency.proofs.Meters.{LastFits, ValueFits, Counted, length-addAll, number-addAll, lasts-addAll, counted-addAll}

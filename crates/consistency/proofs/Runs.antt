@@ -16,13 +16,13 @@ use Rattle.record.specs.declared.Record.{Record}
 use Rattle.record.specs.Layout.{bytesOf}
 use Rattle.store.specs.declared.Reading.{Reading}
 use Rattle.store.proofs.Pairs.{every-to, every-append}
+use Rattle.store.specs.Lists.{Every}
 use Rattle.operator.specs.declared.Meter.{Meter}
 use Rattle.protocol.specs.Node.{Node}
 use Rattle.protocol.specs.Calls.{outcomeOf}
 use Rattle.protocol.specs.DayBook.{DayBook, bookCall}
 use Rattle.protocol.specs.FailureFree.{stableAfter}
 use Rattle.protocol.specs.Runs.{Event, Trace, isAccepted, next, after}
-use Rattle.protocol.specs.Demand.{Every}
 use Rattle.node.specs.declared.State.{State}
 use Rattle.node.specs.Columns.{Columns}
 use Rattle.node.specs.View.{view}

@@ -8,13 +8,14 @@ use native.Mathlib.Omega.{arith}
 use Rattle.settings.specs.declared.Settings.{Settings}
 use Rattle.record.specs.Layout.{bytesOf}
 use Rattle.record.specs.Kinds.{isTentative}
+use Rattle.store.specs.Lists.{Every}
 use Rattle.protocol.specs.Node.{Node, opened}
 use Rattle.protocol.specs.Refusals.{answerTo}
 use Rattle.protocol.specs.DayBook.{stableBuckets, leftToWork}
 use Rattle.protocol.specs.FailureFree.{failureFree}
 use Rattle.protocol.specs.Undos.{struck, markDue}
 use Rattle.protocol.specs.Runs.{Event, Trace, start, next, after}
-use Rattle.protocol.specs.Demand.{Every, stableResults, sent, boundaries}
+use Rattle.protocol.specs.Demand.{stableResults, sent, boundaries}
 use Rattle.protocol.specs.Demand as meaning
 use Rattle.protocol.proofs.Theorem as meaningProved
 use Rattle.node.specs.View.{view}

@@ -16,11 +16,10 @@ use Rattle.clock.specs.Hold.{isDue}
 use Rattle.clock.proofs.Buckets.{finished-end-fits}
 use Rattle.settings.specs.declared.Settings.{Settings}
 use Rattle.store.specs.declared.Reading.{Reading}
-use Rattle.store.specs.Lists.{someOf, allOf}
+use Rattle.store.specs.Lists.{Every, someOf, allOf}
 use Rattle.store.proofs.Choices.{and-parts}
 use Rattle.protocol.specs.Node.{Line, isStable}
 use Rattle.protocol.specs.Rules.{isOverdue, someOverdue}
-use Rattle.protocol.specs.Demand.{Every}
 use Rattle.consistency.proofs.Fits.{ReadingFits, LineFits}
 
 -- what some element gives, where it passes the test

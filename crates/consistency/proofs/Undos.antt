@@ -9,10 +9,10 @@ use Rattle.journal.specs.Kinds.{letterU, letterR}
 use Rattle.record.specs.declared.Record.{Record}
 use Rattle.record.specs.Kinds.{isResult, isStable, isTentative}
 use Rattle.record.specs.Layout.{bytesOf}
-use Rattle.store.specs.Lists.{keep}
+use Rattle.store.specs.Lists.{Every, keep}
 use Rattle.store.proofs.Pairs.{every-to, every-append, every-keep}
 use Rattle.protocol.specs.Undos.{applyOne, applied, struckByOne, struck, markDue}
-use Rattle.protocol.specs.Demand.{Every, stableRecords}
+use Rattle.protocol.specs.Demand.{stableRecords}
 use Rattle.protocol.proofs.Lists.{keep-same, keep-map}
 use Rattle.consistency.specs.Undos.{kindIn, idIn, pieceKind, pieceId, applyPiece, appliedPieces, struckPieces, stablePieces, markDueIn}
 use Rattle.consistency.proofs.Records.{Decodes}

@@ -9,10 +9,10 @@ use Rattle.journal.specs.declared.CallRead.the-variants as CallRead
 use Rattle.journal.specs.JournalLine.{callOf}
 use Rattle.record.specs.Layout.{bytesOf}
 use Rattle.record.specs.Kinds.{isTentative}
+use Rattle.store.specs.Lists.{Every}
 use Rattle.protocol.specs.Kinds.{Kind, kindOf}
 use Rattle.protocol.specs.DayBook.{stableBuckets, leftToWork}
 use Rattle.protocol.specs.FailureFree.{failureFree}
-use Rattle.protocol.specs.Demand.{Every}
 use Rattle.node.specs.declared.State.{State}
 use Rattle.node.specs.Columns.{Columns}
 use Rattle.node.specs.Opening.{Opened, openedOn}

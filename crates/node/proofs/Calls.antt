@@ -14,7 +14,7 @@ use Rattle.journal.specs.declared.CallRead.{CallRead}
 use Rattle.journal.specs.declared.CallRead.the-variants as CallRead
 use Rattle.journal.specs.JournalLine.{lineText, callOf, callAnswer, CallFits}
 use Rattle.journal.proofs.Exact.{exact-call}
-use Rattle.protocol.specs.Demand.{Every}
+use Rattle.store.specs.Lists.{Every}
 use Rattle.protocol.specs.Refusals.{readingsPerLine, Test, firstFailed, answerTo}
 use Rattle.protocol.specs.Calls.{outcomeOf}
 use Rattle.node.specs.Sizes.{areaBytes}

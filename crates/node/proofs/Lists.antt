@@ -6,8 +6,7 @@ use mathlib.Core.List.{List, [], _∷_, map}
 use native.Mathlib.Omega.{arith}
 use native.Mathlib.Nat.{le-refl}
 use lib.ListN.{length, getD, replicate}
-use Rattle.store.specs.Lists.{keep, allOf, modify}
-use Rattle.protocol.specs.Demand.{Every}
+use Rattle.store.specs.Lists.{Every, keep, allOf, modify}
 
 pub and-left : (a b : Bool) → a && b ≡ true → a ≡ true
 and-left true b e = refl

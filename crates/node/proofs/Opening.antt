@@ -14,7 +14,7 @@ use Rattle.settings.specs.Limits.{maxLines, withinLimits, SettingsFit}
 use Rattle.settings.specs.SettingsLine.{settingsText, settingsOf, settingsAnswer, limited}
 use Rattle.settings.proofs.Exact.{exact-settings}
 use Rattle.store.specs.declared.Reading.{Reading}
-use Rattle.protocol.specs.Demand.{Every}
+use Rattle.store.specs.Lists.{Every}
 use Rattle.protocol.specs.Node.{Line, noLine, opened}
 use Rattle.protocol.specs.Refusals.{readingsPerLine}
 use Rattle.node.specs.Columns.{Columns, storeLength, rows, withRows}

@@ -12,7 +12,7 @@ use Rattle.settings.specs.declared.Settings.{Settings}
 use Rattle.journal.specs.declared.Call.{Call}
 use Rattle.store.specs.declared.Reading.{Reading}
 use Rattle.store.specs.Order.{isIn}
-use Rattle.protocol.specs.Demand.{Every}
+use Rattle.store.specs.Lists.{Every}
 use Rattle.protocol.specs.Kinds.{Kind, kindOf}
 use Rattle.protocol.specs.Node.{Line, Node, noLine, onLine}
 use Rattle.protocol.specs.Refusals.{Test, firstFailed, lineOf, isFull, testsOf, answerTo}

@@ -8,7 +8,7 @@ use native.Mathlib.Nat.{zero-add}
 use lib.ListN.{length, getD, take, drop, List·getD-append}
 use lib.Seq.{getD-append-add, getD-take, getD-drop, drop-drop}
 use Rattle.store.specs.declared.Reading.{Reading}
-use Rattle.protocol.specs.Demand.{Every}
+use Rattle.store.specs.Lists.{Every}
 use Rattle.protocol.specs.Node.{Line, Node, noLine}
 use Rattle.protocol.specs.Refusals.{readingsPerLine}
 use Rattle.node.specs.Columns.{Columns, rowAt, rows, withRows}

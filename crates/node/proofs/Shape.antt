@@ -14,12 +14,11 @@ use Rattle.signed.specs.Mean.{InRange}
 use Rattle.settings.specs.Limits.{withinLimits}
 use Rattle.journal.specs.Kinds.{letterS, letterT}
 use Rattle.store.specs.declared.Reading.{Reading}
-use Rattle.store.specs.Lists.{allOf}
+use Rattle.store.specs.Lists.{Every, allOf}
 use Rattle.operator.specs.declared.Meter.{Meter}
 use Rattle.operator.specs.Meters.{meterCount}
 use Rattle.protocol.specs.declared.Phase.{Phase}
 use Rattle.protocol.specs.declared.Phase.the-variants as Phase
-use Rattle.protocol.specs.Demand.{Every}
 use Rattle.protocol.specs.Node.{Line}
 use Rattle.protocol.specs.Refusals.{readingsPerLine}
 use Rattle.node.specs.Sizes.{resultsPerBucket, lastBucket, countLimit}

@@ -7,7 +7,7 @@ use native.Mathlib.Omega.{arith}
 use lib.ListN.{length, getD, take, drop, length-append, length-drop, length-take, take-append-drop}
 use lib.Seq.{take-at, drop-at, length-take-le, drop-drop}
 use Rattle.store.specs.declared.Reading.{Reading}
-use Rattle.protocol.specs.Demand.{Every}
+use Rattle.store.specs.Lists.{Every}
 use Rattle.protocol.specs.Node.{Line, noLine}
 use Rattle.protocol.specs.Refusals.{readingsPerLine}
 use Rattle.node.specs.View.{viewLine, viewLines, headOf, headsWith, shareWith, sharesWith}

@@ -6,7 +6,7 @@ use mathlib.Core.List.{List}
 use native.Mathlib.Omega.{arith}
 use lib.ListN.{length, take}
 use Rattle.settings.specs.declared.Settings.{Settings}
-use Rattle.protocol.specs.Demand.{Every}
+use Rattle.store.specs.Lists.{Every}
 use Rattle.protocol.specs.Node.{Line, Node}
 use Rattle.protocol.specs.Refusals.{readingsPerLine}
 use Rattle.node.specs.Columns.{Columns, storeLength, rows, withRows}

@@ -14,12 +14,11 @@ use Rattle.settings.specs.declared.Settings.{Settings}
 use Rattle.journal.specs.declared.Call.{Call}
 use Rattle.journal.specs.Kinds.{letterT}
 use Rattle.store.specs.declared.Reading.{Reading}
-use Rattle.store.specs.Lists.{someOf, modify}
+use Rattle.store.specs.Lists.{Every, someOf, modify}
 use Rattle.protocol.specs.Kinds.{Kind, kindOf}
 use Rattle.protocol.specs.Node.{Line, Node, keepsTentative}
 use Rattle.protocol.specs.Refusals.{firstFailed, lineOf, wrongLine, isZero, unusedField, wrongMeter, wrongId}
 use Rattle.protocol.specs.Refusals.{tooEarly, isHeldBack, isFull, testsOf, answerTo}
-use Rattle.protocol.specs.Demand.{Every}
 
 -- the number of the first fault, counted from j on, 0 if there is none
 unfoldable pub firstFault : ℕ → List Bool → ℕ

@@ -12,12 +12,11 @@ use borrow.Author.Tests.{leb-true, eqb-true, eqb-false, not-true, le-leb, ne-eqb
 use Rattle.clock.specs.Buckets.{bucketOf}
 use Rattle.settings.specs.declared.Settings.{Settings}
 use Rattle.store.specs.declared.Reading.{Reading}
-use Rattle.store.specs.Lists.{keep}
+use Rattle.store.specs.Lists.{Every, keep}
 use Rattle.store.specs.Order.{isIn}
 use Rattle.protocol.specs.Node.{Line}
 use Rattle.protocol.specs.Rules.{without}
 use Rattle.protocol.specs.DayBook.{Page}
-use Rattle.protocol.specs.Demand.{Every}
 use Rattle.protocol.proofs.Tests.{and-left, and-right, both-ways, else-false}
 use Rattle.protocol.proofs.Lists.{every-to, keep-same, keep-twice, keep-implied}
 use Rattle.protocol.proofs.Lines.{isFrom, isTentativeReading, isStableReading, stable-tentative, Agrees}

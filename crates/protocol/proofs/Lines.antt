@@ -14,13 +14,12 @@ use Rattle.settings.specs.declared.Settings.{Settings}
 use Rattle.journal.specs.declared.Call.{Call}
 use Rattle.journal.specs.Kinds.{letterS, letterT}
 use Rattle.store.specs.declared.Reading.{Reading}
-use Rattle.store.specs.Lists.{keep, someOf}
+use Rattle.store.specs.Lists.{Every, keep, someOf}
 use Rattle.protocol.specs.Kinds.{Kind, kindOf}
 use Rattle.protocol.specs.Node.{Line, keepsTentative, readingOf, onLine}
 use Rattle.protocol.specs.Refusals.{wrongId, tooEarly, isHeldBack}
 use Rattle.protocol.specs.DayBook.{Entry, Page, entryOf, onPage}
 use Rattle.protocol.specs.FailureFree.{stableReading, withStable}
-use Rattle.protocol.specs.Demand.{Every}
 use Rattle.protocol.proofs.Tests.{and-left, not-both}
 use Rattle.protocol.proofs.Lists.{every-to, every-append, every-keep, every-from-kept, keep-last, keep-but-last, keep-swap, keep-implied, none-passes, map-append, keep-map}
 use Rattle.protocol.proofs.Letters.{kind-S, kind-T}

@@ -3,8 +3,7 @@
 use mathlib.Core.Path.{_≡_, refl, sym, _∙_}
 use mathlib.Core.Bool.{Bool, true, false, cond, _&&_, _||_, true≢false}
 use mathlib.Core.List.{List, [], _∷_, _++_, map, append-nil}
-use Rattle.store.specs.Lists.{keep, someOf}
-use Rattle.protocol.specs.Demand.{Every}
+use Rattle.store.specs.Lists.{Every, keep, someOf}
 use Rattle.protocol.proofs.Tests.{and-comm, and-implied}
 
 module _ {A : Type 0} where

@@ -14,13 +14,13 @@ use Rattle.journal.specs.Kinds.{letterS}
 use Rattle.record.specs.declared.Record.{Record}
 use Rattle.store.specs.declared.Reading.{Reading}
 use Rattle.store.specs.Order.{Placed, inBucket}
+use Rattle.store.specs.Lists.{Every}
 use Rattle.operator.specs.declared.Meter.{Meter}
 use Rattle.operator.specs.declared.Operator.{Operator}
 use Rattle.operator.specs.Meters.{noMeter, withValue, isCounted, add, addAll}
 use Rattle.operator.specs.Results.{hasResult, result, results}
 use Rattle.operator.specs.Work.{Worked, windowResults, close, work}
 use Rattle.protocol.specs.FailureFree.{failureFree}
-use Rattle.protocol.specs.Demand.{Every}
 use Rattle.protocol.proofs.Lists.{every-to, every-append}
 
 -- a record of this kind, numbered above `from` and up to `to`

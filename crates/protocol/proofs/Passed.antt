@@ -5,10 +5,10 @@ use mathlib.Core.List.{List, [], _∷_}
 use native.Mathlib.Omega.{arith}
 use Rattle.settings.specs.declared.Settings.{Settings}
 use Rattle.journal.specs.declared.Call.{Call}
+use Rattle.store.specs.Lists.{Every}
 use Rattle.protocol.specs.Kinds.{Kind, kindOf}
 use Rattle.protocol.specs.Node.{Node}
 use Rattle.protocol.specs.Refusals.{Test, firstFailed, lineOf, wrongId, tooEarly, isHeldBack, testsOf, answerTo}
-use Rattle.protocol.specs.Demand.{Every}
 
 none-failed : (ts : List Test) → Every (λ (t : Test). t .number ≡ 0 → ⊥) ts → firstFailed ts ≡ 0 → Every (λ (t : Test). t .fails ≡ false) ts
 unfolding firstFailed

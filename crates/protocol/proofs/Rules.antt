@@ -14,11 +14,10 @@ use Rattle.clock.specs.Buckets.{bucketOf, bucketEnd, finishes}
 use Rattle.clock.specs.Hold.{isDue}
 use Rattle.settings.specs.declared.Settings.{Settings}
 use Rattle.store.specs.declared.Reading.{Reading}
-use Rattle.store.specs.Lists.{someOf, allOf}
+use Rattle.store.specs.Lists.{Every, someOf, allOf}
 use Rattle.protocol.specs.Node.{Line, Node, isStable}
 use Rattle.protocol.specs.Rules.{Rule, firstRule, isCorrecting, isOverdue, someOverdue, ruleOf}
 use Rattle.protocol.specs.DayBook.{Page, DayBook, leastBoundary, stableBuckets, entryDue, anyDue, bookStep}
-use Rattle.protocol.specs.Demand.{Every}
 use Rattle.protocol.proofs.Tests.{and-left, both-ways, leb-min}
 use Rattle.protocol.proofs.Lists.{some-kept, some-map}
 use Rattle.protocol.proofs.Places.{Each, done, more}

@@ -10,9 +10,9 @@ use Rattle.clock.specs.declared.ReadingTime.{ReadingTime}
 use Rattle.journal.specs.Kinds.{letterS, letterT, letterU, letterR}
 use Rattle.record.specs.declared.Record.{Record}
 use Rattle.record.specs.Kinds.{isStable, isTentative, isResult}
+use Rattle.store.specs.Lists.{Every}
 use Rattle.operator.specs.Results.{plain}
 use Rattle.protocol.specs.Undos.{applyOne, applied, struckByOne, struck, markDue}
-use Rattle.protocol.specs.Demand.{Every}
 use Rattle.protocol.proofs.Lists.{every-to, keep-append, keep-all, keep-none}
 
 pub applied-append : (results xs ys : List Record) → applied results (xs ++ ys) ≡ applied (applied results xs) ys

@@ -9,17 +9,13 @@ use Rattle.journal.specs.declared.Call.{Call}
 use Rattle.record.specs.declared.Record.{Record}
 use Rattle.record.specs.Kinds.{isStable, isTentative}
 use Rattle.store.specs.declared.Reading.{Reading}
-use Rattle.store.specs.Lists.{keep}
+use Rattle.store.specs.Lists.{Every, keep}
 use Rattle.protocol.specs.Kinds.{Kind, kindOf}
 use Rattle.protocol.specs.Refusals.{answerTo}
 use Rattle.protocol.specs.DayBook.{Page, stableBuckets, leftToWork}
 use Rattle.protocol.specs.FailureFree.{failureFree}
 use Rattle.protocol.specs.Undos.{applied, struck, markDue}
 use Rattle.protocol.specs.Runs.{Event, Trace, start, next, after}
-
-abbrev pub Every : {A : Type 0} → (A → Type 0) → List A → Type 0
-Every Q [] = Unit {0}
-Every Q (x ∷ xs) = Q x × Every Q xs
 
 -- the results of the failure-free run through exactly the buckets that the day book has worked as stable
 unfoldable pub stableResults : Settings → Trace → List Record
