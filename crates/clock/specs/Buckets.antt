@@ -5,14 +5,14 @@ use mathlib.Core.Bool.{Bool}
 use lib.Dec.{leb}
 use Rattle.clock.specs.declared.ReadingTime.{ReadingTime}
 
--- the bucket of a time: the time divided by the bucket length, rounded down
+-- the bucket that a time falls into
 unfoldable pub bucketOf : ℕ → ReadingTime → ℕ
 bucketOf length t = t .0 / length
 
--- the end of bucket j: its start plus the length
+-- where bucket j ends, which is where the next one starts
 unfoldable pub bucketEnd : ℕ → ℕ → ℕ
 bucketEnd length j = j * length + length
 
--- a boundary finishes bucket j: it is at or above the bucket's end
+-- a boundary finishes bucket j: nothing of the bucket lies behind it
 unfoldable pub finishes : ℕ → ReadingTime → ℕ → Bool
 finishes length boundary j = leb (bucketEnd length j) (boundary .0)

@@ -3,7 +3,7 @@ use Prim.Native.Nat.{ℕ, _+_, _-_, _*_, _%_}
 use mathlib.Core.Bool.{Bool}
 use lib.Dec.{eqb}
 
--- bucket j closes a window: j + 1 is a multiple of the window
+-- bucket j is the last of its window
 unfoldable pub closesWindow : ℕ → ℕ → Bool
 closesWindow window j = eqb ((j + 1) % window) 0
 

@@ -1,4 +1,4 @@
--- A call that is refused leaves the box as it was and gives no record: by the node's law on refused calls. Assumes nothing.
+-- A call that is refused leaves box and area as they were and gives no record: by the node's law on refused calls. Assumes nothing.
 use mathlib.Core.Path.{_≡_}
 use Rattle.node.proofs.Calls.{refused-call}
 use Rattle.consistency.specs.Runs.{Box, Input, called, left}
@@ -8,4 +8,4 @@ pub refused : (b : Box) (i : Input) → (called b i .answer ≡ 0 → ⊥) → U
 unfolding Unchanged called left
 refused b (Input.journal text area) wasRefused =
     let same = refused-call (b .state) (b .columns) text area wasRefused in
-    (λ i. record { state = same .state i; columns = same .columns i }, same .records)
+    (λ i. record { state = same .state i; columns = same .columns i }, same .records, same .bytes)

@@ -46,7 +46,7 @@ accountOf h is = accountAfter (settingsIn h) (emptyAccount (settingsIn h)) (boxO
 unfoldable pub outputOf : Handed → List Input → List (List ℕ)
 outputOf h is = output (boxOf h) is
 
--- the failure-free run over the accepted stable readings through the buckets that the day book has worked as stable, in bytes
+-- what the producers should be paid from: the failure-free results, in bytes
 unfoldable pub failureFreeBytes : Handed → List Input → List (List ℕ)
 failureFreeBytes h is =
     map bytesOf (failureFree (settingsIn h) (accountOf h is .stables) (accountOf h is .book .d) .records)
@@ -65,7 +65,7 @@ pub record Clean (h : Handed) (is : List Input) : Type 0 where
   pub asTheyCame : stablePieces (outputOf h is) ≡ failureFreeBytes h is
   pub worked : accountOf h is .book .d ≤ stableBuckets (settingsIn h) (accountOf h is .book)
 
--- a list of steps, none refused: texts that read as P, clocks and areas free
+-- a list of accepted steps; their clocks and areas are anything
 pub data Steps : Box → ℕ → List Input → Type 0 where
   rest : {b : Box} → Steps b zero []
   step :
@@ -76,15 +76,18 @@ pub data Steps : Box → ℕ → List Input → Type 0 where
       Steps (left b (Input.journal text area)) n is →
       Steps b (suc n) (Input.journal text area ∷ is)
 
--- a call that is refused leaves the box as it was and gives no record
+-- a call leaves the box and the lent area as they were, and gives no record
 unfoldable pub Unchanged : Box → Input → Type 0
-Unchanged b i = (left b i ≡ b) × (called b i .records ≡ 0)
+Unchanged b (Input.journal text area) =
+    (left b (Input.journal text area) ≡ b) ×
+    (called b (Input.journal text area) .records ≡ 0) ×
+    (called b (Input.journal text area) .area ≡ area)
 
 pub record Demand3 : Type 0 where
   -- 1 and 2
   pub clean : (h : Handed) → isOpened h → (is : List Input) → Clean h is
-  -- 3: two boxes with equal settings, and on each line equal accepted stable readings and equal greatest boundary, have given the same
-  -- stable results, in every byte and in this order, once neither has a stable bucket left to work
+  -- 3: whatever else differs, settings, sent readings and greatest boundaries fix the stable records of two boxes that have worked all
+  -- their stable buckets: the same bytes in the same order
   pub replicas :
       (h g : Handed) → isOpened h → isOpened g →
       settingsIn h ≡ settingsIn g →

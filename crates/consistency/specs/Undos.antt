@@ -25,7 +25,7 @@ pieceKind b = kindIn (decoded b)
 unfoldable pub pieceId : List ℕ → ℕ
 pieceId b = idIn (decoded b)
 
--- a result goes to the end; an undo strikes the results with an id above its own; others do nothing
+-- a result is appended, an undo removes the results numbered above it, other records leave the list alone
 unfoldable pub applyPiece : List (List ℕ) → List ℕ → List (List ℕ)
 applyPiece results b =
     cond (isResult (pieceKind b)) (results ++ b ∷ [])

@@ -1,4 +1,4 @@
--- A line of text is a list of keyed fields joined by single spaces and ended by 0A (document 01, section 'Clocks, lines and readings').
+-- A line of text: keyed fields with one space between them, and a 0A (document 01, section 'Clocks, lines and readings').
 -- Assumes nothing.
 use Prim.Native.Nat.{ℕ}
 use mathlib.Core.Bool.{cond}
@@ -15,7 +15,7 @@ lineOf [] = 10 ∷ []
 lineOf (f ∷ []) = f ++ 10 ∷ []
 lineOf (f ∷ g ∷ fs) = f ++ 32 ∷ lineOf (g ∷ fs)
 
--- the text up to and including the next 0A, or all of it where none comes
+-- a text's first line with its 0A; a text without a 0A is one line
 unfoldable pub nextLine : List ℕ → List ℕ
 nextLine [] = []
 nextLine (b ∷ s) = cond (eqb b 10) (b ∷ []) (b ∷ nextLine s)

@@ -18,7 +18,7 @@ pub enum Written {
     Malformed,
 }
 
-// The text up to and including the next 0A, or all of it where none comes.
+// A text's first line with its 0A, as a part of that text; a text without a 0A is one line.
 pub fn next_line(s: &[u8]) -> &[u8]
     ensures { λ r. ⌜ now r ≡ nextLine (now (s .entry)) ⌝ }
 {

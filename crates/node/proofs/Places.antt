@@ -1,4 +1,4 @@
--- The store place by place after a node is laid down: a line's kept readings fill the first places of its share, places given up are
+-- The store place by place after a node is laid down: what a line keeps stands first in its share, places given up are
 -- zeroed, and every other place is as it was. Share by share, each by its own law. Assumes nothing.
 use Prim.Native.Nat.{ℕ, zero, suc, _+_, _*_, _≤_, _<_}
 use mathlib.Core.Path.{_≡_, _∙_, ap, subst}

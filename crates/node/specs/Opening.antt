@@ -21,7 +21,7 @@ pub record Opened : Type 0 where
   pub state : State
   pub columns : Columns
 
--- 3: the store is under lines × 256 readings
+-- 3: some column has no room for all shares
 unfoldable pub isShort : ℕ → Columns → Bool
 isShort lines x = ltb (storeLength x) (lines * readingsPerLine)
 

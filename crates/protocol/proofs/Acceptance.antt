@@ -1,4 +1,4 @@
--- A call that no named refusal fits is accepted, kind by kind; what an accepted one leaves, and that a refused one changes nothing.
+-- Whatever meets none of the refusals is accepted, kind by kind; what an accepted one leaves, and that a refused one changes nothing.
 -- Assumes nothing.
 use Prim.Native.Nat.{ℕ, _+_, _-_, _≤_, _<_}
 use mathlib.Core.Path.{_≡_, refl, _∙_, ap}

@@ -1,5 +1,5 @@
--- The day book of document 01, section 'From the opening on': which buckets are to be worked as stable. It is fed the settings, each call's
--- fields and whether the call was accepted, and has its own least boundary, bucket number, due test and chain of tests. Assumes nothing.
+-- The day book of document 01, section 'From the opening on': which buckets are to be worked as stable. It sees
+-- the calls and their answers only, and decides by definitions of its own that nothing of the node shares. Assumes nothing.
 use Prim.Native.Nat.{ℕ, suc, _+_, _-_, _/_, min}
 use mathlib.Core.Bool.{Bool, true, false, cond, _&&_}
 use mathlib.Core.List.{List, [], _∷_, _++_}

@@ -26,7 +26,7 @@ pub record Line : Type 0 where
   pub lastStableId : ℕ
   pub kept : List Reading
 
--- c is the first bucket not yet worked as stable, p the next bucket to work
+-- buckets below c are worked as stable; work goes on at bucket p
 pub record Node : Type 0 where
   pub clock : ArrivalTick
   pub c : ℕ
@@ -52,7 +52,7 @@ opened s =
       lines = replicate (s .lines) noLine;
     }
 
--- bucket j is stable: every line's boundary is at or above its end
+-- bucket j is stable: each line's boundary finishes it
 unfoldable pub isStable : Settings → ℕ → List Line → Bool
 isStable s j = allOf (λ (l : Line). finishes (s .bucket) (l .boundary) j)
 

@@ -29,7 +29,7 @@ firstFailed (t ∷ ts) = cond (t .fails) (t .number) (firstFailed ts)
 unfoldable pub lineOf : Node → Call → Line
 lineOf n k = getD (n .lines) (k .line - 1) noLine
 
--- 8: line not 1 to lines, or for P not 0
+-- 8: no line of that number; a step names none
 unfoldable pub wrongLine : Settings → Kind → ℕ → Bool
 wrongLine s Kind.S line = not (leb 1 line && leb line (s .lines))
 wrongLine s Kind.T line = not (leb 1 line && leb line (s .lines))
@@ -42,7 +42,7 @@ unfoldable pub isZero : ℤ → Bool
 isZero (pos n) = eqb n 0
 isZero (negsuc n) = false
 
--- 9: a field that the kind does not use is not 0
+-- 9: something stands in a field that the kind has no use for
 unfoldable pub unusedField : Call → Kind → Bool
 unusedField k Kind.S = false
 unusedField k Kind.T = false
@@ -60,7 +60,7 @@ wrongMeter meter Kind.U = false
 wrongMeter meter Kind.R = false
 wrongMeter meter Kind.P = false
 
--- 11: the id of a reading is not the last id plus 1, that of an undo not from the last stable id to the last id
+-- 11: a reading must have the next id, an undo one that can still be undone to
 unfoldable pub wrongId : Line → ℕ → Kind → Bool
 wrongId l id Kind.S = not (eqb id (l .lastId + 1))
 wrongId l id Kind.T = not (eqb id (l .lastId + 1))
@@ -69,7 +69,7 @@ wrongId l id Kind.U = not (leb (l .lastStableId) id && leb id (l .lastId))
 wrongId l id Kind.R = false
 wrongId l id Kind.P = false
 
--- 12: time below the boundary
+-- 12: earlier than the line's boundary allows
 unfoldable pub tooEarly : Line → ℕ → Kind → Bool
 tooEarly l time Kind.S = ltb time (l .boundary .0)
 tooEarly l time Kind.T = ltb time (l .boundary .0)
@@ -78,7 +78,7 @@ tooEarly l time Kind.U = false
 tooEarly l time Kind.R = false
 tooEarly l time Kind.P = false
 
--- 13: S, B or R while the line keeps a tentative reading
+-- 13: tentative readings must be undone first
 unfoldable pub isHeldBack : Line → Kind → Bool
 isHeldBack l Kind.S = keepsTentative l
 isHeldBack l Kind.T = false
@@ -87,7 +87,7 @@ isHeldBack l Kind.U = false
 isHeldBack l Kind.R = keepsTentative l
 isHeldBack l Kind.P = false
 
--- 14: S or T with the line's places taken
+-- 14: no place is left for the reading
 unfoldable pub isFull : Line → Kind → Bool
 isFull l Kind.S = leb readingsPerLine (length (l .kept))
 isFull l Kind.T = leb readingsPerLine (length (l .kept))

@@ -34,7 +34,7 @@ isCorrecting Phase.Stable = false
 isCorrecting Phase.Failure = false
 isCorrecting Phase.Correcting = true
 
--- a kept reading of bucket p or later has waited out the hold
+-- a reading that tentative work is due for
 unfoldable pub isOverdue : Settings → ℕ → ArrivalTick → Reading → Bool
 isOverdue s p now r = leb p (bucketOf (s .bucket) (r .time)) && isDue (s .hold) (r .arrival) now
 

@@ -8,7 +8,7 @@ use Rattle.record.specs.Kinds.{isResult}
 use Rattle.journal.specs.Kinds.{letterU, letterR}
 use Rattle.store.specs.Lists.{keep}
 
--- a result goes to the end; an undo strikes the results with an id above its own; others do nothing
+-- a result is appended, an undo removes the results numbered above it, other records leave the list alone
 unfoldable pub applyOne : List Record → Record → List Record
 applyOne results r =
     cond (isResult (r .kind)) (results ++ r ∷ [])

@@ -8,7 +8,7 @@ use lib.IntN.{ℤ, pos, negsuc, negℤ}
 unfoldable pub nearest : ℕ → ℕ → ℕ
 nearest a n = cond (eqb n 0) 0 ((2 * a + n) / (2 * n))
 
--- sum divided by count to the nearest whole, a half away from zero; 0 where the count is 0
+-- the whole number nearest to the quotient; of two equally near, the one further from zero; 0 of no values
 unfoldable pub mean : ℤ → ℕ → ℤ
 mean (pos a) count = pos (nearest a count)
 mean (negsuc a) count = negℤ (pos (nearest (suc a) count))
