@@ -11,4 +11,9 @@ pub mod Pieces
 pub mod Undos
 pub mod Refused
 pub mod Runs
+pub mod ShapedTests
+pub mod ShapedWork
+pub mod ShapedLines
+pub mod Shaped
+pub mod ShapedRuns
 pub mod Theorem

@@ -80,22 +80,27 @@ boundary-given s j f =
     ]
 
 -- the rule of a step, by the tests that lead to it
-by-rule :
+pub by-rule :
     (stable ahead correcting due : Bool) (G : Rule → Type 0) →
-    G Rule.withdraw → (stable ≡ true → G Rule.workStable) → G Rule.endCorrection → (due ≡ true → G Rule.workTentative) → G Rule.idle →
+    G Rule.withdraw → (stable ≡ true → ahead ≡ false → G Rule.workStable) → (correcting ≡ true → G Rule.endCorrection) →
+    (due ≡ true → G Rule.workTentative) → G Rule.idle →
     G (firstRule stable ahead correcting due)
 unfolding firstRule
 by-rule true true correcting due G u w r t i = u
-by-rule true false correcting due G u w r t i = w refl
-by-rule false ahead true due G u w r t i = r
+by-rule true false correcting due G u w r t i = w refl refl
+by-rule false ahead true due G u w r t i = r refl
 by-rule false ahead false true G u w r t i = t refl
 by-rule false ahead false false G u w r t i = i
 
-module _ (s : Settings) (n : Node) (fits : NodeFits n) (shape : ShapeFacts s n) where
-  few-readings : (j : ℕ) → length (inBucket (s .bucket) j (keptOf (n .lines))) ≤ maxLines * readingsPerLine
-  few-readings j =
-      omega (arith, length-inBucket readingsPerLine (s .bucket) j (n .lines) (shape .short), shape .count, limits-hold s (shape .limits) .lines)
+-- a bucket's readings are no more than the lines have places
+pub few-readings :
+    (s : Settings) (ls : List Line) → withinLimits s ≡ true → length ls ≡ s .lines →
+    Every (λ (l : Line). length (l .kept) ≤ readingsPerLine) ls →
+    (j : ℕ) → length (inBucket (s .bucket) j (keptOf ls)) ≤ maxLines * readingsPerLine
+few-readings s ls limits count short j =
+    omega (arith, length-inBucket readingsPerLine (s .bucket) j ls short, limits-hold s limits .lines)
 
+module _ (s : Settings) (n : Node) (fits : NodeFits n) (shape : ShapeFacts s n) where
   length-worked : (kind j : ℕ) → length (worked s kind j n .records) ≤ resultsPerBucket
   unfolding worked
   length-worked kind j = length-work s kind j (inBucket (s .bucket) j (keptOf (n .lines))) (n .operator) (fits .operator)
@@ -105,7 +110,7 @@ module _ (s : Settings) (n : Node) (fits : NodeFits n) (shape : ShapeFacts s n) 
   worked-readable kind j byte isKnown start =
       work-readable s kind j (inBucket (s .bucket) j (keptOf (n .lines))) (n .operator) (fits .operator) byte isKnown
       (start-fits (s .bucket) (s .window) j (limits-hold s (shape .limits) .someWindow) start)
-      countLimit (shape .meters) (omega (arith, few-readings j)) (values-fit (s .bucket) j (n .lines) (fits .lines))
+      countLimit (shape .meters) (omega (arith, few-readings s (n .lines) (shape .limits) (shape .count) (shape .short) j)) (values-fit (s .bucket) j (n .lines) (fits .lines))
       (omega (arith, shape .newestNumber, shape .top))
 
   withdraw-given : Given (act s n Rule.withdraw .records)
@@ -149,7 +154,7 @@ module _ (s : Settings) (n : Node) (fits : NodeFits n) (shape : ShapeFacts s n) 
   unfolding ruleOf
   step-given now =
       by-rule (isStable s (n .c) (n .lines)) (ltb (n .c) (n .p)) (isCorrecting (n .phase)) (someOverdue s (n .p) now (n .lines))
-      (λ (rule : Rule). Given (act s n rule .records)) withdraw-given stable-given correction-given (tentative-given now) idle-given
+      (λ (rule : Rule). Given (act s n rule .records)) withdraw-given (λ e _. stable-given e) (λ _. correction-given) (tentative-given now) idle-given
 
   -- ---- the records of a call
 

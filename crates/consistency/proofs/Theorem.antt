@@ -32,6 +32,7 @@ use Rattle.consistency.proofs.Records.{Decodes}
 use Rattle.consistency.proofs.Undos.{every-applied, every-struck, appliedPieces-bytesOf, struckPieces-bytesOf, stablePieces-bytesOf, markDueIn-bytesOf, tentative-bytesOf}
 use Rattle.consistency.proofs.Runs.{Stands, accountIn, eventOf, eventsOf, event-accepted, call-follows, runs}
 use Rattle.consistency.proofs.Refused.{refused}
+use Rattle.consistency.proofs.ShapedRuns.{in-shape}
 
 -- ---- from the opening on
 
@@ -211,4 +212,5 @@ demand3 =
           (after s t (eventsOf (leftAfter (boxOf h) is) js))
           (steps-follow s t (runs s is (start s) (boxOf h) (box-stands h e) .stands) (rw (mirrors h e is .account) at steps)));
       refused = refused;
+      inShape = λ h e is i. (in-shape h e is i _ (omega arith) (omega arith), in-shape h e is i _ (omega arith) (omega arith));
     }

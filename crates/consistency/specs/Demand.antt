@@ -104,3 +104,7 @@ pub record Demand3 : Type 0 where
       (remaining h (is ++ js) ≡ 0) × (markDueIn false (outputOf h (is ++ js)) ≡ false)
   -- and whatever is refused between changes nothing
   pub refused : (b : Box) (i : Input) → (called b i .answer ≡ 0 → ⊥) → Unchanged b i
+  -- 5, beyond the demand: from an opening on no call is refused for a short store or a state out of shape
+  pub inShape :
+      (h : Handed) → isOpened h → (is : List Input) (i : Input) →
+      (called (leftAfter (boxOf h) is) i .answer ≡ 3 → ⊥) × (called (leftAfter (boxOf h) is) i .answer ≡ 4 → ⊥)
