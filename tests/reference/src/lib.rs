@@ -1,6 +1,7 @@
 //! The merge box of document 01 as a plain reference, to compare other implementations with.
 
 pub mod day_book;
+pub mod definitions;
 pub mod generate;
 pub mod node;
 pub mod playback;

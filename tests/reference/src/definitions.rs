@@ -1,0 +1,15 @@
+//! Cases for the definitions written in antt: questions with this reference's answers, each stated
+//! as an equation that the definitions, computed, must meet.
+
+mod columns;
+mod literal;
+mod pick;
+mod question;
+mod statement;
+mod tally;
+mod texts;
+mod value;
+mod write;
+
+pub use tally::Tally;
+pub use write::write_crate;
