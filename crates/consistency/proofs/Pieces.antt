@@ -7,9 +7,8 @@ use lib.Seq.{take-at, drop-at}
 use Rattle.area.specs.Laid.{inFront}
 use Rattle.record.specs.declared.Record.{Record}
 use Rattle.record.specs.Sizes.{recordBytes}
-use Rattle.record.specs.Layout.{bytesOf}
+use Rattle.record.specs.Layout.{bytesOf, allBytes}
 use Rattle.record.proofs.BytesOf.{length-bytesOf}
-use Rattle.node.specs.Calls.{allBytes}
 use Rattle.consistency.specs.Runs.{pieces}
 
 -- whatever stands behind them

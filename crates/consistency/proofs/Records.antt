@@ -17,7 +17,7 @@ use Rattle.journal.specs.Kinds.{letterS, letterT, letterB, letterU, letterR}
 use Rattle.record.specs.declared.Record.{Record}
 use Rattle.record.specs.declared.Decoded.the-variants as Decoded
 use Rattle.record.specs.Kinds.{isRecord, isResult, isStable as isStableKind, isTentative}
-use Rattle.record.specs.Layout.{bytesOf}
+use Rattle.record.specs.Layout.{bytesOf, allBytes}
 use Rattle.record.specs.Decoded.{decoded}
 use Rattle.record.proofs.Decoding.{decoded-bytesOf}
 use Rattle.store.specs.Order.{inBucket}
@@ -27,11 +27,12 @@ use Rattle.operator.specs.Results.{plain}
 use Rattle.protocol.specs.Kinds.{Kind, kindOf}
 use Rattle.protocol.specs.Node.{Line, Node, isStable, keptOf}
 use Rattle.protocol.specs.Rules.{Rule, firstRule, isCorrecting, someOverdue, ruleOf, boundaryAt, worked, act}
-use Rattle.protocol.specs.Refusals.{readingsPerLine, answerTo}
+use Rattle.protocol.specs.Refusals.{answerTo}
+use Rattle.store.specs.Sizes.{readingsPerLine}
 use Rattle.protocol.specs.Calls.{input, done, accepted, outcomeOf}
-use Rattle.node.specs.Sizes.{resultsPerBucket, recordsPerCall, areaBytes, lastBucket, countLimit}
-use Rattle.node.specs.Calls.{allBytes}
-use Rattle.node.proofs.Bytes.{length-allBytes}
+use Rattle.node.specs.Sizes.{resultsPerBucket, recordsPerCall, areaBytes, lastBucket}
+use Rattle.operator.specs.Bounds.{countLimit}
+use Rattle.record.proofs.AllBytes.{length-allBytes}
 use Rattle.node.proofs.Limits.{limits-hold}
 use Rattle.consistency.proofs.Meters.{Counted}
 use Rattle.consistency.proofs.Gathered.{length-inBucket}

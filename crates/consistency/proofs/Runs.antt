@@ -24,7 +24,7 @@ use Rattle.protocol.specs.DayBook.{DayBook, bookCall}
 use Rattle.protocol.specs.FailureFree.{stableAfter}
 use Rattle.protocol.specs.Runs.{Event, Trace, isAccepted, next, after}
 use Rattle.node.specs.declared.State.{State}
-use Rattle.node.specs.Columns.{Columns}
+use Rattle.store.specs.Columns.{Columns}
 use Rattle.node.specs.View.{view}
 use Rattle.node.specs.Shape.{inShape}
 use Rattle.node.specs.Calls.{Called, calledOn}

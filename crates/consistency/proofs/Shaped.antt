@@ -24,7 +24,8 @@ use Rattle.protocol.specs.declared.Phase.the-variants as Phase
 use Rattle.protocol.specs.Kinds.{Kind, kindOf}
 use Rattle.protocol.specs.Node.{Line, Node, noLine, opened, isStable, keptOf}
 use Rattle.protocol.specs.Rules.{Rule, isCorrecting, someOverdue, ruleOf, worked, act}
-use Rattle.protocol.specs.Refusals.{readingsPerLine, answerTo}
+use Rattle.protocol.specs.Refusals.{answerTo}
+use Rattle.store.specs.Sizes.{readingsPerLine}
 use Rattle.protocol.specs.Calls.{input, done, accepted, outcomeOf}
 use Rattle.node.specs.Sizes.{resultsPerBucket, lastBucket}
 use Rattle.node.proofs.Lists.{every-replicate}

@@ -20,7 +20,8 @@ use Rattle.store.proofs.Pairs.{every-to, every-append, every-keep, pairwise-app
 use Rattle.store.proofs.Choices.{cond-either}
 use Rattle.protocol.specs.Kinds.{Kind, kindOf}
 use Rattle.protocol.specs.Node.{Line, Node, noLine, readingOf, onLine}
-use Rattle.protocol.specs.Refusals.{readingsPerLine, lineOf, answerTo}
+use Rattle.protocol.specs.Refusals.{lineOf, answerTo}
+use Rattle.store.specs.Sizes.{readingsPerLine}
 use Rattle.protocol.specs.Rules.{without}
 use Rattle.protocol.proofs.Letters.{kind-S, kind-T}
 use Rattle.protocol.proofs.Acceptance.{ReadingFits, UndoFits, accepts-S, accepts-T, accepts-U}

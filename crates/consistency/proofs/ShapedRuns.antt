@@ -20,10 +20,11 @@ use Rattle.operator.specs.declared.Meter.{Meter}
 use Rattle.operator.specs.declared.Operator.{Operator}
 use Rattle.protocol.specs.Kinds.{kindOf}
 use Rattle.protocol.specs.Node.{Node}
-use Rattle.protocol.specs.Refusals.{readingsPerLine, Test, firstFailed, testsOf, answerTo}
+use Rattle.protocol.specs.Refusals.{Test, firstFailed, testsOf, answerTo}
+use Rattle.store.specs.Sizes.{readingsPerLine}
 use Rattle.node.specs.declared.State.{State}
 use Rattle.node.specs.Sizes.{areaBytes}
-use Rattle.node.specs.Columns.{Columns, storeLength, rows}
+use Rattle.store.specs.Columns.{rows, storeLength, Columns}
 use Rattle.node.specs.View.{places, view}
 use Rattle.node.specs.Shape.{inShape}
 use Rattle.node.specs.Opening.{isShort}

@@ -19,11 +19,13 @@ use Rattle.operator.specs.Meters.{meterCount}
 use Rattle.protocol.specs.declared.Phase.{Phase}
 use Rattle.protocol.specs.declared.Phase.the-variants as Phase
 use Rattle.protocol.specs.Node.{Line}
-use Rattle.protocol.specs.Refusals.{readingsPerLine}
-use Rattle.node.specs.Sizes.{resultsPerBucket, lastBucket, countLimit}
-use Rattle.node.specs.Columns.{Columns}
+use Rattle.store.specs.Sizes.{readingsPerLine}
+use Rattle.node.specs.Sizes.{resultsPerBucket, lastBucket}
+use Rattle.operator.specs.Bounds.{countLimit, sumOk, meterOk}
+use Rattle.store.specs.Columns.{Columns}
+use Rattle.store.specs.Places.{rises, isReadingKind}
 use Rattle.node.specs.View.{view}
-use Rattle.node.specs.Shape.{readingOk, idsRise, headOk, keptOk, phaseOk, bucketsOk, numbersOk, sumOk, meterOk, inShape}
+use Rattle.node.specs.Shape.{readingOk, idsRise, headOk, keptOk, phaseOk, bucketsOk, numbersOk, inShape}
 use Rattle.node.specs.declared.LineHead.{LineHead}
 use Rattle.node.specs.declared.State.{State}
 use Rattle.node.proofs.Shape.{HeadShape, ReadingShape, Rising, KeptShape, PhaseShape, BucketsShape, NumbersShape, MeterShape, InShape}
@@ -56,7 +58,7 @@ head-passes h v =
     both (leb (h .kept) readingsPerLine) (leb (h .«last_stable_id») (h .«last_id»)) (le-leb _ _ (v .kept)) (le-leb _ _ (v .stable))
 
 reading-passes : (r : Reading) → ReadingShape r → readingOk r ≡ true
-unfolding readingOk
+unfolding readingOk isReadingKind
 reading-passes r v =
     both (eqb (r .kind) letterS || eqb (r .kind) letterT) (ltb (r .meter) meterCount)
     (⊎-elim
@@ -66,7 +68,7 @@ reading-passes r v =
     (lt-ltb (r .meter) meterCount (v .meter))
 
 rising-passes : (rs : List Reading) → Rising rs → idsRise rs ≡ true
-unfolding idsRise
+unfolding idsRise rises
 rising-passes [] h = refl
 rising-passes (r ∷ []) h = refl
 rising-passes (r ∷ q ∷ rs) h =

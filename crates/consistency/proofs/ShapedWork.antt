@@ -21,7 +21,7 @@ use Rattle.operator.specs.declared.Operator.{Operator}
 use Rattle.operator.specs.Meters.{meterCount, noMeter, addAll}
 use Rattle.operator.specs.Work.{close, work}
 use Rattle.operator.proofs.Closing.{work-number}
-use Rattle.protocol.specs.Refusals.{readingsPerLine}
+use Rattle.store.specs.Sizes.{readingsPerLine}
 use Rattle.node.specs.Sizes.{resultsPerBucket, lastBucket}
 use Rattle.node.proofs.Lists.{every-replicate}
 use Rattle.consistency.proofs.Meters.{ValueFits, Counted, no-counted, counted-addAll}

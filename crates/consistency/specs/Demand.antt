@@ -14,7 +14,7 @@ use Rattle.protocol.specs.Kinds.{Kind, kindOf}
 use Rattle.protocol.specs.DayBook.{stableBuckets, leftToWork}
 use Rattle.protocol.specs.FailureFree.{failureFree}
 use Rattle.node.specs.declared.State.{State}
-use Rattle.node.specs.Columns.{Columns}
+use Rattle.store.specs.Columns.{Columns}
 use Rattle.node.specs.Opening.{Opened, openedOn}
 use Rattle.node.specs.Calls.{Called}
 use Rattle.consistency.specs.Runs.{Box, Input, called, left, leftAfter, output}

@@ -5,7 +5,7 @@ use mathlib.Core.List.{List, [], _∷_, _++_}
 use lib.ListN.{take, drop}
 use Rattle.record.specs.Sizes.{recordBytes}
 use Rattle.node.specs.declared.State.{State}
-use Rattle.node.specs.Columns.{Columns}
+use Rattle.store.specs.Columns.{Columns}
 use Rattle.node.specs.Calls.{Called, calledOn}
 
 -- what the host keeps between calls

@@ -11,10 +11,11 @@ use Rattle.settings.specs.Limits.{maxLines}
 use Rattle.journal.specs.declared.Call.{Call}
 use Rattle.protocol.specs.Node.{Node}
 use Rattle.protocol.specs.Calls.{outcomeOf}
-use Rattle.node.specs.Columns.{Columns, storeLength}
+use Rattle.store.specs.Columns.{storeLength, Columns}
 use Rattle.node.specs.View.{places, view, putState, putColumns}
 use Rattle.node.specs.Shape.{inShape}
-use Rattle.node.specs.Calls.{Called, allBytes, calledOn}
+use Rattle.node.specs.Calls.{Called, calledOn}
+use Rattle.record.specs.Layout.{allBytes}
 use Rattle.node.specs.declared.LineHead.{LineHead}
 use Rattle.node.specs.declared.State.{State}
 use Rattle.node.proofs.Lists.{every-to}

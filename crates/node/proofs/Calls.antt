@@ -15,14 +15,16 @@ use Rattle.journal.specs.declared.CallRead.the-variants as CallRead
 use Rattle.journal.specs.JournalLine.{lineText, callOf, callAnswer, CallFits}
 use Rattle.journal.proofs.Exact.{exact-call}
 use Rattle.store.specs.Lists.{Every}
-use Rattle.protocol.specs.Refusals.{readingsPerLine, Test, firstFailed, answerTo}
+use Rattle.protocol.specs.Refusals.{Test, firstFailed, answerTo}
+use Rattle.store.specs.Sizes.{readingsPerLine}
 use Rattle.protocol.specs.Calls.{outcomeOf}
 use Rattle.node.specs.Sizes.{areaBytes}
-use Rattle.node.specs.Columns.{Columns, storeLength}
+use Rattle.store.specs.Columns.{storeLength, Columns}
 use Rattle.node.specs.View.{places, view, putState, putColumns}
 use Rattle.node.specs.Shape.{inShape}
 use Rattle.node.specs.Opening.{isShort}
-use Rattle.node.specs.Calls.{Called, hostTests, refusedWith, allBytes, calledWith, calledOn}
+use Rattle.node.specs.Calls.{Called, hostTests, refusedWith, calledWith, calledOn}
+use Rattle.record.specs.Layout.{allBytes}
 use Rattle.node.specs.declared.State.{State}
 use Rattle.node.proofs.Outcomes.{all-passed}
 

@@ -1,7 +1,6 @@
 -- Laws on the node as its caller holds it: columns, view and put, opening, shape, calls.
 pub mod Lists
 pub mod Limits
-pub mod Columns
 pub mod Share
 pub mod Shares
 pub mod View
@@ -10,6 +9,5 @@ pub mod Writes
 pub mod Opening
 pub mod Shape
 pub mod Outcomes
-pub mod Bytes
 pub mod Calls
 pub mod AfterCalls

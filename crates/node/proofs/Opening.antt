@@ -16,15 +16,15 @@ use Rattle.settings.proofs.Exact.{exact-settings}
 use Rattle.store.specs.declared.Reading.{Reading}
 use Rattle.store.specs.Lists.{Every}
 use Rattle.protocol.specs.Node.{Line, noLine, opened}
-use Rattle.protocol.specs.Refusals.{readingsPerLine}
-use Rattle.node.specs.Columns.{Columns, storeLength, rows, withRows}
-use Rattle.node.specs.View.{viewLine, viewLines, places, view, zeroed, headOf}
+use Rattle.store.specs.Sizes.{readingsPerLine}
+use Rattle.store.specs.Columns.{withRows, rows, storeLength, Columns, zeroed}
+use Rattle.node.specs.View.{viewLine, viewLines, places, view, headOf}
 use Rattle.node.specs.Opening.{Opened, isShort, freshState, openedWith, openedOn}
 use Rattle.node.specs.declared.LineHead.{LineHead}
 use Rattle.node.specs.declared.State.{State}
 use Rattle.node.proofs.Lists.{every-replicate}
 use Rattle.node.proofs.Limits.{Limits, limits-hold}
-use Rattle.node.proofs.Columns.{storeLength-withRows}
+use Rattle.store.proofs.Columns.{storeLength-withRows}
 use Rattle.node.proofs.Shares.{SmallHead}
 use Rattle.node.proofs.View.{Fits}
 

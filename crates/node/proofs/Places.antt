@@ -10,12 +10,12 @@ use lib.Seq.{getD-append-add, getD-take, getD-drop, drop-drop}
 use Rattle.store.specs.declared.Reading.{Reading}
 use Rattle.store.specs.Lists.{Every}
 use Rattle.protocol.specs.Node.{Line, Node, noLine}
-use Rattle.protocol.specs.Refusals.{readingsPerLine}
-use Rattle.node.specs.Columns.{Columns, rowAt, rows, withRows}
-use Rattle.node.specs.View.{places, zeroed, headOf, shareWith, headsWith, sharesWith, putState, putColumns}
+use Rattle.store.specs.Sizes.{readingsPerLine}
+use Rattle.store.specs.Columns.{withRows, rows, rowAt, Columns, zeroed}
+use Rattle.node.specs.View.{places, headOf, shareWith, headsWith, sharesWith, putState, putColumns}
 use Rattle.node.specs.declared.LineHead.{LineHead}
 use Rattle.node.specs.declared.State.{State}
-use Rattle.node.proofs.Columns.{row-at, row-laid, Behind, withRows-behind}
+use Rattle.store.proofs.Columns.{withRows-behind, Behind, row-laid, row-at}
 use Rattle.node.proofs.Share.{share-kept, share-given-up, share-untouched}
 use Rattle.node.proofs.Shares.{SmallLine, Shares, shares-behind, length-first, headsWith-behind}
 use Rattle.node.proofs.View.{Fits, Sized, shares, length-laid}

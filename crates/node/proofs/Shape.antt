@@ -20,11 +20,13 @@ use Rattle.operator.specs.Meters.{meterCount}
 use Rattle.protocol.specs.declared.Phase.{Phase}
 use Rattle.protocol.specs.declared.Phase.the-variants as Phase
 use Rattle.protocol.specs.Node.{Line}
-use Rattle.protocol.specs.Refusals.{readingsPerLine}
-use Rattle.node.specs.Sizes.{resultsPerBucket, lastBucket, countLimit}
-use Rattle.node.specs.Columns.{Columns}
+use Rattle.store.specs.Sizes.{readingsPerLine}
+use Rattle.node.specs.Sizes.{resultsPerBucket, lastBucket}
+use Rattle.operator.specs.Bounds.{countLimit, sumOk, meterOk}
+use Rattle.store.specs.Places.{rises, isReadingKind}
+use Rattle.store.specs.Columns.{Columns}
 use Rattle.node.specs.View.{view}
-use Rattle.node.specs.Shape.{readingOk, idsRise, headOk, keptOk, phaseOk, bucketsOk, numbersOk, sumOk, meterOk, inShape}
+use Rattle.node.specs.Shape.{readingOk, idsRise, headOk, keptOk, phaseOk, bucketsOk, numbersOk, inShape}
 use Rattle.node.specs.declared.LineHead.{LineHead}
 use Rattle.node.specs.declared.State.{State}
 use Rattle.node.proofs.Lists.{and-left, and-right, every-to, every-passes}
@@ -53,7 +55,7 @@ pub record ReadingShape (r : Reading) : Type 0 where
   pub meter : r .meter < meterCount
 
 reading-shape : (r : Reading) → readingOk r ≡ true → ReadingShape r
-unfolding readingOk
+unfolding readingOk isReadingKind
 reading-shape r e =
     let a : Bool = eqb (r .kind) letterS || eqb (r .kind) letterT in
     let b : Bool = ltb (r .meter) meterCount in
@@ -71,7 +73,7 @@ Rising (r ∷ []) = Unit {0}
 Rising (r ∷ q ∷ rs) = (r .id < q .id) × Rising (q ∷ rs)
 
 pub ids-rise : (rs : List Reading) → idsRise rs ≡ true → Rising rs
-unfolding idsRise
+unfolding idsRise rises
 ids-rise [] e = tt
 ids-rise (r ∷ []) e = tt
 ids-rise (r ∷ q ∷ rs) e =

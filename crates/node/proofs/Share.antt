@@ -8,7 +8,8 @@ use lib.ListN.{length, getD, take, drop, replicate, length-append, length-replic
 use lib.Seq.{take-append-seam, length-take-le, getD-append-add, getD-drop}
 use Rattle.store.specs.declared.Reading.{Reading}
 use Rattle.protocol.specs.Node.{Line}
-use Rattle.node.specs.View.{viewLine, zeroed, headOf, shareWith}
+use Rattle.node.specs.View.{viewLine, headOf, shareWith}
+use Rattle.store.specs.Columns.{zeroed}
 use Rattle.node.specs.declared.LineHead.{LineHead}
 
 -- ---- place by place

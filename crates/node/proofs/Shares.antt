@@ -9,7 +9,7 @@ use lib.Seq.{take-at, drop-at, length-take-le, drop-drop}
 use Rattle.store.specs.declared.Reading.{Reading}
 use Rattle.store.specs.Lists.{Every}
 use Rattle.protocol.specs.Node.{Line, noLine}
-use Rattle.protocol.specs.Refusals.{readingsPerLine}
+use Rattle.store.specs.Sizes.{readingsPerLine}
 use Rattle.node.specs.View.{viewLine, viewLines, headOf, headsWith, shareWith, sharesWith}
 use Rattle.node.specs.declared.LineHead.{LineHead}
 use Rattle.node.proofs.Share.{length-share, line-put, share-same, head-same}

@@ -8,12 +8,12 @@ use lib.ListN.{length, take}
 use Rattle.settings.specs.declared.Settings.{Settings}
 use Rattle.store.specs.Lists.{Every}
 use Rattle.protocol.specs.Node.{Line, Node}
-use Rattle.protocol.specs.Refusals.{readingsPerLine}
-use Rattle.node.specs.Columns.{Columns, storeLength, rows, withRows}
+use Rattle.store.specs.Sizes.{readingsPerLine}
+use Rattle.store.specs.Columns.{withRows, rows, storeLength, Columns}
 use Rattle.node.specs.View.{viewLines, places, view, headsWith, sharesWith, putState, putColumns}
 use Rattle.node.specs.declared.LineHead.{LineHead}
 use Rattle.node.specs.declared.State.{State}
-use Rattle.node.proofs.Columns.{length-rows, rows-withRows, storeLength-withRows, withRows-rows}
+use Rattle.store.proofs.Columns.{withRows-rows, rows-withRows, storeLength-withRows, length-rows}
 use Rattle.node.proofs.Shares.{
   SmallLine,
   SmallHead,

@@ -13,13 +13,13 @@ use Rattle.store.specs.declared.Reading.{Reading}
 use Rattle.store.specs.Lists.{modify}
 use Rattle.protocol.specs.Kinds.{Kind}
 use Rattle.protocol.specs.Node.{Line, Node, noLine, keptOf, readingOf, onLine}
-use Rattle.protocol.specs.Refusals.{readingsPerLine}
+use Rattle.store.specs.Sizes.{readingsPerLine}
 use Rattle.protocol.specs.Calls.{input}
-use Rattle.node.specs.Columns.{Columns, storeLength, rowAt, rows, withRows}
+use Rattle.store.specs.Columns.{withRows, rows, rowAt, storeLength, Columns}
 use Rattle.node.specs.View.{viewLine, viewLines, places, view, headOf, shareWith, sharesWith, putColumns}
 use Rattle.node.specs.declared.LineHead.{LineHead}
 use Rattle.node.specs.declared.State.{State}
-use Rattle.node.proofs.Columns.{Room, room, length-rows, column-back}
+use Rattle.store.proofs.Columns.{column-back, length-rows, room, Room}
 use Rattle.node.proofs.Share.{share-same}
 use Rattle.node.proofs.Shares.{Shares, shares-behind, first-share, shares-same}
 use Rattle.node.proofs.View.{Fits, shares, putColumns-view}

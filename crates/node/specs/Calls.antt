@@ -10,13 +10,12 @@ use Rattle.journal.specs.declared.Call.{Call}
 use Rattle.journal.specs.declared.CallRead.{CallRead}
 use Rattle.journal.specs.declared.CallRead.the-variants as CallRead
 use Rattle.journal.specs.JournalLine.{callOf, callAnswer}
-use Rattle.record.specs.declared.Record.{Record}
-use Rattle.record.specs.Layout.{bytesOf}
+use Rattle.record.specs.Layout.{allBytes}
 use Rattle.protocol.specs.Rules.{Outcome}
 use Rattle.protocol.specs.Refusals.{Test, firstFailed, answerTo}
 use Rattle.protocol.specs.Calls.{outcomeOf}
 use Rattle.node.specs.Sizes.{areaBytes}
-use Rattle.node.specs.Columns.{Columns}
+use Rattle.store.specs.Columns.{Columns}
 use Rattle.node.specs.View.{view, putState, putColumns}
 use Rattle.node.specs.Shape.{inShape}
 use Rattle.node.specs.Opening.{isShort}
@@ -40,11 +39,6 @@ hostTests st x area =
 -- a refused call changes nothing and gives no record
 unfoldable pub refusedWith : ℕ → State → Columns → List ℕ → Called
 refusedWith n st x area = record { answer = n; records = 0; state = st; columns = x; area = area }
-
--- the bytes of records, one behind the other
-unfoldable pub allBytes : List Record → List ℕ
-allBytes [] = []
-allBytes (r ∷ rs) = bytesOf r ++ allBytes rs
 
 -- a journal call that the host's tests let through: refusals 7 to 14, or its outcome laid down
 unfoldable pub calledWith : State → Columns → List ℕ → CallRead → Called

@@ -1,6 +1,5 @@
 -- The node on what is really handed over: state, columns, text and area.
 pub mod Sizes
-pub mod Columns
 pub mod View
 pub mod Shape
 pub mod Opening

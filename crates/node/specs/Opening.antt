@@ -10,9 +10,9 @@ use Rattle.settings.specs.declared.SettingsRead.the-variants as SettingsRead
 use Rattle.settings.specs.Limits.{maxLines}
 use Rattle.settings.specs.SettingsLine.{settingsOf, settingsAnswer}
 use Rattle.protocol.specs.Node.{Node, opened, noLine}
-use Rattle.protocol.specs.Refusals.{readingsPerLine}
-use Rattle.node.specs.Columns.{Columns, storeLength, withRows}
-use Rattle.node.specs.View.{headOf, zeroed}
+use Rattle.store.specs.Sizes.{readingsPerLine}
+use Rattle.store.specs.Columns.{withRows, storeLength, Columns, zeroed}
+use Rattle.node.specs.View.{headOf}
 use Rattle.node.specs.declared.State.{State}
 
 -- what an opening answers and leaves

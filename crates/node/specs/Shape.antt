@@ -1,36 +1,32 @@
 -- A state and a store in shape (document 01, section 'Refusal by whom', refusal 4). Only lines 1 to `lines` are looked at. Assumes nothing.
-use Prim.Native.Nat.{ℕ, suc, _*_, _-_, _^_}
-use mathlib.Core.Bool.{Bool, true, false, cond, not, _&&_, _||_}
-use mathlib.Core.List.{List, [], _∷_}
+use Prim.Native.Nat.{ℕ, _*_}
+use mathlib.Core.Bool.{Bool, true, cond, _&&_}
+use mathlib.Core.List.{List, map}
 use lib.Dec.{leb, ltb, eqb}
-use lib.IntN.{ℤ, pos, negsuc}
-use lib.ListN.{length, take}
+use lib.ListN.{take}
 use Rattle.settings.specs.Limits.{withinLimits}
-use Rattle.journal.specs.Kinds.{letterS, letterT}
 use Rattle.store.specs.declared.Reading.{Reading}
+use Rattle.store.specs.Sizes.{readingsPerLine}
 use Rattle.store.specs.Lists.{allOf}
-use Rattle.operator.specs.declared.Meter.{Meter}
-use Rattle.operator.specs.declared.Operator.{Operator}
+use Rattle.store.specs.Columns.{Columns}
+use Rattle.store.specs.Places.{rises, isReadingKind}
 use Rattle.operator.specs.Meters.{meterCount}
+use Rattle.operator.specs.Bounds.{meterOk}
 use Rattle.protocol.specs.declared.Phase.{Phase}
 use Rattle.protocol.specs.declared.Phase.the-variants as Phase
 use Rattle.protocol.specs.Node.{Line}
-use Rattle.protocol.specs.Refusals.{readingsPerLine}
-use Rattle.node.specs.Sizes.{resultsPerBucket, lastBucket, countLimit}
-use Rattle.node.specs.Columns.{Columns}
+use Rattle.node.specs.Sizes.{resultsPerBucket, lastBucket}
 use Rattle.node.specs.View.{view}
 use Rattle.node.specs.declared.LineHead.{LineHead}
 use Rattle.node.specs.declared.State.{State}
 
 -- a kept reading: S or T, its meter not past the last one
 unfoldable pub readingOk : Reading → Bool
-readingOk r = (eqb (r .kind) letterS || eqb (r .kind) letterT) && ltb (r .meter) meterCount
+readingOk r = isReadingKind (r .kind) && ltb (r .meter) meterCount
 
 -- each id above the one before it
 unfoldable pub idsRise : List Reading → Bool
-idsRise [] = true
-idsRise (r ∷ []) = true
-idsRise (r ∷ q ∷ rs) = ltb (r .id) (q .id) && idsRise (q ∷ rs)
+idsRise rs = rises (map (λ (r : Reading). r .id) rs)
 
 unfoldable pub headOk : LineHead → Bool
 headOk h = leb (h .kept) readingsPerLine && leb (h .«last_stable_id») (h .«last_id»)
@@ -54,14 +50,6 @@ numbersOk st =
     (leb (st .operator .number) (resultsPerBucket * st .p) &&
     (leb (st .checkpoint .number) (st .operator .number) &&
     cond (eqb (st .p) (st .c)) (leb (st .operator .number) (st .checkpoint .number)) true))
-
--- a sum that so many values can have
-unfoldable pub sumOk : ℤ → ℕ → Bool
-sumOk (pos a) count = leb a ((2 ^ 31 - 1) * count)
-sumOk (negsuc a) count = leb (suc a) (2 ^ 31 * count)
-
-unfoldable pub meterOk : Meter → Bool
-meterOk m = leb (m .count) countLimit && sumOk (m .sum) (m .count)
 
 unfoldable pub inShape : State → Columns → Bool
 inShape st x =

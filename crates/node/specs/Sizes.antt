@@ -1,8 +1,6 @@
 -- Sizes of the node. Assumes nothing.
 use Prim.Native.Nat.{ℕ, _+_, _*_}
 use Rattle.record.specs.Sizes.{recordBytes}
-use Rattle.settings.specs.Limits.{maxLines}
-use Rattle.protocol.specs.Refusals.{readingsPerLine}
 
 -- results that one bucket can give, and records that one call can
 abbrev pub resultsPerBucket : ℕ
@@ -18,7 +16,3 @@ areaBytes = recordsPerCall * recordBytes
 -- the last bucket that c and p may name
 abbrev pub lastBucket : ℕ
 lastBucket = 42_949_673
-
--- the largest count of a meter
-abbrev pub countLimit : ℕ
-countLimit = 32_768

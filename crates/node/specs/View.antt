@@ -1,12 +1,11 @@
 -- What a state and a store stand for, and a node laid into them again (document 01, section 'Store and output area'). Assumes nothing.
 use Prim.Native.Nat.{ℕ, zero, suc, _*_, _-_, max}
 use mathlib.Core.List.{List, [], _∷_, _++_}
-use lib.IntN.{pos}
 use lib.ListN.{length, take, drop, replicate}
 use Rattle.store.specs.declared.Reading.{Reading}
 use Rattle.protocol.specs.Node.{Line, Node}
-use Rattle.protocol.specs.Refusals.{readingsPerLine}
-use Rattle.node.specs.Columns.{Columns, rows, withRows}
+use Rattle.store.specs.Sizes.{readingsPerLine}
+use Rattle.store.specs.Columns.{Columns, rows, withRows, zeroed}
 use Rattle.node.specs.declared.LineHead.{LineHead}
 use Rattle.node.specs.declared.State.{State}
 
@@ -45,17 +44,6 @@ view st x =
     }
 
 -- ---- a node laid into them
-
-unfoldable pub zeroed : Reading
-zeroed =
-    record {
-      id = 0;
-      time = record { 0 = 0 };
-      value = pos 0;
-      arrival = record { 0 = 0 };
-      kind = 0;
-      meter = 0;
-    }
 
 unfoldable pub headOf : Line → LineHead
 headOf l =

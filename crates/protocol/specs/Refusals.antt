@@ -7,13 +7,10 @@ use lib.IntN.{ℤ, pos, negsuc}
 use lib.ListN.{length, getD}
 use Rattle.settings.specs.declared.Settings.{Settings}
 use Rattle.journal.specs.declared.Call.{Call}
+use Rattle.store.specs.Sizes.{readingsPerLine}
 use Rattle.operator.specs.Meters.{meterCount}
 use Rattle.protocol.specs.Kinds.{Kind, kindOf}
 use Rattle.protocol.specs.Node.{Line, Node, noLine, keepsTentative}
-
--- places for kept readings in a line's share of the store
-abbrev pub readingsPerLine : ℕ
-readingsPerLine = 256
 
 -- a test that a call may fail, and document 01's number of that refusal
 pub record Test : Type 0 where

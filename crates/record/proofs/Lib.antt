@@ -2,3 +2,4 @@
 pub mod BytesOf
 pub mod Decoding
 pub mod Stores
+pub mod AllBytes

@@ -15,3 +15,8 @@ bytesOf r =
     littleEndian 8 (twos 64 (r .sum)) ++
     littleEndian 4 (twos 32 (r .mean)) ++
     littleEndian 4 (twos 32 (r .last))
+
+-- the bytes of records, one behind the other
+unfoldable pub allBytes : List Record → List ℕ
+allBytes [] = []
+allBytes (r ∷ rs) = bytesOf r ++ allBytes rs

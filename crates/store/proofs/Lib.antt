@@ -10,3 +10,4 @@ pub mod Gathering
 pub mod Apart
 pub mod Bucket
 pub mod Maps
+pub mod Columns

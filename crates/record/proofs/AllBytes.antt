@@ -4,11 +4,11 @@ use mathlib.Core.Path.{_≡_, refl, sym, _∙_, ap}
 use mathlib.Core.List.{List, [], _∷_, _++_, append-assoc}
 use native.Mathlib.Omega.{arith}
 use lib.ListN.{length, length-append}
 use Rattle.record.specs.declared.Record.{Record}
 use Rattle.record.specs.Sizes.{recordBytes}
 use Rattle.record.specs.Layout.{bytesOf}
 use Rattle.record.proofs.BytesOf.{length-bytesOf}
-use Rattle.node.specs.Calls.{allBytes}
+use Rattle.record.specs.Layout.{allBytes}
 
 pub length-allBytes : (rs : List Record) → length (allBytes rs) ≡ recordBytes * length rs
 unfolding allBytes

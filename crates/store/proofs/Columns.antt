@@ -8,9 +8,8 @@ use native.Mathlib.Nat.{zero-add, add-zero}
 use lib.IntN.{pos}
 use lib.ListN.{length, getD, drop, length-append, length-drop, length-map}
 use lib.Seq.{ext-getD, getD-append-add, getD-drop, drop-cons, drop-at}
 use Rattle.store.specs.declared.Reading.{Reading}
-use Rattle.node.specs.Columns.{Columns, storeLength, rowAt, rowsFrom, rows, withRows}
-use Rattle.node.specs.View.{zeroed}
+use Rattle.store.specs.Columns.{withRows, rows, rowsFrom, rowAt, storeLength, Columns, zeroed}
 
 -- ---- how long
 

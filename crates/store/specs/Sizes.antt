@@ -1,0 +1,6 @@
+-- The size of a line's share. Assumes nothing.
+use Prim.Native.Nat.{ℕ}
+
+-- places for kept readings in a line's share of the store
+abbrev pub readingsPerLine : ℕ
+readingsPerLine = 256
