@@ -23,7 +23,7 @@ use Rattle.protocol.specs.Node.{Line}
 use Rattle.store.specs.Sizes.{readingsPerLine}
 use Rattle.node.specs.Sizes.{resultsPerBucket, lastBucket}
 use Rattle.operator.specs.Bounds.{countLimit, sumOk, meterOk}
-use Rattle.store.specs.Places.{rises, isReadingKind}
+use Rattle.columns.specs.Places.{rises, isReadingKind}
 use Rattle.store.specs.Columns.{Columns}
 use Rattle.node.specs.View.{view}
 use Rattle.node.specs.Shape.{readingOk, idsRise, headOk, keptOk, phaseOk, bucketsOk, numbersOk, inShape}

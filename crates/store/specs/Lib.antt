@@ -4,4 +4,3 @@ pub mod Lists
 pub mod Order
 pub mod Sorted
 pub mod Columns
-pub mod Places

@@ -1,0 +1,1 @@
+// Single columns of the store.
