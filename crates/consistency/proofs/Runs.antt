@@ -34,8 +34,8 @@ use Rattle.node.proofs.Calls.{AcceptedOn, refused-call, accepted-call}
 use Rattle.node.proofs.AfterCalls.{accepted-records, accepted-area, accepted-view, accepted-fits, accepted-settings}
 use Rattle.consistency.specs.Runs.{Box, Input, called, left, leftAfter, pieces, output}
 use Rattle.consistency.specs.Accounts.{Account, accountWith, accountNext, accountAfter}
-use Rattle.consistency.proofs.Fits.{NodeFits, outcome-fits}
-use Rattle.consistency.proofs.Records.{ShapeFacts, Decodes, outcome-given, readable-decodes}
+use Rattle.node.proofs.Fits.{NodeFits, outcome-fits}
+use Rattle.node.proofs.Records.{ShapeFacts, Decodes, outcome-given, readable-decodes}
 use Rattle.consistency.proofs.Pieces.{pieces-inFront}
 
 -- ---- a box and a trace

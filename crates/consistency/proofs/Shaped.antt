@@ -32,10 +32,10 @@ use Rattle.node.proofs.Lists.{every-replicate}
 use Rattle.node.proofs.Limits.{Limits, limits-hold}
 use Rattle.node.proofs.Shape.{PhaseShape}
 use Rattle.node.proofs.Outcomes.{outcome-lines, outcome-kept}
-use Rattle.consistency.proofs.Meters.{Counted, no-counted}
-use Rattle.consistency.proofs.Fits.{NodeFits, opened-fits, values-fit, outcome-fits}
-use Rattle.consistency.proofs.Times.{stable-end-fits, due-start-fits}
-use Rattle.consistency.proofs.Records.{by-rule, few-readings}
+use Rattle.operator.proofs.Meters.{Counted, no-counted}
+use Rattle.node.proofs.Fits.{NodeFits, opened-fits, values-fit, outcome-fits}
+use Rattle.node.proofs.Times.{stable-end-fits, due-start-fits}
+use Rattle.node.proofs.Records.{by-rule, few-readings}
 use Rattle.consistency.proofs.ShapedLines.{LineShaped, noLine-shaped, lines-shaped, all-without-shaped}
 use Rattle.consistency.proofs.ShapedWork.{CountedAt, work-counted, work-few, work-onwards, stable-top, tentative-top}
 

@@ -37,7 +37,7 @@ use Rattle.node.proofs.AfterCalls.{accepted-view, accepted-settings, called-fit
 use Rattle.node.proofs.Opening as opening
 use Rattle.consistency.specs.Runs.{Box, Input, called, left, leftAfter}
 use Rattle.consistency.specs.Demand.{Handed, opening as openingOf, isOpened, boxOf}
-use Rattle.consistency.proofs.Meters.{Counted}
+use Rattle.operator.proofs.Meters.{Counted}
 use Rattle.consistency.proofs.ShapedTests.{facts-inShape}
 use Rattle.consistency.proofs.ShapedLines.{kept-shape, heads-shape}
 use Rattle.consistency.proofs.ShapedWork.{CountedAt, readingsPerBucket}

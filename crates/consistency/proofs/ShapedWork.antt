@@ -24,9 +24,9 @@ use Rattle.operator.proofs.Closing.{work-number}
 use Rattle.store.specs.Sizes.{readingsPerLine}
 use Rattle.node.specs.Sizes.{resultsPerBucket, lastBucket}
 use Rattle.node.proofs.Lists.{every-replicate}
-use Rattle.consistency.proofs.Meters.{ValueFits, Counted, no-counted, counted-addAll}
-use Rattle.consistency.proofs.Fits.{OperatorFits}
-use Rattle.consistency.proofs.Results.{length-work}
+use Rattle.operator.proofs.Meters.{ValueFits, Counted, no-counted, counted-addAll}
+use Rattle.node.proofs.Fits.{OperatorFits}
+use Rattle.node.proofs.Results.{length-work}
 
 -- readings that one bucket can have
 abbrev pub readingsPerBucket : ℕ

@@ -26,9 +26,9 @@ use Rattle.consistency.specs.Runs.{Box, Input, called, left, leftAfter}
 use Rattle.consistency.specs.Undos.{pieceKind, appliedPieces, struckPieces, stablePieces, markDueIn}
 use Rattle.consistency.specs.Accounts.{Account, emptyAccount, sentIn, boundariesIn}
 use Rattle.consistency.specs.Demand.{Handed, opening as openingOf, isOpened, boxOf, settingsIn, accountOf, outputOf, failureFreeBytes, remaining, Clean, Steps, Demand3}
-use Rattle.consistency.proofs.Lists.{every-right}
-use Rattle.consistency.proofs.Fits.{opened-fits}
-use Rattle.consistency.proofs.Records.{Decodes}
+use Rattle.store.proofs.Pairs.{every-right}
+use Rattle.node.proofs.Fits.{opened-fits}
+use Rattle.node.proofs.Records.{Decodes}
 use Rattle.consistency.proofs.Undos.{every-applied, every-struck, appliedPieces-bytesOf, struckPieces-bytesOf, stablePieces-bytesOf, markDueIn-bytesOf, tentative-bytesOf}
 use Rattle.consistency.proofs.Runs.{Stands, accountIn, eventOf, eventsOf, event-accepted, call-follows, runs}
 use Rattle.consistency.proofs.Refused.{refused}

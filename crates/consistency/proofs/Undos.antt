@@ -15,7 +15,7 @@ use Rattle.protocol.specs.Undos.{applyOne, applied, struckByOne, struck, markDu
 use Rattle.protocol.specs.Demand.{stableRecords}
 use Rattle.protocol.proofs.Lists.{keep-same, keep-map}
 use Rattle.consistency.specs.Undos.{kindIn, idIn, pieceKind, pieceId, applyPiece, appliedPieces, struckPieces, stablePieces, markDueIn}
-use Rattle.consistency.proofs.Records.{Decodes}
+use Rattle.node.proofs.Records.{Decodes}
 
 pub pieceKind-bytesOf : (r : Record) → Decodes r → pieceKind (bytesOf r) ≡ r .kind
 unfolding pieceKind kindIn

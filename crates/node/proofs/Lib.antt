@@ -11,3 +11,8 @@ pub mod Shape
 pub mod Outcomes
 pub mod Calls
 pub mod AfterCalls
+pub mod Gathered
+pub mod Fits
+pub mod Times
+pub mod Results
+pub mod Records

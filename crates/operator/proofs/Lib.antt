@@ -7,3 +7,5 @@ pub mod Results
 pub mod Numbers
 pub mod Gives
 pub mod Closing
+pub mod Sums
+pub mod Meters

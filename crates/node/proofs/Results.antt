@@ -21,10 +21,10 @@ use Rattle.operator.specs.declared.Operator.{Operator}
 use Rattle.operator.specs.Meters.{meterCount, addAll}
 use Rattle.operator.specs.Results.{hasResult, result, results, plain}
 use Rattle.operator.specs.Work.{windowResults, close, work}
-use Rattle.consistency.proofs.Lists.{every-both}
-use Rattle.consistency.proofs.Sums.{range-fits}
-use Rattle.consistency.proofs.Meters.{LastFits, ValueFits, Counted, length-addAll, number-addAll, lasts-addAll, counted-addAll}
-use Rattle.consistency.proofs.Fits.{OperatorFits}
+use Rattle.store.proofs.Pairs.{every-both}
+use Rattle.operator.proofs.Sums.{range-fits}
+use Rattle.operator.proofs.Meters.{LastFits, ValueFits, Counted, length-addAll, number-addAll, lasts-addAll, counted-addAll}
+use Rattle.node.proofs.Fits.{OperatorFits}
 
 -- a record whose bytes are read back
 abbrev pub Readable : Record → Type 0

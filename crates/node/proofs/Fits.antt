@@ -27,9 +27,9 @@ use Rattle.protocol.specs.Node.{Line, Node, noLine, opened, keptOf, readingOf, 
 use Rattle.protocol.specs.Rules.{Rule, Outcome, ruleOf, without, worked, act}
 use Rattle.protocol.specs.Refusals.{answerTo}
 use Rattle.protocol.specs.Calls.{input, done, accepted, outcomeOf}
 use Rattle.node.proofs.Lists.{every-replicate, every-modify}
-use Rattle.consistency.proofs.Meters.{LastFits, ValueFits, no-last, length-addAll, lasts-addAll}
-use Rattle.consistency.proofs.Gathered.{every-inBucket}
+use Rattle.operator.proofs.Meters.{LastFits, ValueFits, no-last, length-addAll, lasts-addAll}
+use Rattle.node.proofs.Gathered.{every-inBucket}
 
 -- ---- within the widths
 

@@ -16,11 +16,11 @@ use Rattle.store.specs.declared.Reading.{Reading}
 use Rattle.store.specs.Order.{Placed}
 use Rattle.store.proofs.Pairs.{every-to}
 use Rattle.store.specs.Lists.{Every}
 use Rattle.operator.specs.declared.Meter.{Meter}
 use Rattle.operator.specs.declared.Operator.{Operator}
 use Rattle.operator.specs.Meters.{noMeter, withValue, isCounted, add, addAll}
-use Rattle.consistency.proofs.Lists.{every-set, every-at}
-use Rattle.consistency.proofs.Sums.{add-range}
+use Rattle.store.proofs.Pairs.{every-set, every-at}
+use Rattle.operator.proofs.Sums.{add-range}
 
 -- a reading's value fits 32 bits
 abbrev pub ValueFits : Placed → Type 0

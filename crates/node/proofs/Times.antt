@@ -20,7 +20,7 @@ use Rattle.store.specs.Lists.{Every, someOf, allOf}
 use Rattle.store.proofs.Choices.{and-parts}
 use Rattle.protocol.specs.Node.{Line, isStable}
 use Rattle.protocol.specs.Rules.{isOverdue, someOverdue}
-use Rattle.consistency.proofs.Fits.{ReadingFits, LineFits}
+use Rattle.node.proofs.Fits.{ReadingFits, LineFits}
 
 -- what some element gives, where it passes the test
 some-test :

@@ -30,15 +30,15 @@ use Rattle.protocol.specs.Rules.{Rule, firstRule, isCorrecting, someOverdue, ru
 use Rattle.protocol.specs.Refusals.{answerTo}
 use Rattle.store.specs.Sizes.{readingsPerLine}
 use Rattle.protocol.specs.Calls.{input, done, accepted, outcomeOf}
 use Rattle.node.specs.Sizes.{resultsPerBucket, recordsPerCall, areaBytes, lastBucket}
 use Rattle.operator.specs.Bounds.{countLimit}
 use Rattle.record.proofs.AllBytes.{length-allBytes}
 use Rattle.node.proofs.Limits.{limits-hold}
-use Rattle.consistency.proofs.Meters.{Counted}
-use Rattle.consistency.proofs.Gathered.{length-inBucket}
-use Rattle.consistency.proofs.Fits.{NodeFits, values-fit}
-use Rattle.consistency.proofs.Times.{start-fits, stable-end-fits, stable-start-fits, due-start-fits}
-use Rattle.consistency.proofs.Results.{Readable, plain-readable, length-work, work-readable}
+use Rattle.operator.proofs.Meters.{Counted}
+use Rattle.node.proofs.Gathered.{length-inBucket}
+use Rattle.node.proofs.Fits.{NodeFits, values-fit}
+use Rattle.node.proofs.Times.{start-fits, stable-end-fits, stable-start-fits, due-start-fits}
+use Rattle.node.proofs.Results.{Readable, plain-readable, length-work, work-readable}
 
 -- what refusal 4 leaves of a node, as far as its records need it
 pub record ShapeFacts (s : Settings) (n : Node) : Type 0 where
