@@ -2,4 +2,5 @@
 pub mod Meters
 pub mod Results
 pub mod Work
+pub mod Pass
 pub mod Bounds

@@ -3,6 +3,9 @@
 // How many meters there are.
 pub const METERS: usize = 64;
 
+// The largest count of a meter.
+pub const COUNT_LIMIT: u32 = 32_768;
+
 pub struct Meter {
     pub sum: i64,
     pub count: u32,
@@ -13,4 +16,10 @@ pub struct Meter {
 pub struct Operator {
     pub meters: [Meter; 64],
     pub number: u64,
+}
+
+// The next meter with a result.
+pub enum NextResult {
+    At(usize),
+    Nothing,
 }

@@ -2,7 +2,7 @@
 -- Assumes nothing.
 use Prim.Native.Nat.{_<_}
 use mathlib.Core.Path.{_≡_}
-use mathlib.Core.Bool.{Bool, false, _&&_}
+use mathlib.Core.Bool.{Bool, true, false, _&&_}
 use mathlib.Core.List.{List, [], _∷_}
 use lib.Dec.{eqb}
 use Rattle.store.specs.declared.Reading.{Reading}
@@ -28,6 +28,10 @@ isLevel a b =
 -- any two readings differ in time, line or id
 abbrev pub Distinct : List Placed → Type 0
 Distinct = Pairwise (λ (a b : Placed). isLevel a b ≡ false)
+
+-- of two readings of equal time the earlier one in the list goes before the later one
+abbrev pub TiesInOrder : List Placed → Type 0
+TiesInOrder = Pairwise (λ (a b : Placed). a .reading .time .0 ≡ b .reading .time .0 → before a b ≡ true)
 
 -- ids rise, as they do among the readings of one line
 abbrev pub Rising : List Reading → Type 0
