@@ -23,7 +23,9 @@ use Rattle.protocol.specs.declared.Phase.{Phase}
 use Rattle.protocol.specs.declared.Phase.the-variants as Phase
 use Rattle.protocol.specs.Kinds.{Kind, kindOf}
 use Rattle.protocol.specs.Node.{Line, Node, noLine, opened, isStable, keptOf}
-use Rattle.protocol.specs.Rules.{Rule, isCorrecting, someOverdue, ruleOf, worked, act}
+use Rattle.protocol.specs.declared.Rule.{Rule}
+use Rattle.protocol.specs.declared.Rule.the-variants as Rule
+use Rattle.protocol.specs.Rules.{isCorrecting, someOverdue, ruleOf, worked, act}
 use Rattle.protocol.specs.Refusals.{answerTo}
 use Rattle.store.specs.Sizes.{readingsPerLine}
 use Rattle.protocol.specs.Calls.{input, done, accepted, outcomeOf}
@@ -106,7 +108,7 @@ module _ (s : Settings) (n : Node) (v : Shaped s n) where
   limits : Limits s
   limits = limits-hold s (v .limits)
 
-  withdraw-work : WorkOf s (act s n Rule.withdraw .node)
+  withdraw-work : WorkOf s (act s n Rule.Withdraw .node)
   unfolding act
   withdraw-work =
       let w = v .work in
@@ -135,7 +137,7 @@ module _ (s : Settings) (n : Node) (v : Shaped s n) where
       let rs = inBucket (s .bucket) j (keptOf (n .lines)) in
       (work-onwards s kind j rs (n .operator), omega (arith, work-few s kind j rs (n .operator) (v .fits .operator), v .work .newestNumber))
 
-  stable-work : isStable s (n .c) (n .lines) ≡ true → n .p ≡ n .c → WorkOf s (act s n Rule.workStable .node)
+  stable-work : isStable s (n .c) (n .lines) ≡ true → n .p ≡ n .c → WorkOf s (act s n Rule.WorkStable .node)
   unfolding act
   stable-work e q =
       let w = v .work in
@@ -154,7 +156,7 @@ module _ (s : Settings) (n : Node) (v : Shaped s n) where
         checkpoint = counted;
       }
 
-  correction-work : isCorrecting (n .phase) ≡ true → WorkOf s (act s n Rule.endCorrection .node)
+  correction-work : isCorrecting (n .phase) ≡ true → WorkOf s (act s n Rule.EndCorrection .node)
   unfolding act
   correction-work e =
       let w = v .work in
@@ -170,7 +172,7 @@ module _ (s : Settings) (n : Node) (v : Shaped s n) where
         checkpoint = w .checkpoint;
       }
 
-  tentative-work : (now : ArrivalTick) → someOverdue s (n .p) now (n .lines) ≡ true → WorkOf s (act s n Rule.workTentative .node)
+  tentative-work : (now : ArrivalTick) → someOverdue s (n .p) now (n .lines) ≡ true → WorkOf s (act s n Rule.WorkTentative .node)
   unfolding act
   tentative-work now e =
       let w = v .work in
@@ -189,7 +191,7 @@ module _ (s : Settings) (n : Node) (v : Shaped s n) where
         checkpoint = w .checkpoint;
       }
 
-  idle-work : WorkOf s (act s n Rule.idle .node)
+  idle-work : WorkOf s (act s n Rule.Idle .node)
   unfolding act
   idle-work = v .work
 
@@ -203,11 +205,11 @@ module _ (s : Settings) (n : Node) (v : Shaped s n) where
 
   step-lines : (rule : Rule) → Every LineShaped (act s n rule .node .lines)
   unfolding act
-  step-lines Rule.withdraw = v .lines
-  step-lines Rule.workStable = all-without-shaped s (n .c) (n .lines) (v .lines)
-  step-lines Rule.endCorrection = v .lines
-  step-lines Rule.workTentative = v .lines
-  step-lines Rule.idle = v .lines
+  step-lines Rule.Withdraw = v .lines
+  step-lines Rule.WorkStable = all-without-shaped s (n .c) (n .lines) (v .lines)
+  step-lines Rule.EndCorrection = v .lines
+  step-lines Rule.WorkTentative = v .lines
+  step-lines Rule.Idle = v .lines
 
   -- ---- a call
 

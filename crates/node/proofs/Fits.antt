@@ -24,7 +24,9 @@ use Rattle.operator.specs.Meters.{meterCount, noMeter, fresh, addAll}
 use Rattle.operator.specs.Work.{close, work}
 use Rattle.protocol.specs.Kinds.{Kind, kindOf}
 use Rattle.protocol.specs.Node.{Line, Node, noLine, opened, keptOf, readingOf, onLine}
-use Rattle.protocol.specs.Rules.{Rule, Outcome, ruleOf, without, worked, act}
+use Rattle.protocol.specs.declared.Rule.{Rule}
+use Rattle.protocol.specs.declared.Rule.the-variants as Rule
+use Rattle.protocol.specs.Rules.{Outcome, ruleOf, without, worked, act}
 use Rattle.protocol.specs.Refusals.{answerTo}
 use Rattle.protocol.specs.Calls.{input, done, accepted, outcomeOf}
 use Rattle.node.proofs.Lists.{every-replicate, every-modify}
@@ -145,25 +147,25 @@ without-fits s j l h =
 
 act-fits : (s : Settings) (n : Node) (rule : Rule) → NodeFits n → NodeFits (act s n rule .node)
 unfolding act
-act-fits s n Rule.withdraw h =
+act-fits s n Rule.Withdraw h =
     record { clock = h .clock; operator = h .checkpoint; checkpoint = h .checkpoint; lines = h .lines }
-act-fits s n Rule.workStable h =
+act-fits s n Rule.WorkStable h =
     record {
       clock = h .clock;
       operator = worked-fits s letterS (n .c) n h;
       checkpoint = worked-fits s letterS (n .c) n h;
       lines = every-map (without s (n .c)) LineFits (n .lines) (every-to (n .lines) (without-fits s (n .c)) (h .lines));
     }
-act-fits s n Rule.endCorrection h =
+act-fits s n Rule.EndCorrection h =
     record { clock = h .clock; operator = h .operator; checkpoint = h .checkpoint; lines = h .lines }
-act-fits s n Rule.workTentative h =
+act-fits s n Rule.WorkTentative h =
     record {
       clock = h .clock;
       operator = worked-fits s letterT (n .p) n h;
       checkpoint = h .checkpoint;
       lines = h .lines;
     }
-act-fits s n Rule.idle h = h
+act-fits s n Rule.Idle h = h
 
 -- ---- a call
 

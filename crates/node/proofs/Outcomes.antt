@@ -16,7 +16,9 @@ use Rattle.store.specs.Lists.{Every}
 use Rattle.protocol.specs.Kinds.{Kind, kindOf}
 use Rattle.protocol.specs.Node.{Line, Node, noLine, onLine}
 use Rattle.protocol.specs.Refusals.{Test, firstFailed, lineOf, isFull, testsOf, answerTo}
-use Rattle.protocol.specs.Rules.{Rule, Outcome, ruleOf, without, act}
+use Rattle.protocol.specs.declared.Rule.{Rule}
+use Rattle.protocol.specs.declared.Rule.the-variants as Rule
+use Rattle.protocol.specs.Rules.{Outcome, ruleOf, without, act}
 use Rattle.protocol.specs.Calls.{input, done, accepted, outcomeOf}
 use Rattle.node.proofs.Lists.{every-map, every-modify, length-modify, length-keep}
 use Rattle.node.proofs.Shares.{SmallLine}
@@ -63,11 +65,11 @@ input-small n k kind e h =
 
 act-lines : (s : Settings) (n : Node) (q : Rule) → length (act s n q .node .lines) ≡ length (n .lines)
 unfolding act
-act-lines s n Rule.withdraw = refl
-act-lines s n Rule.workStable = length-map (n .lines) (without s (n .c))
-act-lines s n Rule.endCorrection = refl
-act-lines s n Rule.workTentative = refl
-act-lines s n Rule.idle = refl
+act-lines s n Rule.Withdraw = refl
+act-lines s n Rule.WorkStable = length-map (n .lines) (without s (n .c))
+act-lines s n Rule.EndCorrection = refl
+act-lines s n Rule.WorkTentative = refl
+act-lines s n Rule.Idle = refl
 
 without-small : (s : Settings) (j : ℕ) (l : Line) → SmallLine l → SmallLine (without s j l)
 unfolding without
@@ -75,11 +77,11 @@ without-small s j l h = omega (arith, length-keep (λ (r : Reading). not (isIn (
 
 act-small : (s : Settings) (n : Node) (q : Rule) → Every SmallLine (n .lines) → Every SmallLine (act s n q .node .lines)
 unfolding act
-act-small s n Rule.withdraw h = h
-act-small s n Rule.workStable h = every-map SmallLine (without s (n .c)) (without-small s (n .c)) (n .lines) h
-act-small s n Rule.endCorrection h = h
-act-small s n Rule.workTentative h = h
-act-small s n Rule.idle h = h
+act-small s n Rule.Withdraw h = h
+act-small s n Rule.WorkStable h = every-map SmallLine (without s (n .c)) (without-small s (n .c)) (n .lines) h
+act-small s n Rule.EndCorrection h = h
+act-small s n Rule.WorkTentative h = h
+act-small s n Rule.Idle h = h
 
 -- ---- a call
 

@@ -26,7 +26,9 @@ use Rattle.store.specs.Lists.{Every}
 use Rattle.operator.specs.Results.{plain}
 use Rattle.protocol.specs.Kinds.{Kind, kindOf}
 use Rattle.protocol.specs.Node.{Line, Node, isStable, keptOf}
-use Rattle.protocol.specs.Rules.{Rule, firstRule, isCorrecting, someOverdue, ruleOf, boundaryAt, worked, act}
+use Rattle.protocol.specs.declared.Rule.{Rule}
+use Rattle.protocol.specs.declared.Rule.the-variants as Rule
+use Rattle.protocol.specs.Rules.{firstRule, isCorrecting, someOverdue, ruleOf, boundaryAt, worked, act}
 use Rattle.protocol.specs.Refusals.{answerTo}
 use Rattle.store.specs.Sizes.{readingsPerLine}
 use Rattle.protocol.specs.Calls.{input, done, accepted, outcomeOf}
@@ -83,8 +85,8 @@ boundary-given s j f =
 -- the rule of a step, by the tests that lead to it
 pub by-rule :
     (stable ahead correcting due : Bool) (G : Rule → Type 0) →
-    G Rule.withdraw → (stable ≡ true → ahead ≡ false → G Rule.workStable) → (correcting ≡ true → G Rule.endCorrection) →
-    (due ≡ true → G Rule.workTentative) → G Rule.idle →
+    G Rule.Withdraw → (stable ≡ true → ahead ≡ false → G Rule.WorkStable) → (correcting ≡ true → G Rule.EndCorrection) →
+    (due ≡ true → G Rule.WorkTentative) → G Rule.Idle →
     G (firstRule stable ahead correcting due)
 unfolding firstRule
 by-rule true true correcting due G u w r t i = u
@@ -114,7 +116,7 @@ module _ (s : Settings) (n : Node) (fits : NodeFits n) (shape : ShapeFacts s n) 
       countLimit (shape .meters) (omega (arith, few-readings s (n .lines) (shape .limits) (shape .count) (shape .short) j)) (values-fit (s .bucket) j (n .lines) (fits .lines))
       (omega (arith, shape .newestNumber, shape .top))
 
-  withdraw-given : Given (act s n Rule.withdraw .records)
+  withdraw-given : Given (act s n Rule.Withdraw .records)
   unfolding act
   withdraw-given = (
     omega arith,
@@ -125,7 +127,7 @@ module _ (s : Settings) (n : Node) (fits : NodeFits n) (shape : ShapeFacts s n) 
     ),
   )
 
-  stable-given : isStable s (n .c) (n .lines) ≡ true → Given (act s n Rule.workStable .records)
+  stable-given : isStable s (n .c) (n .lines) ≡ true → Given (act s n Rule.WorkStable .records)
   unfolding act
   stable-given e =
       let end = stable-end-fits s (n .c) (n .lines) (omega (arith, shape .count, limits-hold s (shape .limits) .someLines)) (fits .lines) e in
@@ -135,11 +137,11 @@ module _ (s : Settings) (n : Node) (fits : NodeFits n) (shape : ShapeFacts s n) 
             (worked-readable letterS (n .c) (omega arith) (known .stable) (stable-start-fits (s .bucket) (n .c) end)) (boundary .1),
       )
 
-  correction-given : Given (act s n Rule.endCorrection .records)
+  correction-given : Given (act s n Rule.EndCorrection .records)
   unfolding act
   correction-given = (omega arith, (plain-readable letterR (omega arith) (known .corrected) 0 (record { 0 = 0 }) (omega arith) (omega arith), tt))
 
-  tentative-given : (now : ArrivalTick) → someOverdue s (n .p) now (n .lines) ≡ true → Given (act s n Rule.workTentative .records)
+  tentative-given : (now : ArrivalTick) → someOverdue s (n .p) now (n .lines) ≡ true → Given (act s n Rule.WorkTentative .records)
   unfolding act
   tentative-given now e = (
     omega (arith, length-worked letterT (n .p)),
@@ -147,7 +149,7 @@ module _ (s : Settings) (n : Node) (fits : NodeFits n) (shape : ShapeFacts s n) 
         (due-start-fits s (n .p) now (n .lines) (omega (arith, limits-hold s (shape .limits) .leastBucket)) (fits .lines) e),
   )
 
-  idle-given : Given (act s n Rule.idle .records)
+  idle-given : Given (act s n Rule.Idle .records)
   unfolding act
   idle-given = (omega arith, tt)
 

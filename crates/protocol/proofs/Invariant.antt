@@ -23,7 +23,9 @@ use Rattle.operator.specs.Work.{work}
 use Rattle.protocol.specs.declared.Phase.{Phase}
 use Rattle.protocol.specs.Kinds.{Kind, kindOf}
 use Rattle.protocol.specs.Node.{Line, noLine, isStable, keptOf, onLine}
-use Rattle.protocol.specs.Rules.{Rule, isCorrecting, ruleOf, without, boundaryAt, worked, act}
+use Rattle.protocol.specs.declared.Rule.{Rule}
+use Rattle.protocol.specs.declared.Rule.the-variants as Rule
+use Rattle.protocol.specs.Rules.{isCorrecting, ruleOf, without, boundaryAt, worked, act}
 use Rattle.protocol.specs.Refusals.{lineOf, answerTo}
 use Rattle.protocol.specs.Calls.{input, done as doneBy, accepted, outcomeOf}
 use Rattle.protocol.specs.DayBook.{Page, onPage, bookInput, bookKind, bookCall}
@@ -122,7 +124,7 @@ module _ (s : Settings) (room : 0 < s .bucket) (t : Trace) (v : Invariant s t) w
             (v .output);
       }
 
-  withdraw-kept : (now : ArrivalTick) → Invariant s (Stepped s t now Rule.withdraw)
+  withdraw-kept : (now : ArrivalTick) → Invariant s (Stepped s t now Rule.Withdraw)
   unfolding Stepped accepted act bookAct isCorrecting
   withdraw-kept now =
       record {
@@ -136,7 +138,7 @@ module _ (s : Settings) (room : 0 < s .bucket) (t : Trace) (v : Invariant s t) w
             measured-withdraw _ _ _ _ _ _ _ (v .output) (failureFree-numbered s (t .stables) (t .node .c)) (record { 0 = 0 });
       }
 
-  stable-kept : (now : ArrivalTick) → isStable s (t .node .c) (t .node .lines) ≡ true → t .node .p ≡ t .node .c → Invariant s (Stepped s t now Rule.workStable)
+  stable-kept : (now : ArrivalTick) → isStable s (t .node .c) (t .node .lines) ≡ true → t .node .p ≡ t .node .c → Invariant s (Stepped s t now Rule.WorkStable)
   unfolding Stepped accepted act bookAct worked inBucket
   stable-kept now e q =
       record {
@@ -151,7 +153,7 @@ module _ (s : Settings) (room : 0 < s .bucket) (t : Trace) (v : Invariant s t) w
             (ap sort (each-gather s (t .node .c) room 1 (each-finished s (t .node .c) e (v .lines)))) q (v .output);
       }
 
-  mark-kept : (now : ArrivalTick) → Invariant s (Stepped s t now Rule.endCorrection)
+  mark-kept : (now : ArrivalTick) → Invariant s (Stepped s t now Rule.EndCorrection)
   unfolding Stepped accepted act bookAct isCorrecting
   mark-kept now =
       record {
@@ -164,7 +166,7 @@ module _ (s : Settings) (room : 0 < s .bucket) (t : Trace) (v : Invariant s t) w
         output = measured-mark _ _ _ _ _ _ _ (v .output) (record { 0 = 0 });
       }
 
-  tentative-kept : (now : ArrivalTick) → isCorrecting (t .node .phase) ≡ false → Invariant s (Stepped s t now Rule.workTentative)
+  tentative-kept : (now : ArrivalTick) → isCorrecting (t .node .phase) ≡ false → Invariant s (Stepped s t now Rule.WorkTentative)
   unfolding Stepped accepted act bookAct isCorrecting worked
   tentative-kept now m =
       record {
@@ -179,7 +181,7 @@ module _ (s : Settings) (room : 0 < s .bucket) (t : Trace) (v : Invariant s t) w
             (work-onward s letterT (t .node .p) (inBucket (s .bucket) (t .node .p) (keptOf (t .node .lines))) (t .node .operator));
       }
 
-  idle-kept : (now : ArrivalTick) → Invariant s (Stepped s t now Rule.idle)
+  idle-kept : (now : ArrivalTick) → Invariant s (Stepped s t now Rule.Idle)
   unfolding Stepped accepted act bookAct
   idle-kept now =
       record {

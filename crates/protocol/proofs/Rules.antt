@@ -16,7 +16,9 @@ use Rattle.settings.specs.declared.Settings.{Settings}
 use Rattle.store.specs.declared.Reading.{Reading}
 use Rattle.store.specs.Lists.{Every, someOf, allOf}
 use Rattle.protocol.specs.Node.{Line, Node, isStable}
-use Rattle.protocol.specs.Rules.{Rule, firstRule, isCorrecting, isOverdue, someOverdue, ruleOf}
+use Rattle.protocol.specs.declared.Rule.{Rule}
+use Rattle.protocol.specs.declared.Rule.the-variants as Rule
+use Rattle.protocol.specs.Rules.{firstRule, isCorrecting, isOverdue, someOverdue, ruleOf}
 use Rattle.protocol.specs.DayBook.{Page, DayBook, leastBoundary, stableBuckets, entryDue, anyDue, bookStep}
 use Rattle.protocol.proofs.Tests.{and-left, both-ways, leb-min}
 use Rattle.protocol.proofs.Lists.{some-kept, some-map}
@@ -28,14 +30,14 @@ unfoldable pub bookRule : Settings → DayBook → ℕ → Rule
 bookRule s y now = firstRule (ltb (y .d) (stableBuckets s y)) (ltb (y .d) (y .t)) (y .mark) (anyDue s (y .t) now (y .pages))
 
 unfoldable pub bookAct : DayBook → Rule → DayBook
-bookAct y Rule.withdraw = record { d = y .d; t = y .d; mark = true; pages = y .pages }
-bookAct y Rule.workStable = record { d = suc (y .d); t = suc (y .d); mark = y .mark; pages = y .pages }
-bookAct y Rule.endCorrection = record { d = y .d; t = y .t; mark = false; pages = y .pages }
-bookAct y Rule.workTentative = record { d = y .d; t = suc (y .t); mark = y .mark; pages = y .pages }
-bookAct y Rule.idle = y
+bookAct y Rule.Withdraw = record { d = y .d; t = y .d; mark = true; pages = y .pages }
+bookAct y Rule.WorkStable = record { d = suc (y .d); t = suc (y .d); mark = y .mark; pages = y .pages }
+bookAct y Rule.EndCorrection = record { d = y .d; t = y .t; mark = false; pages = y .pages }
+bookAct y Rule.WorkTentative = record { d = y .d; t = suc (y .t); mark = y .mark; pages = y .pages }
+bookAct y Rule.Idle = y
 
 -- the five cases of a step, with what the tests were
-pub rule-cases : (a b m d : Bool) (G : Rule → Type 0) → (a ≡ true → b ≡ true → G Rule.withdraw) → (a ≡ true → b ≡ false → G Rule.workStable) → (a ≡ false → m ≡ true → G Rule.endCorrection) → (a ≡ false → m ≡ false → G Rule.workTentative) → (a ≡ false → m ≡ false → G Rule.idle) → G (firstRule a b m d)
+pub rule-cases : (a b m d : Bool) (G : Rule → Type 0) → (a ≡ true → b ≡ true → G Rule.Withdraw) → (a ≡ true → b ≡ false → G Rule.WorkStable) → (a ≡ false → m ≡ true → G Rule.EndCorrection) → (a ≡ false → m ≡ false → G Rule.WorkTentative) → (a ≡ false → m ≡ false → G Rule.Idle) → G (firstRule a b m d)
 unfolding firstRule
 rule-cases true true m d G u f k t i = u refl refl
 rule-cases true false m d G u f k t i = f refl refl
@@ -44,7 +46,7 @@ rule-cases false b false true G u f k t i = t refl refl
 rule-cases false b false false G u f k t i = i refl refl
 
 -- the book's own chain of tests is the node's chain of rules
-by-tests : (y : DayBook) (a b m d : Bool) → cond a (cond b (bookAct y Rule.withdraw) (bookAct y Rule.workStable)) (cond m (bookAct y Rule.endCorrection) (cond d (bookAct y Rule.workTentative) (bookAct y Rule.idle))) ≡ bookAct y (firstRule a b m d)
+by-tests : (y : DayBook) (a b m d : Bool) → cond a (cond b (bookAct y Rule.Withdraw) (bookAct y Rule.WorkStable)) (cond m (bookAct y Rule.EndCorrection) (cond d (bookAct y Rule.WorkTentative) (bookAct y Rule.Idle))) ≡ bookAct y (firstRule a b m d)
 unfolding firstRule
 by-tests y true true m d = refl
 by-tests y true false m d = refl

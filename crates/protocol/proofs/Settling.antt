@@ -10,7 +10,8 @@ use borrow.Author.Tests.{ltb-false, ltb-true, le-ltb}
 use Rattle.settings.specs.declared.Settings.{Settings}
 use Rattle.journal.specs.declared.Call.{Call}
 use Rattle.protocol.specs.Kinds.{Kind, kindOf}
-use Rattle.protocol.specs.Rules.{Rule}
+use Rattle.protocol.specs.declared.Rule.{Rule}
+use Rattle.protocol.specs.declared.Rule.the-variants as Rule
 use Rattle.protocol.specs.Refusals.{answerTo}
 use Rattle.protocol.specs.DayBook.{DayBook, stableBuckets, leftToWork, bookKind, bookCall}
 use Rattle.protocol.specs.Undos.{markDue}

@@ -16,18 +16,16 @@ use Rattle.store.specs.Order.{isIn, inBucket}
 use Rattle.operator.specs.Results.{plain}
 use Rattle.operator.specs.Work.{Worked, work}
 use Rattle.protocol.specs.Node.{Line, Node, isStable, keptOf}
+use Rattle.protocol.specs.declared.Rule.{Rule}
+use Rattle.protocol.specs.declared.Rule.the-variants as Rule
 use Rattle.protocol.specs.declared.Phase.{Phase}
 use Rattle.protocol.specs.declared.Phase.the-variants as Phase
-
--- rules 1 to 5
-pub data Rule : Type 0 where
-  withdraw workStable endCorrection workTentative idle : Rule
 
 -- the first rule that applies: bucket c is stable, tentative work is out, the node is correcting, a reading is due
 unfoldable pub firstRule : Bool → Bool → Bool → Bool → Rule
 firstRule stable ahead correcting due =
-    cond stable (cond ahead Rule.withdraw Rule.workStable)
-    (cond correcting Rule.endCorrection (cond due Rule.workTentative Rule.idle))
+    cond stable (cond ahead Rule.Withdraw Rule.WorkStable)
+    (cond correcting Rule.EndCorrection (cond due Rule.WorkTentative Rule.Idle))
 
 unfoldable pub isCorrecting : Phase → Bool
 isCorrecting Phase.Stable = false
@@ -71,7 +69,7 @@ worked s kind j n = work s kind j (inBucket (s .bucket) j (keptOf (n .lines))) (
 
 -- what a rule does; the clock is set where the call is accepted
 unfoldable pub act : Settings → Node → Rule → Outcome
-act s n Rule.withdraw =
+act s n Rule.Withdraw =
     record {
       node =
           record {
@@ -85,7 +83,7 @@ act s n Rule.withdraw =
           };
       records = plain letterU (n .checkpoint .number) (record { 0 = 0 }) ∷ [];
     }
-act s n Rule.workStable =
+act s n Rule.WorkStable =
     record {
       node =
           record {
@@ -99,7 +97,7 @@ act s n Rule.workStable =
           };
       records = worked s letterS (n .c) n .records ++ boundaryAt s (n .c);
     }
-act s n Rule.endCorrection =
+act s n Rule.EndCorrection =
     record {
       node =
           record {
@@ -113,7 +111,7 @@ act s n Rule.endCorrection =
           };
       records = plain letterR 0 (record { 0 = 0 }) ∷ [];
     }
-act s n Rule.workTentative =
+act s n Rule.WorkTentative =
     record {
       node =
           record {
@@ -127,4 +125,4 @@ act s n Rule.workTentative =
           };
       records = worked s letterT (n .p) n .records;
     }
-act s n Rule.idle = record { node = n; records = [] }
+act s n Rule.Idle = record { node = n; records = [] }
