@@ -3,6 +3,7 @@ use Prim.Native.Nat.{ℕ, _*_}
 use mathlib.Core.Bool.{Bool, cond}
 use mathlib.Core.List.{List, []}
 use lib.Dec.{ltb}
+use lib.IntN.{pos}
 use lib.ListN.{replicate}
 use Rattle.settings.specs.declared.Settings.{Settings}
 use Rattle.settings.specs.declared.SettingsRead.{SettingsRead}
@@ -39,6 +40,10 @@ freshState s =
       p = n .p;
       phase = n .phase;
     }
+
+-- the state before the first opening: no lines
+unfoldable pub closedState : State
+closedState = freshState (record { lines = 0; bucket = 0; window = 0; hold = 0; low = pos 0; high = pos 0 })
 
 -- a refused opening hands back what it was given
 unfoldable pub openedWith : State → Columns → SettingsRead → Opened

@@ -60,15 +60,11 @@ addAll-append s o [] qs = refl
 addAll-append s o (r ∷ rs) qs = addAll-append s (add s o (r .reading)) rs qs
 
 -- one place of the list set, read at any place
-set-meter : (ms : List Meter) (m i : ℕ) (v : ℤ) → i < length ms → getD (set ms m (withValue v (getD ms m noMeter))) i noMeter ≡ cond (eqb m i) (withValue v (getD ms i noMeter)) (getD ms i noMeter)
-set-meter ms m i v h =
-    (elim (eqb m i) as
-    (λ b.
-    eqb m i ≡ b →
-    getD (set ms m (withValue v (getD ms m noMeter))) i noMeter ≡
-    cond b (withValue v (getD ms i noMeter)) (getD ms i noMeter)) [
-      | true ↦ λ e. rw (eqb-true m i e) (getD-set-same ms i _ noMeter h)
-      | false ↦ λ e. getD-set-other ms m i _ noMeter (λ q. eqb-false m i e (sym q))
+pub set-read : {A : Type 0} (xs : List A) (m i : ℕ) (d : A) (f : ℕ → A) → i < length xs → getD (set xs m (f m)) i d ≡ cond (eqb m i) (f i) (getD xs i d)
+set-read xs m i d f h =
+    (elim (eqb m i) as (λ b. eqb m i ≡ b → getD (set xs m (f m)) i d ≡ cond b (f i) (getD xs i d)) [
+      | true ↦ λ e. rw (eqb-true m i e) (getD-set-same xs i (f i) d h)
+      | false ↦ λ e. getD-set-other xs m i (f m) d (λ q. eqb-false m i e (sym q))
     ])
     refl
 
@@ -87,7 +83,7 @@ add-meter s o r i h =
     i
     noMeter ≡
     cond (b && eqb (r .reading .meter) i) (withValue (r .reading .value) (getD (o .meters) i noMeter)) (getD (o .meters) i noMeter)) [
-      | true ↦ set-meter (o .meters) (r .reading .meter) i (r .reading .value) h
+      | true ↦ set-read (o .meters) (r .reading .meter) i noMeter (λ (j : ℕ). withValue (r .reading .value) (getD (o .meters) j noMeter)) h
       | false ↦ refl
     ]
 

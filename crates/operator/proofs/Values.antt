@@ -1,14 +1,17 @@
 -- The values that a run of readings brings to one meter, in order, with their number, sum and last: what a meter is to hold. A run of
--- readings behind another brings its values behind the other's. Each law goes by the list. Assumes nothing.
+-- readings behind another brings its values behind the other's, and number and sum do not mind the order. Each law goes by the list or by
+-- the permutation. Assumes nothing.
 use Prim.Native.Nat.{ℕ, _+_}
 use mathlib.Core.Path.{_≡_, refl, sym, _∙_, ap}
 use mathlib.Core.Bool.{Bool, true, false, cond, _&&_}
 use mathlib.Core.List.{List, [], _∷_, _++_}
 use lib.Dec.{eqb}
-use lib.IntN.{ℤ, pos, _+ℤ_, +ℤ-idl, +ℤ-assoc}
+use lib.IntN.{ℤ, pos, _+ℤ_, +ℤ-idl, +ℤ-assoc, +ℤ-comm}
 use lib.ListN.{length, length-append}
 use Rattle.settings.specs.declared.Settings.{Settings}
 use Rattle.store.specs.Order.{Placed}
+use Rattle.store.specs.Sorted.{Permutation, empty, behind, exchange, chain}
+use Rattle.store.proofs.Permutations.{permutation-same, length-permuted}
 use Rattle.operator.specs.Meters.{isCounted}
 
 -- a reading of meter i with a value that is not dropped
@@ -70,3 +73,40 @@ pub lastOr-append : (old : ℤ) (vs ws : List ℤ) → lastOr old (vs ++ ws) ≡
 unfolding lastOr
 lastOr-append old [] ws = refl
 lastOr-append old (v ∷ vs) ws = lastOr-append v vs ws
+
+-- ---- in any order
+
+valuesOf-permuted : (s : Settings) (i : ℕ) {rs qs : List Placed} → Permutation rs qs → Permutation (valuesOf s i rs) (valuesOf s i qs)
+unfolding valuesOf
+valuesOf-permuted s i empty = empty
+valuesOf-permuted s i (behind x {xs} {ys} p) =
+    elim (countsFor s i x) as
+    (λ b.
+    Permutation (cond b (x .reading .value ∷ valuesOf s i xs) (valuesOf s i xs)) (cond b (x .reading .value ∷ valuesOf s i ys) (valuesOf s i ys))) [
+      | true ↦ behind (x .reading .value) (valuesOf-permuted s i p)
+      | false ↦ valuesOf-permuted s i p
+    ]
+valuesOf-permuted s i (exchange x y xs) = exchanged (countsFor s i x) (countsFor s i y) (x .reading .value) (y .reading .value) (valuesOf s i xs)
+  where
+    exchanged : (b c : Bool) (v w : ℤ) (vs : List ℤ) → Permutation (cond b (v ∷ cond c (w ∷ vs) vs) (cond c (w ∷ vs) vs)) (cond c (w ∷ cond b (v ∷ vs) vs) (cond b (v ∷ vs) vs))
+    exchanged true true v w vs = exchange v w vs
+    exchanged true false v w vs = permutation-same _
+    exchanged false true v w vs = permutation-same _
+    exchanged false false v w vs = permutation-same _
+valuesOf-permuted s i (chain p q) = chain (valuesOf-permuted s i p) (valuesOf-permuted s i q)
+
+total-permuted : {vs ws : List ℤ} → Permutation vs ws → total vs ≡ total ws
+unfolding total
+total-permuted empty = refl
+total-permuted (behind v p) = ap (λ (z : ℤ). v +ℤ z) (total-permuted p)
+total-permuted (exchange v w vs) =
+    sym (+ℤ-assoc v w (total vs)) ∙ ap (λ (z : ℤ). z +ℤ total vs) (+ℤ-comm v w) ∙ +ℤ-assoc w v (total vs)
+total-permuted (chain p q) = total-permuted p ∙ total-permuted q
+
+pub countOf-permuted : (s : Settings) (i : ℕ) {rs qs : List Placed} → Permutation rs qs → countOf s i rs ≡ countOf s i qs
+unfolding countOf
+countOf-permuted s i p = length-permuted (valuesOf-permuted s i p)
+
+pub sumOf-permuted : (s : Settings) (i : ℕ) {rs qs : List Placed} → Permutation rs qs → sumOf s i rs ≡ sumOf s i qs
+unfolding sumOf
+sumOf-permuted s i p = total-permuted (valuesOf-permuted s i p)

@@ -1,16 +1,16 @@
--- Gathered readings in pairs: the lines stand in order, and where the ids rise in each line, the order tells the readings apart: two of one
--- line by their ids, two of different lines by the lines. Assumes nothing.
+-- Gathered readings in pairs: the lines stand in order, and where the ids rise in each line, the order tells the readings apart and keeps
+-- those of equal time as gathered: two of one line by their ids, two of different lines by the lines. Assumes nothing.
 use Prim.Native.Nat.{ℕ, suc, _≤_, _<_}
-use mathlib.Core.Path.{_≡_}
-use mathlib.Core.Bool.{false}
+use mathlib.Core.Path.{_≡_, refl}
+use mathlib.Core.Bool.{true, false}
 use mathlib.Core.List.{List, [], _∷_, map}
 use native.Mathlib.Omega.{arith}
 use Rattle.store.specs.declared.Reading.{Reading}
 use Rattle.store.specs.Lists.{keep, Every, Pairwise}
-use Rattle.store.specs.Order.{Placed, isIn, gather}
-use Rattle.store.specs.Sorted.{isLevel, Distinct, Rising}
+use Rattle.store.specs.Order.{Placed, before, isIn, gather}
+use Rattle.store.specs.Sorted.{isLevel, Distinct, TiesInOrder, Rising}
 use Rattle.store.proofs.Choices.{false-unless}
-use Rattle.store.proofs.Order.{level-equal}
+use Rattle.store.proofs.Order.{by-line, by-id, earlier-before, level-equal}
 use Rattle.store.proofs.Pairs.{every-to, every-any, pairwise-append, pairwise-to, pairwise-any, pairwise-keep, pairwise-map}
 use Rattle.store.proofs.Gathering.{place, every-placed, gather-lines}
 
@@ -44,3 +44,10 @@ pub gather-distinct : (length j n : ℕ) (lines : List (List Reading)) → Every
 gather-distinct length j n lines h =
     gather-pairwise (λ (a b : Placed). isLevel a b ≡ false) other-line length j n lines
     (every-to lines (λ kept rising m. pairwise-to kept (λ r s l. other-id (place m r) (place m s) l) rising) h)
+
+-- where the ids rise in each line, gathered readings of equal time stand in their order
+pub gather-ties : (length j n : ℕ) (lines : List (List Reading)) → Every Rising lines → TiesInOrder (gather length j n lines)
+gather-ties length j n lines h =
+    gather-pairwise (λ (a b : Placed). a .reading .time .0 ≡ b .reading .time .0 → before a b ≡ true)
+    (λ a b l e. earlier-before a b (by-line e l)) length j n lines
+    (every-to lines (λ kept rising m. pairwise-to kept (λ r s l e. earlier-before (place m r) (place m s) (by-id e refl l)) rising) h)

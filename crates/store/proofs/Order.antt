@@ -1,6 +1,6 @@
 -- The order inside a bucket: `before` is `Earlier`, and so a strict total order on time, line and id. The definition's tests are taken
 -- apart in the laws between `before` and `Earlier` alone; the rest is arithmetic by cases. Assumes nothing.
-use Prim.Native.Nat.{ℕ, _<_}
+use Prim.Native.Nat.{ℕ, _≤_, _<_}
 use mathlib.Core.Path.{_≡_, refl, sym, _∙_}
 use mathlib.Core.Bool.{true, false, not, true≢false}
 use mathlib.Core.Logic.{_↔_, _⊎_, inl, inr, ⊎-elim}
@@ -54,6 +54,22 @@ earlier-transitive a b c (by-id e f h) (by-id e′ f′ k) = by-id (omega arith)
 -- no reading goes before itself
 pub before-irreflexive : (a : Placed) → before a a ≡ false
 before-irreflexive a = false-unless (before a a) (λ e. earlier-irreflexive a (before-earlier a a e))
+
+-- a reading that goes before another is not later in time
+pub before-times : (a b : Placed) → before a b ≡ true → a .reading .time .0 ≤ b .reading .time .0
+before-times a b h = go (before-earlier a b h)
+  where
+    go : Earlier a b → a .reading .time .0 ≤ b .reading .time .0
+    go (by-time l) = omega arith
+    go (by-line e l) = omega arith
+    go (by-id e f l) = omega arith
+
+-- nor is one earlier in time that does not go before another
+pub not-before-times : (a b : Placed) → before a b ≡ false → b .reading .time .0 ≤ a .reading .time .0
+not-before-times a b h =
+    ltb-false _ _
+    (false-unless (ltb (a .reading .time .0) (b .reading .time .0))
+    (λ e. true≢false (sym (earlier-before a b (by-time (ltb-true _ _ e))) ∙ h)))
 
 pub before-transitive : (a b c : Placed) → before a b ≡ true → before b c ≡ true → before a c ≡ true
 before-transitive a b c h k = earlier-before a c (earlier-transitive a b c (before-earlier a b h) (before-earlier b c k))

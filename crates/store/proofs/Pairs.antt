@@ -1,8 +1,9 @@
 -- Laws of `Every` and `Pairwise` under append, map and keep. Each goes by the list. Assumes nothing.
-use Prim.Native.Nat.{ℕ, zero, suc}
+use Prim.Native.Nat.{ℕ, zero, suc, _<_}
+use native.Mathlib.Omega.{arith}
 use mathlib.Core.Path.{refl, subst⁻¹}
 use mathlib.Core.Bool.{Bool}
-use lib.ListN.{getD, set}
+use lib.ListN.{length, getD, set}
 use mathlib.Core.List.{List, [], _∷_, _++_, map, List·Memᴰ, List·Memᴰ·head, List·Memᴰ·tail}
 use Rattle.store.specs.Lists.{keep, Every, Pairwise}
 use Rattle.store.proofs.Choices.{cond-either}
@@ -48,6 +49,12 @@ module _ {A : Type 0} where
   every-at law (x ∷ xs) zero d h k = k .0
   every-at law (x ∷ xs) (suc i) d h k = every-at law xs i d h (k .1)
 
+  -- the element at a place that the list has
+  pub every-index : (law : A → Type 0) (xs : List A) (i : ℕ) (d : A) → i < length xs → Every law xs → law (getD xs i d)
+  every-index law [] i d h k = absurd (omega arith)
+  every-index law (x ∷ xs) zero d h k = k .0
+  every-index law (x ∷ xs) (suc i) d h k = every-index law xs i d (omega arith) (k .1)
+
   pub every-keep : (P : A → Type 0) (test : A → Bool) (xs : List A) → Every P xs → Every P (keep test xs)
   unfolding keep
   every-keep P test [] h = tt
@@ -86,6 +93,11 @@ module _ {A B : Type 0} (f : A → B) where
   pub every-map : (P : B → Type 0) (xs : List A) → Every (λ x. P (f x)) xs → Every P (map f xs)
   every-map P [] h = tt
   every-map P (x ∷ xs) h = (h .0, every-map P xs (h .1))
+
+  -- and back
+  pub every-mapped : (P : B → Type 0) (xs : List A) → Every P (map f xs) → Every (λ x. P (f x)) xs
+  every-mapped P [] h = tt
+  every-mapped P (x ∷ xs) h = (h .0, every-mapped P xs (h .1))
 
   pub pairwise-map : (R : B → B → Type 0) (xs : List A) → Pairwise (λ x y. R (f x) (f y)) xs → Pairwise R (map f xs)
   pairwise-map R [] h = tt

@@ -1,6 +1,9 @@
--- Laws of permutations: they go back, and what holds of every element, or of every two whichever comes first, holds after them too. Each
--- goes by the permutation. Assumes nothing.
+-- Laws of permutations: they go back, they keep the length, and what holds of every element, or of every two whichever comes first, holds
+-- after them too. Each goes by the permutation. Assumes nothing.
+use Prim.Native.Nat.{suc}
+use mathlib.Core.Path.{_≡_, refl, _∙_, ap}
 use mathlib.Core.List.{List, [], _∷_, List·Memᴰ}
+use lib.ListN.{length}
 use Rattle.store.specs.Lists.{Every, Pairwise}
 use Rattle.store.specs.Sorted.{Permutation, empty, behind, exchange, chain}
 use Rattle.store.proofs.Pairs.{every-of, every-self}
@@ -15,6 +18,12 @@ module _ {A : Type 0} where
   permutation-back (behind x p) = behind x (permutation-back p)
   permutation-back (exchange x y xs) = exchange y x xs
   permutation-back (chain p q) = chain (permutation-back q) (permutation-back p)
+
+  pub length-permuted : {xs ys : List A} → Permutation xs ys → length xs ≡ length ys
+  length-permuted empty = refl
+  length-permuted (behind x p) = ap suc (length-permuted p)
+  length-permuted (exchange x y xs) = refl
+  length-permuted (chain p q) = length-permuted p ∙ length-permuted q
 
   pub every-permuted : (P : A → Type 0) {xs ys : List A} → Permutation xs ys → Every P xs → Every P ys
   every-permuted P empty h = tt
