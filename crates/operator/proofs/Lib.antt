@@ -9,3 +9,9 @@ pub mod Gives
 pub mod Closing
 pub mod Sums
 pub mod Meters
+pub mod Bounds
+pub mod FromPlace
+pub mod NextResults
+pub mod Laying
+pub mod Pass
+pub mod Turns

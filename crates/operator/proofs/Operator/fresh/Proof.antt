@@ -1,0 +1,12 @@
+-- `operator::Operator::fresh` meets its contract: the code is the definition. Assumes nothing.
+use mathlib.Core.Path.{refl}
+use Rattle.operator.specs.Meters.{noMeter, fresh}
+use Rattle.operator.proofs.Operator.fresh.Statement.{statement}
+use Rattle.operator.proofs.Operator.fresh.Tie as tie
+
+returns : tie.Need-returns
+unfolding fresh noMeter
+returns c = refl
+
+pub fresh-spec : {M : Type 1} → statement M
+fresh-spec = tie.close (tie.spec returns)
