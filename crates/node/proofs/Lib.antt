@@ -3,6 +3,8 @@ pub mod Lists
 pub mod Limits
 pub mod Share
 pub mod Shares
+pub mod Lines
+pub mod EachLine
 pub mod View
 pub mod Places
 pub mod Writes

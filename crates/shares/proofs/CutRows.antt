@@ -39,7 +39,7 @@ module _ {A : Type 0} (number : A → ℕ) (last : ℕ) where
         | false ↦ λ e. rw (keep-above x xs e h)
       ]) refl
 
-take-rows : (x : Columns) (base n k : ℕ) → k ≤ n → take k (rowsFrom x base n) ≡ rowsFrom x base k
+pub take-rows : (x : Columns) (base n k : ℕ) → k ≤ n → take k (rowsFrom x base n) ≡ rowsFrom x base k
 unfolding rowsFrom
 take-rows x base n zero h = refl
 take-rows x base zero (suc k) h = absurd (omega arith)
