@@ -17,7 +17,7 @@ use Rattle.protocol.specs.Node.{Line, keptOf}
 use Rattle.node.proofs.Lists.{length-keep}
 
 module _ (law : Reading → Type 0) (size j : ℕ) where
-  every-gather : (n : ℕ) (ls : List Line) → Every (λ (l : Line). Every law (l .kept)) ls → Every (λ (r : Placed). law (r .reading)) (gather size j n (keptOf ls))
+  pub every-gather : (n : ℕ) (ls : List Line) → Every (λ (l : Line). Every law (l .kept)) ls → Every (λ (r : Placed). law (r .reading)) (gather size j n (keptOf ls))
   unfolding gather keptOf
   every-gather n [] h = tt
   every-gather n (l ∷ ls) h =

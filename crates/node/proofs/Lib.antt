@@ -10,6 +10,7 @@ pub mod Places
 pub mod Writes
 pub mod Opening
 pub mod Shape
+pub mod KeptLines
 pub mod Outcomes
 pub mod Calls
 pub mod AfterCalls

@@ -7,6 +7,7 @@ use native.Mathlib.Omega.{arith}
 use native.Mathlib.Nat.{add-zero, zero-add}
 use lib.ListN.{length, getD, take, drop}
 use lib.Seq.{take-take, getD-take, length-take-le}
+use Rattle.store.specs.declared.Reading.{Reading}
 use Rattle.store.specs.Lists.{Every}
 use Rattle.store.specs.Sizes.{readingsPerLine}
 use Rattle.store.specs.Columns.{Columns, rowsFrom, rows}
@@ -17,7 +18,7 @@ use Rattle.node.specs.View.{viewLine, viewLines, headOf}
 use Rattle.node.specs.declared.LineHead.{LineHead}
 use Rattle.node.proofs.Shares.{SmallHead, line-at}
 
-drop-rows : (x : Columns) (base n k : ℕ) → k ≤ n → drop k (rowsFrom x base n) ≡ rowsFrom x (base + k) (n - k)
+pub drop-rows : (x : Columns) (base n k : ℕ) → k ≤ n → drop k (rowsFrom x base n) ≡ rowsFrom x (base + k) (n - k)
 unfolding rowsFrom
 drop-rows x base n zero h =
     let e : n - 0 ≡ n = omega arith in

@@ -213,3 +213,9 @@ inShape-facts st x e =
       checkpoint =
           every-to (st .checkpoint .meters) meter-shape (every-passes meterOk (st .checkpoint .meters) (and-right g h e5));
     }
+
+-- the operator's meters pass their test
+pub operator-within : (st : State) (x : Columns) → inShape st x ≡ true → allOf meterOk (st .operator .meters) ≡ true
+unfolding inShape
+operator-within st x e =
+    and-left _ _ (and-right (numbersOk st) _ (and-right (bucketsOk st) _ (and-right (allOf keptOk (view st x .lines)) _ (and-right (allOf headOk (take (st .settings .lines) (st .heads))) _ (and-right (withinLimits (st .settings)) _ e)))))

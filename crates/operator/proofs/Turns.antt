@@ -1,9 +1,9 @@
 -- A pass turn by turn: after k places the counts have grown by at most k, each sum is one that so many values can have, and what is left of
 -- the places leads to the same end. A turn takes the first of the places that are left. Assumes nothing.
 use Prim.Native.Nat.{ℕ, suc, _+_, _≤_, _<_, _^_}
-use mathlib.Core.Path.{_≡_, refl, sym, ap, subst}
-use mathlib.Core.Bool.{Bool, true}
-use mathlib.Core.List.{List, map}
+use mathlib.Core.Path.{_≡_, refl, ap}
+use mathlib.Core.Bool.{Bool}
+use mathlib.Core.List.{List}
 use native.Mathlib.Omega.{arith}
 use native.Mathlib.Numerals.{add-one}
 use lib.Dec.{leb}
@@ -13,21 +13,15 @@ use lib.Seq.{drop-cons}
 use lib.Signed.{mag}
 use Rattle.settings.specs.declared.Settings.{Settings}
 use Rattle.signed.specs.Mean.{InRange}
-use Rattle.store.specs.declared.Reading.{Reading}
-use Rattle.store.specs.Lists.{Every, allOf}
-use Rattle.store.specs.Order.{Placed, sort}
-use Rattle.store.specs.Columns.{Columns, rowAt}
+use Rattle.store.specs.Lists.{Every}
 use Rattle.store.proofs.Choices.{cond-either}
-use Rattle.store.proofs.Pairs.{every-to, every-any, every-map, every-mapped, every-set, every-at}
-use Rattle.store.proofs.Permutations.{every-permuted}
-use Rattle.store.proofs.Sorting.{sort-permutes}
+use Rattle.store.proofs.Pairs.{every-to, every-set, every-at}
 use Rattle.operator.specs.declared.Meter.{Meter}
 use Rattle.operator.specs.declared.Operator.{Operator}
-use Rattle.operator.specs.Bounds.{countLimit, meterOk}
-use Rattle.operator.specs.Meters.{noMeter, isCounted, addAll}
+use Rattle.operator.specs.Bounds.{countLimit}
+use Rattle.operator.specs.Meters.{noMeter, isCounted}
 use Rattle.operator.proofs.Sums.{add-range}
-use Rattle.operator.proofs.Meters.{ValueFits, Counted, no-counted, counted-addAll}
-use Rattle.operator.proofs.Bounds.{meters-ok}
+use Rattle.operator.proofs.Meters.{Counted, no-counted}
 use Rattle.operator.proofs.Pass.{Passing, started, valued, valued-count, valued-sum, entered, meet, meetPlaces}
 
 -- ---- how much a pass counts
@@ -81,18 +75,6 @@ module _ (s : Settings) (times : List ℕ) (values : List ℤ) (meters places : 
   unfolding meetPlaces
   turn-end p k h l = ap (λ (q : Passing). q .operator) (rw (drop-of-length-le places {i = k} l) at (h .left))
 
--- ---- what a pass leaves
-
--- readings at places of the columns have values of 32 bits where the column has
-pub places-fit : (x : Columns) (places : List ℕ) (rs : List Placed) → map (λ (r : Placed). r .reading) rs ≡ map (rowAt x) places → ((i : ℕ) → mag (getD (x .values) i (pos 0)) < 2 ^ 31) → Every ValueFits rs
-unfolding rowAt
-places-fit x places rs e f =
-    every-mapped (λ (r : Placed). r .reading) (λ (r : Reading). mag (r .value) < 2 ^ 31) rs
-    (subst (Every (λ (r : Reading). mag (r .value) < 2 ^ 31)) (sym e)
-    (every-map (rowAt x) (λ (r : Reading). mag (r .value) < 2 ^ 31) places (every-any (λ (i : ℕ). mag (rowAt x i .value) < 2 ^ 31) places f)))
-
--- an operator within its bounds stays in the range that its counts allow
-pub passed-in-range : (s : Settings) (o : Operator) (rs : List Placed) → allOf meterOk (o .meters) ≡ true → Every ValueFits rs → Every (λ (m : Meter). InRange (m .sum) (m .count)) (addAll s o (sort rs) .meters)
-passed-in-range s o rs ok f =
-    every-to (addAll s o (sort rs) .meters) (λ m h. h .range)
-    (counted-addAll s countLimit o (sort rs) (every-permuted ValueFits (sort-permutes rs) f) (meters-ok (o .meters) ok))
+  -- each sum is one that so many values can have
+  pub turn-in-range : (p : Passing) (k : ℕ) → Turn s times values meters places o p k → Every (λ (m : Meter). InRange (m .sum) (m .count)) (p .operator .meters)
+  turn-in-range p k h = every-to (p .operator .meters) (λ m g. g .range) (h .counted)

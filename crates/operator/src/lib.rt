@@ -155,6 +155,7 @@ impl Operator {
     ) -> Operator
         requires { ⌜ (length (now places) ≤ 2 ^ 16) × Every (Workable (now times) (now values) (now meters)) (now places) × (allOf meterOk (self .meters) ≡ true) ⌝ }
         ensures { λ r. ⌜ Passed s (now (times .entry)) (now (values .entry)) (now (meters .entry)) (now (places .entry)) self r ⌝ }
+        ensures { λ r. ⌜ Every (λ m. InRange (m .sum) (m .count)) (r .meters) ⌝ }
     {
         let mut newest = [0u32; 64];
         let mut k = 0;

@@ -10,7 +10,7 @@ use Rattle.protocol.specs.Kinds.{Kind, kindOf}
 use Rattle.protocol.specs.Node.{Node}
 use Rattle.protocol.specs.Refusals.{Test, firstFailed, lineOf, wrongId, tooEarly, isHeldBack, testsOf, answerTo}
 
-none-failed : (ts : List Test) → Every (λ (t : Test). t .number ≡ 0 → ⊥) ts → firstFailed ts ≡ 0 → Every (λ (t : Test). t .fails ≡ false) ts
+pub none-failed : (ts : List Test) → Every (λ (t : Test). t .number ≡ 0 → ⊥) ts → firstFailed ts ≡ 0 → Every (λ (t : Test). t .fails ≡ false) ts
 unfolding firstFailed
 none-failed [] h e = tt
 none-failed (t ∷ ts) h e =

@@ -18,7 +18,7 @@ use Rattle.operator.proofs.Meters.{Counted, no-counted}
 use Rattle.operator.proofs.Bounds.{meters-ok}
 use Rattle.operator.proofs.FromPlace.{length-mapped}
 use Rattle.operator.proofs.Pass.{Passing, started, meet, meet-counts, meet-dropped, places-passed}
-use Rattle.operator.proofs.Turns.{Turn, turn-start, turn-more, turn-end}
+use Rattle.operator.proofs.Turns.{Turn, turn-start, turn-more, turn-end, turn-in-range}
 use Rattle.operator.proofs.Operator.add_places.Statement.{statement}
 use Rattle.operator.proofs.Operator.add_places.Tie as tie
 
@@ -148,11 +148,14 @@ returns c =
     let b = c .before .before .before .before .before in
     let l = c .before .loop in
     let long : length (b .args .t1 .meters) ≡ meterCount = search (needs, length-mapped) in
-    λ x t v m rs e h.
-    turn-end (b .args .s) (b .args .times .now) (b .args .values .now) (b .args .meters .now) (b .args .places .now) (b .args .t1)
-    (record { operator = l .self; newest = l .newest }) (l .k) (l .inv) (omega arith) ∙
-    places-passed (b .args .s) (b .args .times .now) (b .args .values .now) (b .args .meters .now) (b .args .places .now) (b .args .t1) long
-    x t v m rs e h
+    let p : Passing = record { operator = l .self; newest = l .newest } in (
+      λ x t v m rs e h.
+          turn-end (b .args .s) (b .args .times .now) (b .args .values .now) (b .args .meters .now) (b .args .places .now) (b .args .t1) p (l .k)
+          (l .inv) (omega arith) ∙
+          places-passed (b .args .s) (b .args .times .now) (b .args .values .now) (b .args .meters .now) (b .args .places .now) (b .args .t1) long
+          x t v m rs e h,
+      turn-in-range (b .args .s) (b .args .times .now) (b .args .values .now) (b .args .meters .now) (b .args .places .now) (b .args .t1) p (l .k) (l .inv),
+    )
 
 pub add-places-spec : {M : Type 1} → statement M
 add-places-spec =

@@ -1,0 +1,12 @@
+-- `refusals::is_reading` meets its contract, which is its expression. Assumes nothing.
+use mathlib.Core.Path.{refl}
+use Rattle.columns.specs.Places.{isReadingKind}
+use Rattle.refusals.proofs.is_reading.Statement.{statement}
+use Rattle.refusals.proofs.is_reading.Tie as tie
+
+returns : tie.Need-returns
+unfolding isReadingKind
+returns c = refl
+
+pub is-reading-spec : {M : Type 1} → statement M
+is-reading-spec = tie.close (tie.spec returns)

@@ -1,0 +1,5 @@
+-- Laws on a bucket's work.
+pub mod Fields
+pub mod Places
+pub mod BucketReadings
+pub mod Closing
