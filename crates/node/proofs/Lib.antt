@@ -6,6 +6,7 @@ pub mod Shares
 pub mod Lines
 pub mod EachLine
 pub mod View
+pub mod OneLine
 pub mod Places
 pub mod Writes
 pub mod Opening

@@ -12,7 +12,7 @@ use Rattle.store.specs.Lists.{Every}
 use Rattle.store.specs.Sizes.{readingsPerLine}
 use Rattle.store.specs.Columns.{Columns, rowsFrom, rows}
 use Rattle.store.proofs.Pairs.{every-index}
-use Rattle.shares.proofs.CutRows.{take-rows}
+use Rattle.shares.proofs.Rows.{take-rows}
 use Rattle.protocol.specs.Node.{Line, noLine}
 use Rattle.node.specs.View.{viewLine, viewLines, headOf}
 use Rattle.node.specs.declared.LineHead.{LineHead}

@@ -1,9 +1,9 @@
 -- A share cut above an id. Where ids rise, those up to the id stand in front, so that the kept readings are the share's first rows, and
 -- only places behind them are written. Assumes nothing.
-use Prim.Native.Nat.{ℕ, zero, suc, _+_, _-_, _≤_, _<_}
+use Prim.Native.Nat.{ℕ, _+_, _-_, _≤_}
 use mathlib.Core.Path.{_≡_, refl, sym, _∙_, ap}
-use mathlib.Core.Bool.{Bool, true, false, cond}
-use mathlib.Core.List.{List, [], _∷_, _++_, map}
+use mathlib.Core.Bool.{true, false, cond}
+use mathlib.Core.List.{List, [], _∷_, map}
 use native.Mathlib.Omega.{arith}
 use borrow.Author.Tests.{ltb-true, leb-false, lt-leb}
 use lib.Dec.{leb, ltb}
@@ -16,7 +16,7 @@ use Rattle.store.proofs.Columns.{length-rowsFrom}
 use Rattle.columns.specs.Places.{rises}
 use Rattle.columns.proofs.UpTo.{rises-behind}
 use Rattle.shares.proofs.Lists.{keep-field, length-keep}
-use Rattle.shares.proofs.Rows.{ids-share, own-rows}
+use Rattle.shares.proofs.Rows.{take-rows, ids-share, own-rows}
 
 module _ {A : Type 0} (number : A → ℕ) (last : ℕ) where
   -- behind one that is above the last nothing is kept
@@ -38,12 +38,6 @@ module _ {A : Type 0} (number : A → ℕ) (last : ℕ) where
         | true ↦ λ e. ap (λ (l : List A). x ∷ l) (keep-front xs (rises-behind (number x) (map number xs) h))
         | false ↦ λ e. rw (keep-above x xs e h)
       ]) refl
-
-pub take-rows : (x : Columns) (base n k : ℕ) → k ≤ n → take k (rowsFrom x base n) ≡ rowsFrom x base k
-unfolding rowsFrom
-take-rows x base n zero h = refl
-take-rows x base zero (suc k) h = absurd (omega arith)
-take-rows x base (suc n) (suc k) h = rw (take-rows x (suc base) n k (omega arith))
 
 module _ (x : Columns) (base n id : ℕ) (h : base + n ≤ storeLength x) where
   -- as many readings are kept as ids

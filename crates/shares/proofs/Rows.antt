@@ -1,17 +1,34 @@
 -- The rows of a share and its columns: a field of the rows is a share of the field's column, and rows written over themselves change
 -- nothing. One law over the field, by induction on the number of rows; each column is an instance. Assumes nothing.
 use Prim.Native.Nat.{ℕ, zero, suc, _+_, _-_, _≤_}
-use mathlib.Core.Path.{_≡_, refl, sym, _∙_, ap}
-use mathlib.Core.List.{List, [], _∷_, _++_, map, map-append}
+use mathlib.Core.Path.{_≡_, refl}
+use mathlib.Core.List.{List, [], _∷_, _++_, map, map-append, append-nil}
 use native.Mathlib.Omega.{arith}
+use native.Mathlib.Nat.{zero-add, add-zero}
 use lib.IntN.{ℤ, pos}
-use lib.ListN.{length, getD, replicate, length-map}
+use lib.ListN.{length, getD, take, drop, replicate, length-append, length-map}
 use lib.Seq.{sets, set-getD, drop-cons}
 use Rattle.store.specs.declared.Reading.{Reading}
 use Rattle.store.specs.Columns.{Columns, columnsOf, storeLength, rowAt, rowsFrom, zeroed, withRowsAt, withKept, share}
-use Rattle.store.proofs.Columns.{Room, room, length-rowsFrom}
+use Rattle.store.proofs.Columns.{room, length-rowsFrom}
 use Rattle.columns.proofs.Stores.{sets-sets}
 use Rattle.shares.proofs.Lists.{map-replicate}
+
+-- ---- fewer rows
+
+pub take-rows : (x : Columns) (base n k : ℕ) → k ≤ n → take k (rowsFrom x base n) ≡ rowsFrom x base k
+unfolding rowsFrom
+take-rows x base n zero h = refl
+take-rows x base zero (suc k) h = absurd (omega arith)
+take-rows x base (suc n) (suc k) h = rw (take-rows x (suc base) n k (omega arith))
+
+pub drop-rows : (x : Columns) (base n k : ℕ) → drop k (rowsFrom x base (k + n)) ≡ rowsFrom x (base + k) n
+unfolding rowsFrom
+drop-rows x base n zero = rw (zero-add n, add-zero base)
+drop-rows x base n (suc k) =
+    let more : suc k + n ≡ suc (k + n) = omega arith in
+    let at : base + suc k ≡ suc base + k = omega arith in
+    rw (more, at) (drop-rows x (suc base) n k)
 
 -- ---- a field of a store's rows, and its column
 
@@ -87,6 +104,13 @@ unfolding withKept withRowsAt
 kept-all x base n =
     let none : n - length (rowsFrom x base n) ≡ 0 = omega (arith, length-rowsFrom x base n) in
     rw none (own-rows x base n [])
+
+-- a share that keeps one reading more has it in its first free place
+pub kept-more : (x : Columns) (base n : ℕ) (r : Reading) → withKept x base n (rowsFrom x base n ++ r ∷ []) ≡ withRowsAt x (base + n) (r ∷ [])
+unfolding withKept
+kept-more x base n r =
+    let none : n - length (rowsFrom x base n ++ r ∷ []) ≡ 0 = omega (arith, length-append (rowsFrom x base n) (r ∷ []), length-rowsFrom x base n) in
+    rw (none, append-nil (rowsFrom x base n ++ r ∷ [])) (own-rows x base n (r ∷ []))
 
 -- ---- places zeroed
 

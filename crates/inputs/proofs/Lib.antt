@@ -1,0 +1,2 @@
+-- Laws on what an accepted input does to its line.
+pub mod OneInput

@@ -1,0 +1,82 @@
+// What an accepted input does: to its line's head, and to the line's share of the store.
+ghost use mathlib.Core.Path.{_≡_};
+ghost use mathlib.Core.Bool.{true, false};
+ghost use Prim.Native.Nat.{_+_, _≤_};
+ghost use Rattle.store.specs.Sizes.{readingsPerLine};
+ghost use Rattle.store.specs.Columns.{columnsOf, storeLength, rowsFrom, withKept, share};
+ghost use Rattle.columns.specs.Places.{rises};
+ghost use Rattle.protocol.specs.Kinds.{kindOf};
+ghost use Rattle.protocol.specs.Node.{onLine, readingOf};
+ghost use Rattle.protocol.specs.Refusals.{isFull};
+ghost use Rattle.node.specs.View.{viewLine, headOf};
+use journal::Call;
+use node::LineHead;
+use store::Reading;
+
+// A call's reading; its arrival is the call's `now`.
+fn reading_of(k: Call) -> Reading
+    ensures { λ r. ⌜ r ≡ readingOf k ⌝ }
+{
+    let time = k.time;
+    let arrival = k.now;
+    Reading {
+        id: k.id,
+        time: time,
+        value: k.value,
+        arrival: arrival,
+        kind: k.kind,
+        meter: k.meter,
+    }
+}
+
+// Takes an accepted input in, on a line whose share begins at `base`; answers the line's head.
+pub fn input(
+    head: LineHead,
+    ids: &mut [u32],
+    times: &mut [u32],
+    values: &mut [i32],
+    arrivals: &mut [u32],
+    kinds: &mut [u8],
+    meters: &mut [u8],
+    base: usize,
+    k: Call,
+) -> LineHead
+    requires { ⌜ (base + readingsPerLine ≤ storeLength (columnsOf (now ids) (now times) (now values) (now arrivals) (now kinds) (now meters))) × (head .kept ≤ readingsPerLine) × (isFull (viewLine head (rowsFrom (columnsOf (now ids) (now times) (now values) (now arrivals) (now kinds) (now meters)) base readingsPerLine)) (kindOf (k .kind)) ≡ false) × (rises (share base (head .kept) (now ids)) ≡ true) ⌝ }
+    ensures { λ r. ⌜ r ≡ headOf (onLine k (kindOf (k .kind)) (viewLine head (rowsFrom (columnsOf (now (ids .entry)) (now (times .entry)) (now (values .entry)) (now (arrivals .entry)) (now (kinds .entry)) (now (meters .entry))) base readingsPerLine))) ⌝ }
+    ensures { λ _. ⌜ columnsOf (now (ids .exit)) (now (times .exit)) (now (values .exit)) (now (arrivals .exit)) (now (kinds .exit)) (now (meters .exit)) ≡ withKept (columnsOf (now (ids .entry)) (now (times .entry)) (now (values .entry)) (now (arrivals .entry)) (now (kinds .entry)) (now (meters .entry))) base (head .kept) (onLine k (kindOf (k .kind)) (viewLine head (rowsFrom (columnsOf (now (ids .entry)) (now (times .entry)) (now (values .entry)) (now (arrivals .entry)) (now (kinds .entry)) (now (meters .entry))) base readingsPerLine)) .kept) ⌝ }
+{
+    let kept = head.kept as usize;
+    let mut next = head;
+    if (k.kind == journal::STABLE) | (k.kind == journal::TENTATIVE) {
+        let r = reading_of(k);
+        shares::place(ids, times, values, arrivals, kinds, meters, base + kept, r);
+        next.last_id = r.id;
+        next.kept = head.kept + 1;
+        if k.kind == journal::STABLE {
+            next.last_stable_id = r.id;
+        }
+        return next;
+    }
+    if k.kind == journal::BOUNDARY {
+        let time = k.time;
+        next.boundary = time;
+        return next;
+    }
+    if k.kind == journal::UNDO {
+        let left = shares::cut(
+            ids,
+            times,
+            values,
+            arrivals,
+            kinds,
+            meters,
+            base,
+            kept,
+            k.id,
+        );
+        next.last_id = k.id;
+        next.kept = left as u32;
+        return next;
+    }
+    next
+}
