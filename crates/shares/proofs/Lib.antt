@@ -4,3 +4,4 @@ pub mod Rows
 pub mod CutRows
 pub mod Closed
 pub mod Kept
+pub mod Written

@@ -1,0 +1,109 @@
+-- The records of a bucket's work: as many as the numbering moved on, no more than there are meters, and behind them the boundary of a window
+-- that the bucket closes. By the laws on the operator's work and on bytes laid in front of an area. Assumes nothing.
+use Prim.Native.Nat.{ℕ, _+_, _*_, _-_, _≤_}
+use mathlib.Core.Path.{_≡_, refl, _∙_, ap}
+use mathlib.Core.Bool.{true, false, cond}
+use mathlib.Core.List.{List, [], _∷_, _++_, append-nil}
+use native.Mathlib.Omega.{arith}
+use lib.ListN.{length, take, drop, length-append, length-drop}
+use lib.Seq.{take-append-seam, drop-append-add, drop-drop}
+use Rattle.area.specs.Laid.{inFront}
+use Rattle.clock.specs.Buckets.{bucketEnd}
+use Rattle.clock.specs.Windows.{closesWindow}
+use Rattle.settings.specs.declared.Settings.{Settings}
+use Rattle.journal.specs.Kinds.{letterB}
+use Rattle.record.specs.declared.Record.{Record}
+use Rattle.record.specs.Sizes.{recordBytes}
+use Rattle.record.specs.Layout.{bytesOf, allBytes}
+use Rattle.record.proofs.BytesOf.{length-bytesOf}
+use Rattle.record.proofs.AllBytes.{length-allBytes, allBytes-append}
+use Rattle.store.specs.Order.{inBucket}
+use Rattle.store.specs.Columns.{Columns}
+use Rattle.operator.specs.declared.Operator.{Operator}
+use Rattle.operator.specs.Meters.{meterCount, addAll}
+use Rattle.operator.specs.Results.{plain}
+use Rattle.operator.specs.Work.{close, work}
+use Rattle.operator.proofs.Adding.{addAll-length}
+use Rattle.operator.proofs.Results.{givers-most}
+use Rattle.operator.proofs.Closing.{window-results-length, close-records, work-number}
+use Rattle.protocol.specs.Node.{keptOf}
+use Rattle.protocol.specs.Rules.{worked, boundaryAt}
+use Rattle.node.specs.declared.State.{State}
+use Rattle.node.specs.Sizes.{areaBytes}
+use Rattle.node.specs.View.{view}
+
+-- ---- a bucket's results
+
+module _ (st : State) (x : Columns) (kind j : ℕ) where
+  number-moves : worked (st .settings) kind j (view st x) .operator .number ≡ st .operator .number + length (worked (st .settings) kind j (view st x) .records)
+  unfolding worked view
+  number-moves = work-number (st .settings) kind j (inBucket (st .settings .bucket) j (keptOf (view st x .lines))) (st .operator)
+
+  pub few-results : length (st .operator .meters) ≡ meterCount → length (worked (st .settings) kind j (view st x) .records) ≤ meterCount
+  unfolding worked view work
+  few-results h =
+      let o : Operator = addAll (st .settings) (st .operator) (inBucket (st .settings .bucket) j (keptOf (view st x .lines))) in
+      elim (closesWindow (st .settings .window) j) as
+      (λ b. length (cond b (close (st .settings) kind j o) (record { operator = o; records = [] }) .records) ≤ meterCount) [
+        | true ↦
+            rw (close-records (st .settings) kind j o)
+            (omega (arith, window-results-length (st .settings) kind j o, givers-most (o .meters), addAll-length (st .settings) (st .operator) (inBucket (st .settings .bucket) j (keptOf (view st x .lines)))))
+        | false ↦ omega arith
+      ]
+
+pub length-inFront : (bytes area : List ℕ) → length bytes ≤ length area → length (inFront bytes area) ≡ length area
+unfolding inFront
+length-inFront bytes area h = simp (length-append, length-drop) (omega arith)
+
+-- what a bucket's work gave: the numbering moved on by the results, which the area holds
+pub record Given (o next : Operator) (results : List Record) (area area′ : List ℕ) : Type 0 where
+  pub later : o .number ≤ next .number
+  pub count : next .number - o .number ≡ length results
+  pub few : length results ≤ meterCount
+  pub same : length area′ ≡ length area
+  pub room : (next .number - o .number) * recordBytes + recordBytes ≤ length area′
+
+pub work-given : (st : State) (x : Columns) (kind j : ℕ) (next : Operator) (area area′ : List ℕ) → length (st .operator .meters) ≡ meterCount → areaBytes ≤ length area → next ≡ worked (st .settings) kind j (view st x) .operator → area′ ≡ inFront (allBytes (worked (st .settings) kind j (view st x) .records)) area → Given (st .operator) next (worked (st .settings) kind j (view st x) .records) area area′
+work-given st x kind j next area area′ meters room e g =
+    let results : List Record = worked (st .settings) kind j (view st x) .records in
+    let moved : next .number ≡ st .operator .number + length results = ap (λ (o : Operator). o .number) e ∙ number-moves st x kind j in
+    let few : length results ≤ meterCount = few-results st x kind j meters in
+    let same : length area′ ≡ length area = ap length g ∙ length-inFront (allBytes results) area (omega (arith, length-allBytes results)) in
+    record {
+      later = omega arith;
+      count = omega arith;
+      few = few;
+      same = same;
+      room = omega arith;
+    }
+
+-- ---- the boundary behind them
+
+pub no-boundary : (s : Settings) (j : ℕ) (results : List Record) → closesWindow (s .window) j ≡ false → results ++ boundaryAt s j ≡ results
+unfolding boundaryAt
+no-boundary s j results e = rw e (append-nil results)
+
+pub with-boundary : (s : Settings) (j : ℕ) (results : List Record) → closesWindow (s .window) j ≡ true → results ++ boundaryAt s j ≡ results ++ plain letterB 0 (record { 0 = bucketEnd (s .bucket) j }) ∷ []
+unfolding boundaryAt
+with-boundary s j results e = rw e
+
+pub one-more : (results : List Record) (r : Record) → length (results ++ r ∷ []) ≡ length results + 1
+one-more results r = length-append results (r ∷ [])
+
+front-behind : (a b area : List ℕ) → take (length a) (inFront a area) ++ b ++ drop (length a + length b) (inFront a area) ≡ inFront (a ++ b) area
+unfolding inFront
+front-behind a b area =
+    rw (
+      take-append-seam a (drop (length a) area),
+      drop-append-add a (drop (length a) area) (length b),
+      drop-drop (length b) (length a) area,
+      length-append a b,
+    )
+
+-- one record laid behind the results
+pub record-behind : (results : List Record) (r : Record) (area area₁ area₂ : List ℕ) (at : ℕ) → area₁ ≡ inFront (allBytes results) area → at ≡ length results * recordBytes → area₂ ≡ take at area₁ ++ bytesOf r ++ drop (at + recordBytes) area₁ → area₂ ≡ inFront (allBytes (results ++ r ∷ [])) area
+unfolding allBytes
+record-behind results r area area₁ area₂ at e g h =
+    let from : at ≡ length (allBytes results) = omega (arith, length-allBytes results) in
+    let wide : recordBytes ≡ length (bytesOf r) = omega (arith, length-bytesOf r) in
+    rw (allBytes-append results (r ∷ []), append-nil (bytesOf r), h, e, from, wide) (front-behind (allBytes results) (bytesOf r) area)

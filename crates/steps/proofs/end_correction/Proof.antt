@@ -1,0 +1,30 @@
+-- `steps::end_correction` meets its contract: one record, and no line changed. Assumes nothing.
+use mathlib.Core.Path.{_∙_, ap}
+use mathlib.Core.List.{List}
+use borrow.Author.Needs.{needs}
+use Rattle.area.specs.Laid.{inFront}
+use Rattle.record.specs.declared.Record.{Record}
+use Rattle.record.specs.Layout.{bytesOf}
+use Rattle.operator.proofs.FromPlace.{length-mapped}
+use Rattle.steps.proofs.Acts.{end-correction-acts}
+use Rattle.steps.proofs.end_correction.Statement.{statement}
+use Rattle.steps.proofs.end_correction.Tie as tie
+
+plain-requires : tie.Need-plain-requires
+plain-requires c κs = search needs
+
+put-record-requires : tie.Need-put-record-requires
+put-record-requires c κs = search needs
+
+same-length : tie.Need-same-length
+same-length c = search needs
+
+returns : tie.Need-returns
+returns c x room shape =
+    let start = c .before .before .before .before .before .before .before .before .before .before .before in
+    let a = start .args in
+    end-correction-acts (a .state) x (search (needs, length-mapped)) room shape (a .area .now) _
+    (c .before .before .put-record .ensures ∙ ap (λ (r : Record). inFront (bytesOf r) (a .area .now)) (c .before .before .before .before .plain .ensures))
+
+pub end-correction-spec : {M : Type 1} → statement M
+end-correction-spec = tie.close (tie.spec plain-requires put-record-requires same-length returns)

@@ -1,0 +1,12 @@
+-- `steps::plain` meets its contract. Assumes nothing.
+use mathlib.Core.Path.{refl}
+use Rattle.operator.specs.Results.{plain}
+use Rattle.steps.proofs.plain.Statement.{statement}
+use Rattle.steps.proofs.plain.Tie as tie
+
+returns : tie.Need-returns
+unfolding plain
+returns c = refl
+
+pub plain-spec : {M : Type 1} → statement M
+plain-spec = tie.close (tie.spec returns)

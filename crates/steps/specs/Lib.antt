@@ -1,0 +1,2 @@
+-- What a step's rules do.
+pub mod Acted
