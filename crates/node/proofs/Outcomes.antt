@@ -37,13 +37,14 @@ all-passed (t ∷ ts) h e =
     refl e
 
 -- a call that is accepted finds a free place where it takes one
-not-full : (s : Settings) (n : Node) (k : Call) → answerTo s n k ≡ 0 → isFull (lineOf n k) (kindOf (k .kind)) ≡ false
+pub not-full : (s : Settings) (n : Node) (k : Call) → answerTo s n k ≡ 0 → isFull (lineOf n k) (kindOf (k .kind)) ≡ false
 unfolding answerTo testsOf
 not-full s n k e = all-passed (testsOf s n k (kindOf (k .kind))) (omega arith) e .1 .1 .1 .1 .1 .1 .1 .0
 
 -- ---- an input
 
-onLine-small : (k : Call) (kind : Kind) (l : Line) → isFull l kind ≡ false → SmallLine l → SmallLine (onLine k kind l)
+-- a line that is not full stays within its share
+pub onLine-small : (k : Call) (kind : Kind) (l : Line) → isFull l kind ≡ false → SmallLine l → SmallLine (onLine k kind l)
 unfolding onLine isFull
 onLine-small k Kind.S l e h = simp length-append (omega (arith, leb-false))
 onLine-small k Kind.T l e h = simp length-append (omega (arith, leb-false))

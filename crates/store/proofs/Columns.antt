@@ -7,9 +7,9 @@ use native.Mathlib.Omega.{arith}
 use native.Mathlib.Nat.{zero-add, add-zero}
 use lib.IntN.{pos}
 use lib.ListN.{length, getD, drop, length-append, length-drop, length-map}
-use lib.Seq.{ext-getD, getD-append-add, getD-drop, drop-cons, drop-at}
+use lib.Seq.{sets, sets-eq, ext-getD, getD-append-add, getD-drop, drop-cons, drop-at}
 use Rattle.store.specs.declared.Reading.{Reading}
-use Rattle.store.specs.Columns.{withRows, rows, rowsFrom, rowAt, storeLength, Columns, zeroed}
+use Rattle.store.specs.Columns.{withRows, withRowsAt, rows, rowsFrom, rowAt, storeLength, Columns, zeroed}
 
 -- ---- how long
 
@@ -178,4 +178,26 @@ withRows-rows x n h =
       arrivals = column-back (λ (r : Reading). r .arrival .0) 0 (x .arrivals) x n (λ i. refl) (r .arrivals) t;
       kinds = column-back (λ (r : Reading). r .kind) 0 (x .kinds) x n (λ i. refl) (r .kinds) t;
       meters = column-back (λ (r : Reading). r .meter) 0 (x .meters) x n (λ i. refl) (r .meters) t;
+    }
+
+-- ---- rows from the first place on
+
+column-front : {A : Type 0} (f : Reading → A) (rs : List Reading) (l : List A) → length rs ≤ length l → sets l 0 (map f rs) ≡ map f rs ++ drop (length rs) l
+column-front f rs l h =
+    let n : 0 + length (map f rs) ≡ length rs = zero-add (length (map f rs)) ∙ length-map rs f in
+    sets-eq (map f rs) l 0 (omega arith) ∙ rw n
+
+-- rows written from the first place on are laid in front
+pub withRowsAt-front : (x : Columns) (rs : List Reading) → length rs ≤ storeLength x → withRowsAt x 0 rs ≡ withRows x rs
+unfolding withRowsAt withRows
+withRowsAt-front x rs h =
+    let r : Room (length rs) x = room (length rs) x h in
+    λ t.
+    record {
+      ids = column-front (λ (r : Reading). r .id) rs (x .ids) (r .ids) t;
+      times = column-front (λ (r : Reading). r .time .0) rs (x .times) (r .times) t;
+      values = column-front (λ (r : Reading). r .value) rs (x .values) (r .values) t;
+      arrivals = column-front (λ (r : Reading). r .arrival .0) rs (x .arrivals) (r .arrivals) t;
+      kinds = column-front (λ (r : Reading). r .kind) rs (x .kinds) (r .kinds) t;
+      meters = column-front (λ (r : Reading). r .meter) rs (x .meters) (r .meters) t;
     }

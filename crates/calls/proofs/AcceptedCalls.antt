@@ -1,0 +1,192 @@
+-- An accepted call, done: a step where it names no line, else an input on the line that it names. That only a step names none is the test
+-- of the line's number, by cases on the kind; what the input leaves on its line is carried to the whole state and store. Assumes nothing.
+use Prim.Native.Nat.{ℕ, _+_, _*_, _-_, _≤_, _<_}
+use mathlib.Core.Path.{_≡_, refl, sym, _∙_, ap}
+use mathlib.Core.Bool.{true, false, not, _&&_}
+use mathlib.Core.List.{List, [], _∷_, map}
+use native.Mathlib.Omega.{arith}
+use borrow.Author.Tests.{eqb-true, eq-eqb, not-false, lt-ltb}
+use lib.Dec.{leb}
+use lib.ListN.{length, getD, set, length-take}
+use Rattle.area.specs.Laid.{inFront}
+use Rattle.clock.specs.declared.ArrivalTick.{ArrivalTick}
+use Rattle.settings.specs.declared.Settings.{Settings}
+use Rattle.settings.specs.Limits.{maxLines}
+use Rattle.journal.specs.declared.Call.{Call}
+use Rattle.journal.specs.declared.CallRead.{CallRead}
+use Rattle.journal.specs.declared.CallRead.the-variants as CallRead
+use Rattle.record.specs.Layout.{allBytes}
+use Rattle.store.specs.declared.Reading.{Reading}
+use Rattle.store.specs.Sizes.{readingsPerLine}
+use Rattle.store.specs.Columns.{Columns, storeLength, rowsFrom, withKept, share}
+use Rattle.store.proofs.Pairs.{every-index}
+use Rattle.store.proofs.Columns.{length-rowsFrom}
+use Rattle.columns.specs.Places.{rises}
+use Rattle.shares.proofs.Rows.{take-rows, ids-share}
+use Rattle.protocol.specs.Kinds.{Kind, kindOf}
+use Rattle.protocol.specs.Node.{Line, Node, noLine, onLine}
+use Rattle.protocol.specs.Rules.{Outcome, ruleOf, act}
+use Rattle.protocol.specs.Refusals.{firstFailed, lineOf, wrongLine, isFull, testsOf, answerTo}
+use Rattle.protocol.specs.Calls.{input, done, accepted}
+use Rattle.protocol.proofs.Passed.{none-failed}
+use Rattle.protocol.proofs.Faults.{line-iff}
+use Rattle.protocol.proofs.Acceptance.{accepted-is-done}
+use Rattle.node.specs.declared.LineHead.{LineHead}
+use Rattle.node.specs.declared.State.{State}
+use Rattle.node.specs.View.{viewLine, places, view, headOf, putState, putColumns}
+use Rattle.node.specs.Calls.{Called, hostTests, calledWith}
+use Rattle.node.proofs.Limits.{limits-hold}
+use Rattle.node.proofs.Shares.{SmallLine}
+use Rattle.node.proofs.View.{Fits, view-sized}
+use Rattle.node.proofs.Shape.{Rising, KeptShape, inShape-facts}
+use Rattle.node.proofs.Outcomes.{not-full, onLine-small}
+use Rattle.node.proofs.Calls.{HostPassed, host-passed}
+use Rattle.node.proofs.AfterCalls.{shape-fits}
+use Rattle.node.proofs.OneLine.{line-of, head-small, heads-line, putColumns-line}
+
+-- ---- step or input
+
+line-passed : (s : Settings) (n : Node) (k : Call) → answerTo s n k ≡ 0 → wrongLine s (kindOf (k .kind)) (k .line) ≡ false
+unfolding answerTo testsOf
+line-passed s n k e = none-failed (testsOf s n k (kindOf (k .kind))) (omega arith) e .1 .0
+
+module _ (s : Settings) (n : Node) (k : Call) where
+  not-none : not (leb 1 (k .line) && leb (k .line) (s .lines)) ≡ false → k .line ≡ 0 → ⊥
+  not-none e z = omega (arith, line-iff s (k .line) .0 e)
+
+  -- a call that names no line is a step
+  step-done : (kind : Kind) → wrongLine s kind (k .line) ≡ false → k .line ≡ 0 → done s n k kind ≡ act s n (ruleOf s n (k .now))
+  unfolding wrongLine done
+  step-done Kind.S e z = absurd (not-none e z)
+  step-done Kind.T e z = absurd (not-none e z)
+  step-done Kind.B e z = absurd (not-none e z)
+  step-done Kind.U e z = absurd (not-none e z)
+  step-done Kind.R e z = absurd (not-none e z)
+  step-done Kind.P e z = refl
+
+  -- a call that names a line is an input on it
+  abbrev InputOn : Kind → Type 0
+  InputOn kind = ((1 ≤ k .line) × (k .line ≤ s .lines)) × (done s n k kind ≡ input n k kind)
+
+  input-done : (kind : Kind) → wrongLine s kind (k .line) ≡ false → (k .line ≡ 0 → ⊥) → InputOn kind
+  unfolding wrongLine done
+  input-done Kind.S e h = (line-iff s (k .line) .0 e, refl)
+  input-done Kind.T e h = (line-iff s (k .line) .0 e, refl)
+  input-done Kind.B e h = (line-iff s (k .line) .0 e, refl)
+  input-done Kind.U e h = (line-iff s (k .line) .0 e, refl)
+  input-done Kind.R e h = (line-iff s (k .line) .0 e, refl)
+  input-done Kind.P e h = absurd (h (eqb-true _ _ (not-false _ e)))
+
+-- ---- laid down
+
+-- the state with its clock set
+abbrev pub atTick : State → ArrivalTick → State
+atTick st now =
+    record {
+      operator = st .operator;
+      checkpoint = st .checkpoint;
+      heads = st .heads;
+      settings = st .settings;
+      clock = now;
+      c = st .c;
+      p = st .p;
+      phase = st .phase;
+    }
+
+-- an outcome laid down, and the clock set
+abbrev laidAt : State → Columns → List ℕ → ArrivalTick → Outcome → Called
+laidAt st x area now o =
+    record {
+      answer = 0;
+      records = length (o .records);
+      state = atTick (putState st (o .node)) now;
+      columns = putColumns st x (o .node);
+      area = inFront (allBytes (o .records)) area;
+    }
+
+module _ (st : State) (x : Columns) (area : List ℕ) (k : Call) (ok : answerTo (st .settings) (view st x) k ≡ 0) where
+  called-laid : (o : Outcome) → done (st .settings) (view st x) k (kindOf (k .kind)) ≡ o → calledWith st x area (CallRead.Accepted k) ≡ laidAt st x area (k .now) o
+  unfolding calledWith accepted putState putColumns
+  called-laid o e =
+      rw (eq-eqb (answerTo (st .settings) (view st x) k) 0 ok, accepted-is-done (st .settings) (view st x) k ok, e)
+
+  abbrev stepped : Outcome
+  stepped = act (st .settings) (view st x) (ruleOf (st .settings) (view st x) (k .now))
+
+  -- what the function of a step ensures is what the call leaves
+  pub step-laid : k .line ≡ 0 → {next : State} {n : ℕ} {y : Columns} {bytes : List ℕ} → next ≡ putState st (stepped .node) → n ≡ length (stepped .records) → y ≡ putColumns st x (stepped .node) → bytes ≡ inFront (allBytes (stepped .records)) area → record { answer = 0; records = n; state = atTick next (k .now); columns = y; area = bytes } ≡ calledWith st x area (CallRead.Accepted k)
+  step-laid z e f g h =
+      (λ t. record { answer = 0; records = f t; state = atTick (e t) (k .now); columns = g t; area = h t }) ∙
+      sym (called-laid stepped (step-done (st .settings) (view st x) k (kindOf (k .kind)) (line-passed (st .settings) (view st x) k ok) z))
+
+-- ---- an input
+
+-- ids that rise pass their test
+rising-ids : (rs : List Reading) → Rising rs → rises (map (λ (r : Reading). r .id) rs) ≡ true
+unfolding rises
+rising-ids [] e = refl
+rising-ids (r ∷ []) e = refl
+rising-ids (r ∷ q ∷ rs) e = rw (lt-ltb (r .id) (q .id) (e .0)) (rising-ids (q ∷ rs) (e .1))
+
+-- the line with this head whose share begins at this place
+abbrev pub lineFrom : LineHead → Columns → ℕ → Line
+lineFrom head x base = viewLine head (rowsFrom x base readingsPerLine)
+
+-- what the function of an input asks for
+abbrev pub InputReady : LineHead → Columns → ℕ → Call → Type 0
+InputReady head x base k =
+    (base + readingsPerLine ≤ storeLength x) × (head .kept ≤ readingsPerLine) ×
+    (isFull (lineFrom head x base) (kindOf (k .kind)) ≡ false) ×
+    (rises (share base (head .kept) (x .ids)) ≡ true)
+
+module _ (st : State) (x : Columns) (area : List ℕ) (k : Call) (ok : answerTo (st .settings) (view st x) k ≡ 0) (host : firstFailed (hostTests st x area) ≡ 0) (named : k .line ≡ 0 → ⊥) where
+  on-line : InputOn (st .settings) (view st x) k (kindOf (k .kind))
+  on-line = input-done (st .settings) (view st x) k (kindOf (k .kind)) (line-passed (st .settings) (view st x) k ok) named
+
+  -- the line that it names is one of those that there are
+  line-last : k .line - 1 < st .settings .lines
+  line-last = omega (arith, on-line .0)
+
+  pub line-below : k .line - 1 < 8
+  line-below =
+      omega (arith, line-last, limits-hold (st .settings) (inShape-facts st x (host-passed st x area host .shape) .limits) .lines)
+
+  abbrev head : LineHead
+  head = getD (st .heads) (k .line - 1) (headOf noLine)
+
+  abbrev base : ℕ
+  base = (k .line - 1) * readingsPerLine
+
+  module _ (eight : length (st .heads) ≡ maxLines) where
+    fitted : Fits st x
+    fitted =
+        let h : HostPassed st x area = host-passed st x area host in
+        shape-fits st x eight (h .room) (h .shape)
+
+    same-line : lineOf (view st x) k ≡ lineFrom head x base
+    unfolding lineOf
+    same-line = line-of st x fitted (k .line - 1) line-last
+
+    -- it has a place for the reading
+    free : isFull (lineFrom head x base) (kindOf (k .kind)) ≡ false
+    free = rw same-line at (not-full (st .settings) (view st x) k ok)
+
+    pub input-ready : InputReady head x base k
+    unfolding places viewLine lineOf
+    input-ready =
+        let small : head .kept ≤ readingsPerLine = head-small st x fitted (k .line - 1) line-last in
+        let below : k .line - 1 < length (view st x .lines) = omega (arith, line-last, view-sized st x (fitted .heads) .lines) in
+        let shape : KeptShape (lineOf (view st x) k) = every-index KeptShape (view st x .lines) (k .line - 1) noLine below (inShape-facts st x (host-passed st x area host .shape) .lines) in
+        let wide : base + readingsPerLine ≤ storeLength x = omega (arith, line-last, fitted .room) in
+        let kept : lineOf (view st x) k .kept ≡ rowsFrom x base (head .kept) = ap (λ (l : Line). l .kept) same-line ∙ take-rows x base readingsPerLine (head .kept) small in
+        let ids : rises (map (λ (r : Reading). r .id) (rowsFrom x base (head .kept))) ≡ true = rw kept at (rising-ids (lineOf (view st x) k .kept) (shape .rising)) in
+        (wide, small, free, rw (ids-share x base (head .kept) (omega arith)) at ids)
+
+    -- what the function of an input ensures of line and share is what the call leaves
+    pub input-laid : {after : LineHead} {y : Columns} → after ≡ headOf (onLine k (kindOf (k .kind)) (lineFrom head x base)) → y ≡ withKept x base (head .kept) (onLine k (kindOf (k .kind)) (lineFrom head x base) .kept) → record { answer = 0; records = 0; state = record { operator = st .operator; checkpoint = st .checkpoint; heads = set (st .heads) (k .line - 1) after; settings = st .settings; clock = k .now; c = st .c; p = st .p; phase = st .phase }; columns = y; area = area } ≡ calledWith st x area (CallRead.Accepted k)
+    unfolding input putState allBytes inFront view viewLine
+    input-laid e f =
+        let kind : Kind = kindOf (k .kind) in
+        let small : SmallLine (onLine k kind (lineFrom head x base)) = onLine-small k kind (lineFrom head x base) free (omega (arith, length-take (head .kept) (rowsFrom x base readingsPerLine), length-rowsFrom x base readingsPerLine)) in
+        rw (e, f, ← heads-line st x fitted (k .line - 1) line-last (onLine k kind), ← putColumns-line st x fitted (k .line - 1) line-last (onLine k kind) (input (view st x) k kind .node) refl small)
+        (sym (called-laid st x area k ok (input (view st x) k kind) (on-line .1)))
