@@ -1,6 +1,6 @@
 -- What each rule leaves of state, store and area, field by field: where no line changes, heads and store stay as they were; where a bucket
 -- is worked, they are what removing its readings makes of them. By the laws on view and put. Assumes nothing.
-use Prim.Native.Nat.{ℕ, suc, _+_, _≤_}
+use Prim.Native.Nat.{ℕ, _+_, _≤_}
 use mathlib.Core.Path.{_≡_, refl, sym, _∙_, ap}
 use mathlib.Core.Bool.{true, false}
 use mathlib.Core.List.{List, [], _∷_, _++_, map, append-nil}

@@ -1,7 +1,7 @@
 -- The records of a bucket's work: as many as the numbering moved on, no more than there are meters, and behind them the boundary of a window
 -- that the bucket closes. By the laws on the operator's work and on bytes laid in front of an area. Assumes nothing.
 use Prim.Native.Nat.{ℕ, _+_, _*_, _-_, _≤_}
-use mathlib.Core.Path.{_≡_, refl, _∙_, ap}
+use mathlib.Core.Path.{_≡_, _∙_, ap}
 use mathlib.Core.Bool.{true, false, cond}
 use mathlib.Core.List.{List, [], _∷_, _++_, append-nil}
 use native.Mathlib.Omega.{arith}

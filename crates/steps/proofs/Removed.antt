@@ -1,24 +1,24 @@
 -- A bucket's readings removed line by line: each turn writes one line's share and head, and what is left to do from then on comes to the
 -- same; when no line is left, it is done. A share is written in front of its own rows, which change nothing. Assumes nothing.
-use Prim.Native.Nat.{ℕ, zero, suc, _+_, _*_, _-_, _≤_, _<_, max}
-use mathlib.Core.Path.{_≡_, refl, sym, _∙_, ap, ap₂}
+use Prim.Native.Nat.{ℕ, suc, _+_, _*_, _-_, _≤_, _<_, max}
+use mathlib.Core.Path.{_≡_, refl, sym, _∙_, ap}
 use mathlib.Core.Bool.{not}
-use mathlib.Core.List.{List, [], _∷_, _++_, map, append-nil, append-assoc}
+use mathlib.Core.List.{List, [], _∷_, _++_, map, append-assoc}
 use native.Mathlib.Numerals.{add-one}
 use native.Mathlib.Omega.{arith}
 use lib.ListN.{length, getD, take, drop, set, replicate, length-append, length-replicate, length-set, length-map, take-append-drop}
-use lib.Seq.{take-take, take-suc-set, drop-set-lt, drop-cons}
+use lib.Seq.{take-suc-set, drop-set-lt, drop-cons}
 use Rattle.settings.specs.declared.Settings.{Settings}
 use Rattle.store.specs.declared.Reading.{Reading}
 use Rattle.store.specs.Sizes.{readingsPerLine}
 use Rattle.store.specs.Lists.{keep, Every}
 use Rattle.store.specs.Order.{isIn}
 use Rattle.store.specs.Columns.{Columns, storeLength, rowsFrom, rows, zeroed, withRows, withRowsAt, withKept}
-use Rattle.store.proofs.Columns.{length-rowsFrom, length-rows}
+use Rattle.store.proofs.Columns.{length-rowsFrom}
 use Rattle.shares.proofs.Lists.{length-keep}
 use Rattle.shares.proofs.Rows.{take-rows, own-rows}
-use Rattle.shares.proofs.Written.{SameLengths, rows-join, rows-behind, lengths-written, same-lengths, lengths-then, storeLength-same, rows-front}
-use Rattle.protocol.specs.Node.{Line, noLine}
+use Rattle.shares.proofs.Written.{SameLengths, rows-join, rows-behind, lengths-written, same-lengths, lengths-then, rows-front}
+use Rattle.protocol.specs.Node.{Line}
 use Rattle.protocol.specs.Rules.{without}
 use Rattle.node.specs.declared.LineHead.{LineHead}
 use Rattle.node.specs.View.{viewLine, viewLines, headOf, headsWith, shareWith, sharesWith}

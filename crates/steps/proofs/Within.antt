@@ -1,9 +1,9 @@
 -- Times of the lines within 32 bits, from what holding the state and the columns tells: every head's boundary, and every time of the column.
 -- So a bucket that a rule works has an end, or a start, within 32 bits. By induction on the lines, and by cases on the rule's tests. Assumes
 -- nothing.
-use Prim.Native.Nat.{ℕ, zero, suc, _*_, _<_, _≤_, _^_}
+use Prim.Native.Nat.{ℕ, zero, suc, _<_, _≤_, _^_}
 use mathlib.Core.Path.{_≡_, refl}
-use mathlib.Core.Bool.{Bool, true, false, cond}
+use mathlib.Core.Bool.{Bool, true, false}
 use mathlib.Core.List.{List, [], _∷_, map}
 use native.Mathlib.Omega.{arith}
 use lib.ListN.{length, getD, take, drop}
@@ -14,15 +14,14 @@ use denote.Array.{each}
 use Rattle.clock.specs.declared.ArrivalTick.{ArrivalTick}
 use Rattle.clock.specs.Buckets.{bucketEnd}
 use Rattle.clock.specs.Windows.{windowStart}
-use Rattle.settings.specs.declared.Settings.{Settings}
 use Rattle.store.specs.declared.Reading.{Reading}
 use Rattle.store.specs.Sizes.{readingsPerLine}
 use Rattle.store.specs.Lists.{Every}
 use Rattle.store.specs.Columns.{Columns, rowAt, rowsFrom, rows}
-use Rattle.protocol.specs.Node.{Line, Node, isStable}
+use Rattle.protocol.specs.Node.{Line}
 use Rattle.protocol.specs.declared.Rule.{Rule}
 use Rattle.protocol.specs.declared.Rule.the-variants as Rule
-use Rattle.protocol.specs.Rules.{firstRule, isCorrecting, someOverdue, ruleOf}
+use Rattle.protocol.specs.Rules.{firstRule, ruleOf}
 use Rattle.node.specs.declared.LineHead.{LineHead}
 use Rattle.node.specs.declared.State.{State}
 use Rattle.node.specs.View.{viewLine, viewLines, places, view}

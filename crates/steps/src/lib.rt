@@ -102,15 +102,15 @@ fn withdraw(state: State, area: &mut [u8]) -> Stepped
     requires { ⌜ (recordBytes ≤ length (now area)) × (state .checkpoint .number < 2 ^ 32) ⌝ }
     ensures { λ r. ⌜ ((x : Columns) → places state ≤ storeLength x → inShape state x ≡ true → Acted Rules.Withdraw state x (now (area .entry)) (r .state) x (now (area .exit)) (r .records)) ⌝ }
 {
-    let checkpoint = state.checkpoint;
+    let last_stable = state.checkpoint;
     let heads = state.heads;
     let settings = state.settings;
     let clock = state.clock;
-    let undo = plain(record::UNDO, checkpoint.number as u32, ReadingTime(0));
+    let undo = plain(record::UNDO, last_stable.number as u32, ReadingTime(0));
     record::put_record(area, undo);
     let next = State {
-        operator: checkpoint,
-        checkpoint: checkpoint,
+        operator: last_stable,
+        checkpoint: last_stable,
         heads: heads,
         settings: settings,
         clock: clock,
@@ -148,7 +148,7 @@ fn stable_records(
 {
     let settings = state.settings;
     let operator = state.operator;
-    let c = state.c;
+    let stable_bucket = state.c;
     let next = work::work(
         state,
         ids,
@@ -158,17 +158,17 @@ fn stable_records(
         kinds,
         meters,
         record::STABLE,
-        c,
+        stable_bucket,
         area,
     );
     let results = next.number - operator.number;
-    if !clock::closes_window(settings.window, c) {
+    if !clock::closes_window(settings.window, stable_bucket) {
         return StableWork {
             operator: next,
             records: results as u32,
         };
     }
-    let end = clock::bucket_end(settings.bucket, c) as u32;
+    let end = clock::bucket_end(settings.bucket, stable_bucket) as u32;
     let boundary = plain(record::BOUNDARY, 0, ReadingTime(end));
     let at = results as usize * record::RECORD_BYTES;
     record::put_record(&mut area[at..], boundary);
@@ -196,9 +196,9 @@ fn work_stable(
     let heads = state.heads;
     let clock = state.clock;
     let phase = state.phase;
-    let c = state.c;
-    let work = stable_records(state, ids, times, values, arrivals, kinds, meters, area);
-    let next = work.operator;
+    let worked_bucket = state.c;
+    let given = stable_records(state, ids, times, values, arrivals, kinds, meters, area);
+    let next = given.operator;
     let left = remove(
         settings,
         heads,
@@ -208,7 +208,7 @@ fn work_stable(
         arrivals,
         kinds,
         meters,
-        c,
+        worked_bucket,
     );
     let after = State {
         operator: next,
@@ -216,13 +216,13 @@ fn work_stable(
         heads: left,
         settings: settings,
         clock: clock,
-        c: c + 1,
+        c: worked_bucket + 1,
         p: state.p + 1,
         phase: phase,
     };
     Stepped {
         state: after,
-        records: work.records,
+        records: given.records,
     }
 }
 
@@ -269,7 +269,7 @@ fn work_tentative(
     ensures { λ r. ⌜ Acted Rules.WorkTentative state (columnsOf (now (ids .entry)) (now (times .entry)) (now (values .entry)) (now (arrivals .entry)) (now (kinds .entry)) (now (meters .entry))) (now (area .entry)) (r .state) (columnsOf (now (ids .entry)) (now (times .entry)) (now (values .entry)) (now (arrivals .entry)) (now (kinds .entry)) (now (meters .entry))) (now (area .exit)) (r .records) ⌝ }
 {
     let operator = state.operator;
-    let checkpoint = state.checkpoint;
+    let stable = state.checkpoint;
     let heads = state.heads;
     let settings = state.settings;
     let clock = state.clock;
@@ -289,7 +289,7 @@ fn work_tentative(
     let records = (next.number - operator.number) as u32;
     let after = State {
         operator: next,
-        checkpoint: checkpoint,
+        checkpoint: stable,
         heads: heads,
         settings: settings,
         clock: clock,

@@ -1,6 +1,5 @@
 -- `steps::withdraw` meets its contract: one record, the checkpoint back, and no line changed. Assumes nothing.
 use mathlib.Core.Path.{_∙_, ap}
-use mathlib.Core.List.{List}
 use borrow.Author.Needs.{needs}
 use Rattle.area.specs.Laid.{inFront}
 use Rattle.record.specs.declared.Record.{Record}
