@@ -1,6 +1,7 @@
 //! Seeded journals and host-made states to try a merge box with.
 
 mod aim;
+mod crowded;
 mod day;
 mod host;
 mod host_fault;
@@ -26,6 +27,8 @@ pub enum Kind {
     Nasty,
     /// Texts broken at the level of bytes among sound ones.
     Malformed,
+    /// Seven or eight lines full of readings of every meter.
+    Crowded,
 }
 
 impl Kind {
@@ -35,7 +38,18 @@ impl Kind {
             "day" => Some(Kind::Day),
             "nasty" => Some(Kind::Nasty),
             "malformed" => Some(Kind::Malformed),
+            "crowded" => Some(Kind::Crowded),
             _ => None,
+        }
+    }
+
+    /// The name that stands for the kind.
+    pub fn name(self) -> &'static str {
+        match self {
+            Kind::Day => "day",
+            Kind::Nasty => "nasty",
+            Kind::Malformed => "malformed",
+            Kind::Crowded => "crowded",
         }
     }
 }
@@ -46,6 +60,7 @@ pub fn write_journal(kind: Kind, seed: u64, lines: u64, output: &mut dyn Write) 
         Kind::Day => day::write(seed, lines, output),
         Kind::Nasty => nasty::write(seed, lines, output),
         Kind::Malformed => malformed::write(seed, lines, output),
+        Kind::Crowded => crowded::write(seed, lines, output),
     }
 }
 

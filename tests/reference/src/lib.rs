@@ -2,6 +2,7 @@
 
 pub mod day_book;
 pub mod definitions;
+pub mod differential;
 pub mod generate;
 pub mod node;
 pub mod playback;

@@ -90,8 +90,18 @@ fn days_are_seldom_refused() {
 }
 
 #[test]
+fn crowded_journals_fill_lines_and_areas() {
+    let seen = printed(Kind::Crowded, 10, 3_000);
+    assert!(seen.is_superset(&answers(&[0, 14])));
+    let output: String = (0..10)
+        .map(|seed| merged(&journal(Kind::Crowded, seed, 3_000)))
+        .collect();
+    assert!(output.contains("records=65 "));
+}
+
+#[test]
 fn equal_seeds_give_equal_journals() {
-    for kind in [Kind::Day, Kind::Nasty, Kind::Malformed] {
+    for kind in [Kind::Day, Kind::Nasty, Kind::Malformed, Kind::Crowded] {
         assert_eq!(journal(kind, 5, 100), journal(kind, 5, 100));
         assert_ne!(journal(kind, 5, 100), journal(kind, 6, 100));
     }

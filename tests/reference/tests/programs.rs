@@ -31,6 +31,7 @@ fn programs_agree_with_the_library() {
         ("day", Kind::Day),
         ("nasty", Kind::Nasty),
         ("malformed", Kind::Malformed),
+        ("crowded", Kind::Crowded),
     ] {
         let generated = run_generate(&[name, "12", "3000"]);
         assert!(generated.status.success());

@@ -5,7 +5,7 @@ use std::process::ExitCode;
 
 use reference::generate::{write_journal, Kind};
 
-const USAGE: &str = "usage: generate day|nasty|malformed SEED LINES";
+const USAGE: &str = "usage: generate day|nasty|malformed|crowded SEED LINES";
 
 fn main() -> ExitCode {
     let arguments: Vec<String> = std::env::args().skip(1).collect();

@@ -153,7 +153,7 @@ fn mixed(journal: &mut Journal, count: i64) -> io::Result<()> {
     Ok(())
 }
 
-fn steps(journal: &mut Journal, count: i64) -> io::Result<()> {
+pub(super) fn steps(journal: &mut Journal, count: i64) -> io::Result<()> {
     for _ in 0..count {
         let call = aim(journal, 0, STEP);
         journal.put(&call)?;
@@ -190,7 +190,7 @@ fn tentative_burst(journal: &mut Journal) -> io::Result<()> {
 }
 
 /// Brings every line's boundary to about the same edge, then steps.
-fn catch_up(journal: &mut Journal) -> io::Result<()> {
+pub(super) fn catch_up(journal: &mut Journal) -> io::Result<()> {
     let length = u64::from(journal.state.settings.bucket);
     let ahead = u64::from(journal.state.c) + journal.random.between(1, 3) as u64;
     for line in 0..journal.state.lines().len() {
