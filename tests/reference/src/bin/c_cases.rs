@@ -1,0 +1,166 @@
+//! Writes cases for the two calls that C has, with the reference's answers: c-cases SEED COUNT.
+//!
+//! A case is the byte L or R, then its numbers, four bytes each with the low byte first, and then its
+//! bytes. L: whether the text has the form, its length; the text. R: the answer, the length written,
+//! the record's length, the area's length, the byte that the area is full of before the call; the
+//! record, and the area as the call must leave it.
+
+use std::io::{self, BufWriter, Write};
+use std::process::ExitCode;
+
+use reference::generate::{spoil_text, Random};
+use reference::record::{decode, encode, record_text, Record, RECORD_BYTES, RECORD_TEXT_LONGEST};
+use reference::refusal::answer;
+use reference::text::{has_form, write_call, Call, JOURNAL_LONGEST};
+
+const USAGE: &str = "usage: c-cases SEED COUNT";
+
+fn main() -> ExitCode {
+    let arguments: Vec<String> = std::env::args().skip(1).collect();
+    let Some((seed, count)) = read(&arguments) else {
+        eprintln!("{USAGE}");
+        return ExitCode::from(2);
+    };
+    match write_cases(seed, count) {
+        Ok(()) => ExitCode::SUCCESS,
+        Err(error) => {
+            eprintln!("c-cases: {error}");
+            ExitCode::FAILURE
+        }
+    }
+}
+
+fn read(arguments: &[String]) -> Option<(u64, u64)> {
+    let [seed, count] = arguments else {
+        return None;
+    };
+    Some((seed.parse().ok()?, count.parse().ok()?))
+}
+
+fn write_cases(seed: u64, count: u64) -> io::Result<()> {
+    let mut random = Random::new(seed);
+    let mut output = BufWriter::new(io::stdout().lock());
+    for number in 0..count {
+        if number % 2 == 0 {
+            write_line_case(&mut random, &mut output)?;
+        } else {
+            write_record_case(&mut random, &mut output)?;
+        }
+    }
+    output.flush()
+}
+
+fn write_numbers(output: &mut dyn Write, numbers: &[usize]) -> io::Result<()> {
+    for &number in numbers {
+        let word = u32::try_from(number).expect("lengths fit 32 bits");
+        output.write_all(&word.to_le_bytes())?;
+    }
+    Ok(())
+}
+
+fn write_line_case(random: &mut Random, output: &mut dyn Write) -> io::Result<()> {
+    let text = any_text(random);
+    output.write_all(b"L")?;
+    write_numbers(output, &[usize::from(has_form(&text)), text.len()])?;
+    output.write_all(&text)
+}
+
+/// A journal line, one with faults, lines joined, or any bytes.
+fn any_text(random: &mut Random) -> Vec<u8> {
+    let mut text = any_line(random);
+    match random.below(8) {
+        0..=2 => {}
+        3 | 4 => text = spoil_text(random, &text),
+        5 => {
+            let spoilt = spoil_text(random, &text);
+            text = spoil_text(random, &spoilt);
+        }
+        6 => text.extend(any_line(random)),
+        _ => text = any_bytes(random, 2 * JOURNAL_LONGEST as u64),
+    }
+    text
+}
+
+fn any_line(random: &mut Random) -> Vec<u8> {
+    let call = Call {
+        now: random.word(),
+        line: random.word() as u8,
+        kind: random.pick(b"STBURP"),
+        id: random.word(),
+        time: random.word(),
+        meter: random.word() as u8,
+        value: random.signed_word(),
+    };
+    let mut text = vec![0; JOURNAL_LONGEST];
+    let length = write_call(&call, &mut text).expect("a kind with a letter");
+    text.truncate(length);
+    text
+}
+
+fn any_bytes(random: &mut Random, limit: u64) -> Vec<u8> {
+    let length = random.below(limit);
+    (0..length).map(|_| random.bits() as u8).collect()
+}
+
+fn write_record_case(random: &mut Random, output: &mut dyn Write) -> io::Result<()> {
+    let record = any_record_bytes(random);
+    let fill = random.bits() as u8;
+    let mut area = vec![fill; any_area_length(random, &record)];
+    let outcome = record_text(&record, &mut area);
+    let answer = answer(&outcome) as usize;
+    let written = outcome.unwrap_or(0);
+    output.write_all(b"R")?;
+    let numbers = [answer, written, record.len(), area.len(), usize::from(fill)];
+    write_numbers(output, &numbers)?;
+    output.write_all(&record)?;
+    output.write_all(&area)
+}
+
+/// A record, one with a fault, or any bytes.
+fn any_record_bytes(random: &mut Random) -> Vec<u8> {
+    let mut bytes = encode(&any_record(random)).to_vec();
+    let place = random.below(RECORD_BYTES as u64) as usize;
+    match random.below(12) {
+        0 => bytes[0] = random.bits() as u8,
+        1 => bytes[random.pick(&[2, 3])] = random.bits() as u8,
+        2 => bytes[place] ^= 1 << random.below(8),
+        3 => bytes.truncate(place),
+        4 => bytes.extend(any_bytes(random, RECORD_BYTES as u64)),
+        5 => bytes = any_bytes(random, 2 * RECORD_BYTES as u64),
+        _ => {}
+    }
+    bytes
+}
+
+fn any_record(random: &mut Random) -> Record {
+    let wide = random.bits() as i64 >> random.below(64);
+    let mean = random.signed_word();
+    Record {
+        kind: random.pick(b"STUBR"),
+        meter: random.word() as u8,
+        id: random.word(),
+        time: random.word(),
+        count: random.word(),
+        sum: random.pick(&[0, -1, i64::MIN, i64::MAX, wide, i64::from(mean)]),
+        mean,
+        last: random.signed_word(),
+    }
+}
+
+/// Lengths about that of the record's text, the longest and none at all.
+fn any_area_length(random: &mut Random, record: &[u8]) -> usize {
+    let mut room = [0; RECORD_TEXT_LONGEST];
+    let length = decode(record).map_or(0, |_| record_text(record, &mut room).unwrap_or(0));
+    let any = random.below(2 * RECORD_TEXT_LONGEST as u64) as usize;
+    let less = length.saturating_sub(1);
+    random.pick(&[
+        0,
+        less,
+        less,
+        length,
+        length,
+        length + 1,
+        RECORD_TEXT_LONGEST,
+        any,
+    ])
+}
