@@ -9,12 +9,14 @@ mod journal;
 mod malformed;
 mod nasty;
 mod random;
+mod workload;
 
 pub use aim::{fitting_call, spoil_call};
 pub use host::{host_case, host_state, Host, HostCase};
 pub use host_fault::{break_shape, FAULTS};
 pub use malformed::spoil_text;
 pub use random::Random;
+pub use workload::{write_still, write_workload, Workload, WORKLOADS};
 
 use std::io::{self, Write};
 

@@ -2,7 +2,7 @@
 
 use std::io::{self, BufRead, BufReader, BufWriter, ErrorKind, Read, Write};
 
-use crate::node::{call_in_shape, open, Reading, State, LINES, SHARE};
+use crate::node::{call, call_in_shape, open, Reading, State, LINES, SHARE};
 use crate::record::{decode, spell, AREA_BYTES, RECORD_BYTES};
 use crate::refusal::answer;
 use crate::text::{Pen, LINE_END};
@@ -12,8 +12,20 @@ const BUFFER: usize = 1 << 16;
 /// The bytes kept of a line; each form is shorter, so a cut line still lacks it.
 const LINE_ROOM: usize = 128;
 
+/// What makes a call: state, store, text and area in; the answer and the number of records out.
+type MakeCall = fn(&mut State, &mut [Reading], &[u8], &mut [u8]) -> (u32, usize);
+
 /// Reads the settings line and the journal lines, and prints what each of them gives.
 pub fn merge<I: Read, O: Write>(input: I, output: O) -> io::Result<()> {
+    merge_by(call, input, output)
+}
+
+/// The same without refusals 3 and 4, which no journal can get.
+pub fn merge_unchecked<I: Read, O: Write>(input: I, output: O) -> io::Result<()> {
+    merge_by(call_in_shape, input, output)
+}
+
+fn merge_by<I: Read, O: Write>(make: MakeCall, input: I, output: O) -> io::Result<()> {
     let mut lines = Lines::new(input);
     let mut output = BufWriter::with_capacity(BUFFER, output);
     lines.next()?;
@@ -22,13 +34,14 @@ pub fn merge<I: Read, O: Write>(input: I, output: O) -> io::Result<()> {
     let word = opened.as_ref().map_or("none", |state| state.word.name());
     print_answer(&mut output, answer(&opened), 0, word)?;
     if let Ok(state) = opened {
-        play(&mut lines, &mut output, state, &mut store)?;
+        play(make, &mut lines, &mut output, state, &mut store)?;
     }
     output.flush()
 }
 
 /// Plays every line after an accepted settings line.
 fn play<I: Read, O: Write>(
+    make: MakeCall,
     lines: &mut Lines<I>,
     output: &mut O,
     mut state: State,
@@ -36,7 +49,7 @@ fn play<I: Read, O: Write>(
 ) -> io::Result<()> {
     let mut area = [0; AREA_BYTES];
     while lines.next()? {
-        let (answer, records) = call_in_shape(&mut state, store, lines.line(), &mut area);
+        let (answer, records) = make(&mut state, store, lines.line(), &mut area);
         print_answer(output, answer, records, state.word.name())?;
         for bytes in area.chunks_exact(RECORD_BYTES).take(records) {
             let record = decode(bytes).expect("a record just laid down");

@@ -1,6 +1,6 @@
 //! Refusal 4: whether a state and a store long enough for it are in shape.
 
-use super::operator::{Meter, METERS};
+use super::operator::{Meter, Operator, METERS};
 use super::state::{State, Word};
 use super::store::{kept, Reading, SHARE};
 use crate::text::{STABLE, TENTATIVE};
@@ -17,8 +17,8 @@ pub fn in_shape(state: &State, store: &[Reading]) -> bool {
         && kept_in_shape(state, store)
         && buckets_in_shape(state)
         && numbering_in_shape(state)
-        && state.operator.meters.iter().all(meter_in_shape)
-        && state.checkpoint.meters.iter().all(meter_in_shape)
+        && meters_in_shape(&state.operator)
+        && meters_in_shape(&state.checkpoint)
 }
 
 fn heads_in_shape(state: &State) -> bool {
@@ -32,11 +32,15 @@ fn kept_in_shape(state: &State, store: &[Reading]) -> bool {
     (0..state.lines().len()).all(|line| share_in_shape(kept(state, store, line)))
 }
 
+/// Whether a share's readings are S or T, of known meters, each id above the one before it. The
+/// whole share is looked at, without an early end: that is the quicker way where all is well.
 fn share_in_shape(readings: &[Reading]) -> bool {
-    let sound = |reading: &Reading| {
-        (reading.kind == STABLE || reading.kind == TENTATIVE) && (reading.meter as usize) < METERS
-    };
-    readings.iter().all(sound) && readings.windows(2).all(|pair| pair[0].id < pair[1].id)
+    let sound = readings.iter().fold(true, |sound, reading| {
+        let is_reading = (reading.kind == STABLE) | (reading.kind == TENTATIVE);
+        sound & is_reading & (usize::from(reading.meter) < METERS)
+    });
+    let pairs = readings.windows(2);
+    sound & pairs.fold(true, |rise, pair| rise & (pair[0].id < pair[1].id))
 }
 
 fn buckets_in_shape(state: &State) -> bool {
@@ -54,9 +58,14 @@ fn numbering_in_shape(state: &State) -> bool {
         && (state.p > state.c || newest <= stable)
 }
 
+fn meters_in_shape(operator: &Operator) -> bool {
+    operator.meters.iter().all(meter_in_shape)
+}
+
+/// Whether the count is within its limit, and the sum one of so many values of 32 bits: not further
+/// above the least such sum than the greatest is. A sum below the least wraps to a large number.
 fn meter_in_shape(meter: &Meter) -> bool {
-    let count = i64::from(meter.count);
-    let least = i64::from(i32::MIN) * count;
-    let greatest = i64::from(i32::MAX) * count;
-    meter.count <= GREATEST_COUNT && least <= meter.sum && meter.sum <= greatest
+    let count = u64::from(meter.count);
+    let above_least = (meter.sum as u64).wrapping_add(count << 31);
+    meter.count <= GREATEST_COUNT && above_least <= count * u64::from(u32::MAX)
 }

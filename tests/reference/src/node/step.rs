@@ -87,11 +87,13 @@ impl Output<'_> {
 /// Whether some kept reading, not earlier than bucket p, has waited as long as the hold.
 fn is_due(state: &State, store: &[Reading]) -> bool {
     let start = times_of(state.p, state.settings.bucket).start;
-    let hold = u64::from(state.settings.hold);
-    let now = u64::from(state.clock);
-    let due = |reading: &Reading| {
-        u64::from(reading.time) >= start && u64::from(reading.arrival) + hold <= now
+    let (Ok(start), Some(latest)) = (
+        u32::try_from(start),
+        state.clock.checked_sub(state.settings.hold),
+    ) else {
+        return false;
     };
+    let due = |reading: &Reading| reading.time >= start && reading.arrival <= latest;
     (0..state.lines().len()).any(|line| kept(state, store, line).iter().any(due))
 }
 
