@@ -23,6 +23,8 @@ pub enum Workload {
     FullStore,
     /// Short buckets of 64 meters, each the end of a window: nearly a record for each line.
     ManyRecords,
+    /// The same readings with windows of 16 buckets, so that every meter is in use at nearly every call.
+    LongWindows,
     /// Malformed and refused lines, and some accepted ones among them.
     Refused,
     /// A line away for long, then back: 2,048 readings worked in one bucket, steps between them.
@@ -30,10 +32,11 @@ pub enum Workload {
 }
 
 /// The workloads with their names on the command line.
-pub const WORKLOADS: [(&str, Workload); 5] = [
+pub const WORKLOADS: [(&str, Workload); 6] = [
     ("day", Workload::Day),
     ("full-store", Workload::FullStore),
     ("many-records", Workload::ManyRecords),
+    ("long-windows", Workload::LongWindows),
     ("refused", Workload::Refused),
     ("catch-up", Workload::CatchUp),
 ];
@@ -53,6 +56,14 @@ pub fn write_workload(
         }
         Workload::ManyRecords => {
             let site = Site::open(settings(2, 100, 50), seed, lines, output)?;
+            site.many_records()
+        }
+        Workload::LongWindows => {
+            let settings = Settings {
+                window: 16,
+                ..settings(2, 100, 50)
+            };
+            let site = Site::open(settings, seed, lines, output)?;
             site.many_records()
         }
         Workload::Refused => {
