@@ -4,7 +4,6 @@ ghost use Rattle.journal.specs.declared.CallRead.the-variants as Read;
 ghost use Rattle.store.specs.Columns.{columnsOf};
 ghost use Rattle.protocol.specs.Refusals.{firstFailed, answerTo};
 ghost use Rattle.node.specs.View.{view};
-ghost use Rattle.settings.specs.declared.Settings.{Settings as Limits};
 ghost use Rattle.node.specs.Opening.{freshState, closedState, openedOn};
 ghost use Rattle.node.specs.Calls.{hostTests, calledWith, calledOn};
 use clock::ArrivalTick;

@@ -1,0 +1,2 @@
+-- Laws on the cursor.
+pub mod Shifted

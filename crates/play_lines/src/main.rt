@@ -1,0 +1,4 @@
+// Plays a journal of eight lines.
+fn main() {
+    playback::run();
+}

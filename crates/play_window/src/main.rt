@@ -1,0 +1,4 @@
+// Plays a journal with windows of sixteen buckets.
+fn main() {
+    playback::run();
+}

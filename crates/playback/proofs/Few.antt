@@ -1,0 +1,106 @@
+-- No call gives more records than 65, whatever the state: an operator has 64 meters, and a bucket's work gives a result for each at most and
+-- a boundary. By the rule of the step. Assumes nothing.
+use mathlib.Core.Path.{_≡_, refl, ap, _∙_}
+use mathlib.Core.Bool.{true, false, cond}
+use mathlib.Core.List.{List, [], _∷_}
+use Prim.Native.Nat.{ℕ, _*_, _≤_}
+use native.Mathlib.Omega.{arith}
+use lib.Dec.{eqb}
+use lib.ListN.{length, length-append}
+use Rattle.clock.specs.Buckets.{bucketEnd}
+use Rattle.clock.specs.Windows.{closesWindow, windowStart}
+use Rattle.settings.specs.declared.Settings.{Settings}
+use Rattle.journal.specs.declared.Call.{Call}
+use Rattle.journal.specs.Kinds.{letterS, letterT, letterB}
+use Rattle.record.specs.Sizes.{recordBytes}
+use Rattle.store.specs.Columns.{Columns}
+use Rattle.store.specs.Order.{Placed, inBucket}
+use Rattle.operator.specs.declared.Operator.{Operator}
+use Rattle.operator.specs.Meters.{meterCount, addAll}
+use Rattle.operator.specs.Results.{plain}
+use Rattle.operator.specs.Work.{windowResults, close, work}
+use Rattle.operator.proofs.Meters.{length-addAll}
+use Rattle.protocol.specs.Kinds.{Kind, kindOf}
+use Rattle.protocol.specs.Node.{Node, keptOf}
+use Rattle.protocol.specs.declared.Rule.{Rule}
+use Rattle.protocol.specs.declared.Rule.the-variants as Rule
+use Rattle.protocol.specs.Rules.{ruleOf, boundaryAt, worked, act}
+use Rattle.protocol.specs.Refusals.{answerTo}
+use Rattle.protocol.specs.Calls.{input, done, accepted, outcomeOf}
+use Rattle.node.specs.declared.State.{State}
+use Rattle.node.specs.Sizes.{recordsPerCall, areaBytes}
+use Rattle.node.specs.View.{view}
+use Rattle.node.specs.Calls.{Called, calledOn}
+use Rattle.node.proofs.Results.{length-results}
+use Rattle.node.proofs.Calls.{Untouched, AcceptedOn, either-way}
+
+work-few : (s : Settings) (kind j : ℕ) (rs : List Placed) (o : Operator) → length (o .meters) ≡ meterCount → length (work s kind j rs o .records) ≤ meterCount
+unfolding work close windowResults
+work-few s kind j rs o h =
+    elim (closesWindow (s .window) j) as
+    (λ b. length (cond b (close s kind j (addAll s o rs)) (record { operator = addAll s o rs; records = [] }) .records) ≤ meterCount) [
+      | true ↦
+          omega (
+            arith,
+            length-results kind (record { 0 = windowStart (s .bucket) (s .window) j }) 0 (addAll s o rs .number) (addAll s o rs .meters),
+            length-addAll s o rs,
+          )
+      | false ↦ omega arith
+    ]
+
+boundary-few : (s : Settings) (j : ℕ) → length (boundaryAt s j) ≤ 1
+unfolding boundaryAt
+boundary-few s j =
+    elim (closesWindow (s .window) j) as
+    (λ b. length (cond b (plain letterB 0 (record { 0 = bucketEnd (s .bucket) j }) ∷ []) []) ≤ 1) [
+      | true ↦ omega arith
+      | false ↦ omega arith
+    ]
+
+module _ (s : Settings) (n : Node) (meters : length (n .operator .meters) ≡ meterCount) where
+  worked-few : (kind j : ℕ) → length (worked s kind j n .records) ≤ meterCount
+  unfolding worked
+  worked-few kind j = work-few s kind j (inBucket (s .bucket) j (keptOf (n .lines))) (n .operator) meters
+
+  act-few : (rule : Rule) → length (act s n rule .records) ≤ recordsPerCall
+  unfolding act
+  act-few Rule.Withdraw = omega arith
+  act-few Rule.WorkStable =
+      rw (length-append (worked s letterS (n .c) n .records) (boundaryAt s (n .c)))
+      (omega (arith, worked-few letterS (n .c), boundary-few s (n .c)))
+  act-few Rule.EndCorrection = omega arith
+  act-few Rule.WorkTentative = omega (arith, worked-few letterT (n .p))
+  act-few Rule.Idle = omega arith
+
+  done-few : (k : Call) (kind : Kind) → length (done s n k kind .records) ≤ recordsPerCall
+  unfolding done input
+  done-few k Kind.S = omega arith
+  done-few k Kind.T = omega arith
+  done-few k Kind.B = omega arith
+  done-few k Kind.U = omega arith
+  done-few k Kind.R = omega arith
+  done-few k Kind.P = act-few (ruleOf s n (k .now))
+
+  outcome-few : (k : Call) → length (outcomeOf s n k .records) ≤ recordsPerCall
+  unfolding outcomeOf accepted
+  outcome-few k =
+      elim (eqb (answerTo s n k) 0) as
+      (λ b. length (cond b (accepted (k .now) (done s n k (kindOf (k .kind)))) (record { node = n; records = [] }) .records) ≤ recordsPerCall) [
+        | true ↦ done-few k (kindOf (k .kind))
+        | false ↦ omega arith
+      ]
+
+-- the records of a call are no more than 65, and lie within the area
+abbrev Fewest : List ℕ → Called → Type 0
+Fewest area q = (q .records ≤ recordsPerCall) × (q .records * recordBytes ≤ length area)
+
+module _ (st : State) (x : Columns) (text area : List ℕ) (meters : length (st .operator .meters) ≡ meterCount) where
+  view-few : (k : Call) → length (outcomeOf (st .settings) (view st x) k .records) ≤ recordsPerCall
+  unfolding view
+  view-few k = outcome-few (st .settings) (view st x) meters k
+
+  pub called-few : (calledOn st x text area .records ≤ recordsPerCall) × (calledOn st x text area .records * recordBytes ≤ length area)
+  called-few =
+      either-way st x text area (Fewest area)
+      (λ (u : Untouched st x area (calledOn st x text area)). rw (u .records) (omega arith, omega arith))
+      (λ (a : AcceptedOn st x text area). rw (a .leaves) (omega (arith, view-few (a .call)), omega (arith, view-few (a .call), a .host .bytes)))

@@ -1,0 +1,4 @@
+-- Laws on the playback of a journal.
+pub mod Few
+pub mod Replies
+pub mod Parts

@@ -1,0 +1,6 @@
+-- Laws on replies.
+pub mod Runs
+pub mod Words
+pub mod Records
+pub mod Texts
+pub mod Longest

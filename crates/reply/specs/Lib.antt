@@ -1,0 +1,2 @@
+-- What a playback prints.
+pub mod Reply
