@@ -24,6 +24,9 @@ pub const SETTING_OUTSIDE_LIMITS: u32 = 2;
 
 pub const MALFORMED_LINE: u32 = 6;
 
+// What a refused call and an input give.
+const NO_RECORDS: u32 = 0;
+
 // What an opening answers.
 pub struct OpeningReply {
     pub state: State,
@@ -124,7 +127,7 @@ fn refused(state: State, answer: u32) -> CallReply
 {
     CallReply {
         state: state,
-        records: 0,
+        records: NO_RECORDS,
         answer: answer,
     }
 }
@@ -174,7 +177,7 @@ fn accept(
     next.clock = now;
     CallReply {
         state: next,
-        records: 0,
+        records: NO_RECORDS,
         answer: 0,
     }
 }

@@ -1,6 +1,6 @@
 -- No call gives more records than 65, whatever the state: an operator has 64 meters, and a bucket's work gives a result for each at most and
 -- a boundary. By the rule of the step. Assumes nothing.
-use mathlib.Core.Path.{_≡_, refl, ap, _∙_}
+use mathlib.Core.Path.{_≡_}
 use mathlib.Core.Bool.{true, false, cond}
 use mathlib.Core.List.{List, [], _∷_}
 use Prim.Native.Nat.{ℕ, _*_, _≤_}
@@ -28,7 +28,7 @@ use Rattle.protocol.specs.Rules.{ruleOf, boundaryAt, worked, act}
 use Rattle.protocol.specs.Refusals.{answerTo}
 use Rattle.protocol.specs.Calls.{input, done, accepted, outcomeOf}
 use Rattle.node.specs.declared.State.{State}
-use Rattle.node.specs.Sizes.{recordsPerCall, areaBytes}
+use Rattle.node.specs.Sizes.{recordsPerCall}
 use Rattle.node.specs.View.{view}
 use Rattle.node.specs.Calls.{Called, calledOn}
 use Rattle.node.proofs.Results.{length-results}

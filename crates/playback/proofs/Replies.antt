@@ -5,7 +5,7 @@ use mathlib.Core.List.{List, _++_}
 use Prim.Native.Nat.{ℕ, _+_, _*_, _≤_, _<_, _^_}
 use native.Mathlib.Omega.{arith}
 use native.Mathlib.Nat.{zero-add}
-use lib.ListN.{length, drop, length-append, length-drop}
+use lib.ListN.{length, drop, length-append}
 use Rattle.area.specs.Laid.{laid, inFront}
 use Rattle.area.proofs.Laid.{laid-laid, laid-front}
 use Rattle.endian.specs.LittleEndian.{AreBytes}

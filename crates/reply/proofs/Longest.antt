@@ -2,8 +2,8 @@
 -- A line of each bound is there. Assumes nothing.
 use mathlib.Core.Path.{_≡_, refl}
 use mathlib.Core.Bool.{Bool, true, false, cond}
-use mathlib.Core.List.{List, [], _∷_, _++_}
-use Prim.Native.Nat.{ℕ, _+_, _*_, _≤_, _<_, _^_}
+use mathlib.Core.List.{[], _∷_}
+use Prim.Native.Nat.{ℕ, _+_, _≤_, _<_, _^_}
 use native.Mathlib.Omega.{arith}
 use lib.Dec.{eqb}
 use lib.IntN.{pos}
@@ -16,7 +16,7 @@ use Rattle.protocol.specs.declared.Phase.{Phase}
 use Rattle.protocol.specs.declared.Phase.the-variants as Phase
 use Rattle.node.specs.Sizes.{recordsPerCall}
 use Rattle.node.specs.Calls.{Called}
-use Rattle.reply.specs.Reply.{phaseWord, wordOf, keyAnswer, keyRecords, keyState, stateField, answerLine, recordLines, replyText, longestAnswer, longestReply}
+use Rattle.reply.specs.Reply.{phaseWord, wordOf, stateField, answerLine, replyText, longestAnswer, longestReply}
 use Rattle.reply.proofs.Records.{recordLines-short}
 
 phase-short : (phase : Phase) → length (phaseWord phase) ≤ 10

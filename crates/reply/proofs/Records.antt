@@ -1,12 +1,11 @@
 -- The texts of the first records of an area: one more behind those before, and none longer than the longest. By the number of records.
 -- Assumes nothing.
-use mathlib.Core.Path.{_≡_, refl, ap, _∙_}
-use mathlib.Core.List.{List, [], _++_, append-assoc, append-nil}
+use mathlib.Core.Path.{_≡_, refl, ap}
+use mathlib.Core.List.{List, _++_, append-assoc, append-nil}
 use Prim.Native.Nat.{ℕ, zero, suc, _+_, _-_, _*_, _≤_}
 use native.Mathlib.Omega.{arith}
 use lib.ListN.{length, take, drop, length-append}
 use lib.Seq.{drop-drop}
-use Rattle.area.specs.Laid.{laid}
 use Rattle.area.proofs.Laid.{laid-laid}
 use Rattle.endian.specs.LittleEndian.{AreBytes}
 use Rattle.endian.proofs.LittleEndian.{areBytes-take, areBytes-drop}

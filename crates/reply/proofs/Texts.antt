@@ -1,7 +1,7 @@
 -- A record's text written into a part of an area that has room for the longest: it is laid over the whole area there. What the writer leaves
 -- is the text in front of the part in each case, since the text of bytes that are no record is empty. Assumes nothing.
 use mathlib.Core.Path.{_≡_, refl, sym, ap, _∙_}
-use mathlib.Core.List.{List, _++_}
+use mathlib.Core.List.{List}
 use Prim.Native.Nat.{ℕ, _+_, _-_, _≤_}
 use native.Mathlib.Omega.{arith}
 use lib.ListN.{length, take, drop, length-drop}

@@ -1,5 +1,4 @@
 -- `cursor::fetch` meets its contract: in the loop the cursor lies within the buffer and leaves room in the output. Assumes nothing.
-use native.Mathlib.Omega.{arith}
 use borrow.Author.Needs.{needs}
 use mathlib.Core.Path.{_≡_}
 use Prim.Native.Nat.{_+_, _≤_}

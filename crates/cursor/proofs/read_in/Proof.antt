@@ -1,8 +1,6 @@
 -- `cursor::read_in` meets its contract: the count lies within the room; the turns left are fewer each time. Assumes nothing.
-use native.Mathlib.Omega.{arith}
 use borrow.Author.Needs.{needs}
 use mathlib.Core.Path.{_≡_}
-use Prim.Native.Nat.{_+_, _-_, _≤_}
 use lib.ListN.{length}
 use Rattle.cursor.proofs.read_in.Statement.{statement}
 use Rattle.cursor.proofs.read_in.Tie as tie

@@ -1,8 +1,6 @@
 -- `cursor::write_out` meets its contract: in the loop the first `done` bytes are written; the turns left are fewer each time. Assumes nothing.
-use native.Mathlib.Omega.{arith}
 use borrow.Author.Needs.{needs}
-use mathlib.Core.Path.{_≡_}
-use Prim.Native.Nat.{_+_, _-_, _≤_}
+use Prim.Native.Nat.{_≤_}
 use lib.ListN.{length}
 use Rattle.cursor.proofs.write_out.Statement.{statement}
 use Rattle.cursor.proofs.write_out.Tie as tie
