@@ -1,14 +1,14 @@
--- A meter within its bounds: what the test says of its count and sum, and the test as the code computes it, from products of the count.
+-- A meter within its bounds: what the test says of its count and sum, and the test as the code makes it, one way out after the other.
 -- By the sum's sign. Assumes nothing.
-use Prim.Native.Nat.{ℕ, zero, suc, _-_, _*_, _^_}
-use mathlib.Core.Path.{_≡_, refl, sym, ap, _∙_}
-use mathlib.Core.Bool.{Bool, true, false, _&&_, and-true}
+use Prim.Native.Nat.{ℕ, zero, suc, _-_, _*_, _^_, _<_, _≤_}
+use mathlib.Core.Path.{_≡_, sym, ap, _∙_}
+use mathlib.Core.Bool.{Bool, true, false, true≢false}
 use mathlib.Core.List.{List, [], _∷_}
 use native.Mathlib.Omega.{arith}
-use borrow.Author.Tests.{leb-true, le-leb, lt-leb}
+use borrow.Author.Tests.{leb-true, le-leb, lt-leb, ltb-true}
 use lib.Dec.{leb, leb·suc-suc}
 use lib.IntN.{ℤ, pos, negsuc, negℤ}
-use lib.Signed.{leZ}
+use lib.Signed.{leZ, ltZ}
 use Rattle.signed.specs.Mean.{InRange}
 use Rattle.store.specs.Lists.{allOf, Every}
 use Rattle.store.proofs.Choices.{and-parts}
@@ -32,21 +32,38 @@ unfolding allOf
 meters-ok [] e = tt
 meters-ok (m ∷ ms) e = let h = and-parts (meterOk m) (allOf meterOk ms) e in (meter-ok m (h .0), meters-ok ms (h .1))
 
--- ---- the test from the products: at most the largest sum of so many values, and at least the smallest
+-- ---- the test in the order of the code: the count, a sum of 0, then a sum by its sign from a product of the count
 
-pos-above : (k a : ℕ) → leZ (negℤ (pos k)) (pos a) ≡ true
-pos-above zero a = le-leb 0 a (omega arith)
-pos-above (suc k) a = refl
+pub count-above : (m : Meter) → countLimit < m .count → false ≡ meterOk m
+unfolding meterOk
+count-above m h = rw (lt-leb (m .count) countLimit h)
+
+sum-told : (m : Meter) (b : Bool) → m .count ≤ countLimit → b ≡ sumOk (m .sum) (m .count) → b ≡ meterOk m
+unfolding meterOk
+sum-told m b h e = rw (le-leb (m .count) countLimit h) e
+
+pub sum-none : (m : Meter) → m .count ≤ countLimit → m .sum ≡ pos 0 → true ≡ meterOk m
+unfolding sumOk
+sum-none m h e = sum-told m true h (rw (e, le-leb 0 ((2 ^ 31 - 1) * m .count) (omega arith)))
+
+above-zero : (z : ℤ) (n : ℕ) → ltZ z (pos 0) ≡ false → leZ z (pos (n * 2_147_483_647)) ≡ sumOk z n
+unfolding sumOk
+above-zero (pos a) n e = let f : n * 2_147_483_647 ≡ (2 ^ 31 - 1) * n = omega arith in ap (leb a) f
+above-zero (negsuc a) n e = absurd (true≢false e)
 
 neg-above : (k a : ℕ) → leZ (negℤ (pos k)) (negsuc a) ≡ leb (suc a) k
 neg-above zero a = sym (lt-leb (suc a) 0 (omega arith))
 neg-above (suc k) a = sym (leb·suc-suc a k)
 
-pub sum-between : (z : ℤ) (n : ℕ) → leZ z (pos (n * 2_147_483_647)) && leZ (negℤ (pos (n * 2_147_483_648))) z ≡ sumOk z n
+below-zero : (z : ℤ) (n : ℕ) → ltZ z (pos 0) ≡ true → leZ (negℤ (pos (n * 2_147_483_648))) z ≡ sumOk z n
 unfolding sumOk
-sum-between (pos a) n =
-    let e : n * 2_147_483_647 ≡ (2 ^ 31 - 1) * n = omega arith in
-    rw (pos-above (n * 2_147_483_648) a) (and-true (leb a (n * 2_147_483_647)) ∙ ap (leb a) e)
-sum-between (negsuc a) n =
-    let e : n * 2_147_483_648 ≡ 2 ^ 31 * n = omega arith in
-    neg-above (n * 2_147_483_648) a ∙ ap (leb (suc a)) e
+below-zero (pos a) n e = let h : a < 0 = ltb-true a 0 e in absurd (omega arith)
+below-zero (negsuc a) n e =
+    let f : n * 2_147_483_648 ≡ 2 ^ 31 * n = omega arith in
+    neg-above (n * 2_147_483_648) a ∙ ap (leb (suc a)) f
+
+pub sum-above : (m : Meter) → m .count ≤ countLimit → ltZ (m .sum) (pos 0) ≡ false → leZ (m .sum) (pos (m .count * 2_147_483_647)) ≡ meterOk m
+sum-above m h e = sum-told m _ h (above-zero (m .sum) (m .count) e)
+
+pub sum-below : (m : Meter) → m .count ≤ countLimit → ltZ (m .sum) (pos 0) ≡ true → leZ (negℤ (pos (m .count * 2_147_483_648))) (m .sum) ≡ meterOk m
+sum-below m h e = sum-told m _ h (below-zero (m .sum) (m .count) e)

@@ -1,8 +1,8 @@
 -- The meters from a place on, as a loop works them: what they come to is what the meter at that place adds to what those behind it come
 -- to, and behind the last there is nothing. Each law takes the list apart at the place. Assumes nothing.
 use Prim.Native.Nat.{ℕ, suc, _≤_, _<_}
-use mathlib.Core.Path.{_≡_, refl, sym, _∙_}
-use mathlib.Core.Bool.{Bool, true, false, _&&_, and-assoc, and-true}
+use mathlib.Core.Path.{_≡_, sym, _∙_}
+use mathlib.Core.Bool.{Bool, true, false}
 use mathlib.Core.List.{List, [], _∷_, map}
 use lib.ListN.{length, getD, drop, drop-of-length-le, length-map}
 use lib.Seq.{drop-cons}
@@ -18,16 +18,20 @@ use Rattle.operator.proofs.Results.{givers}
 pub length-mapped : {X Y : Type 0} (f : X → Y) (l : List X) (n : ℕ) → length (map f l) ≡ n → length l ≡ n
 length-mapped f l n p = sym (length-map l f) ∙ p
 
--- ---- a test of every meter, with what the meters before the place came to
+-- ---- a test of every meter
 
 module _ (test : Meter → Bool) (ms : List Meter) (i : ℕ) where
-  pub all-from : (ok : Bool) → i < length ms → (ok && test (getD ms i noMeter)) && allOf test (drop (suc i) ms) ≡ ok && allOf test (drop i ms)
+  pub all-from-failed : i < length ms → test (getD ms i noMeter) ≡ false → false ≡ allOf test (drop i ms)
   unfolding allOf
-  all-from ok h = rw (drop-cons ms i noMeter h) (and-assoc ok (test (getD ms i noMeter)) (allOf test (drop (suc i) ms)))
+  all-from-failed h e = rw (drop-cons ms i noMeter h, e)
 
-  pub all-from-end : (ok : Bool) → length ms ≤ i → ok ≡ ok && allOf test (drop i ms)
+  pub all-from-passed : i < length ms → test (getD ms i noMeter) ≡ true → allOf test (drop (suc i) ms) ≡ allOf test (drop i ms)
   unfolding allOf
-  all-from-end ok h = rw (drop-of-length-le ms h) (sym (and-true ok))
+  all-from-passed h e = rw (drop-cons ms i noMeter h, e)
+
+  pub all-from-end : length ms ≤ i → true ≡ allOf test (drop i ms)
+  unfolding allOf
+  all-from-end h = rw (drop-of-length-le ms h)
 
 -- ---- how many meters give a result, and the next one that does
 

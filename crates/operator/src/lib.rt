@@ -66,13 +66,22 @@ impl Meter {
         self
     }
 
-    // Whether the count is within its limit and the sum one that so many values can have.
+    // Whether the count is within its limit and the sum one that so many values can have. A sum of 0 is told first: most meters have no
+    // value.
     pub fn is_within_bounds(self) -> bool
         ensures { λ r. ⌜ r ≡ meterOk self ⌝ }
     {
+        if COUNT_LIMIT < self.count {
+            return false;
+        }
+        if self.sum == 0 {
+            return true;
+        }
         let n = self.count as i64;
-        (self.count <= COUNT_LIMIT)
-            & ((self.sum <= n * 2_147_483_647) & (0 - n * 2_147_483_648 <= self.sum))
+        if self.sum < 0 {
+            return 0 - n * 2_147_483_648 <= self.sum;
+        }
+        self.sum <= n * 2_147_483_647
     }
 
     pub fn has_result(self) -> bool
@@ -236,13 +245,14 @@ impl Operator {
     pub fn is_within_bounds(self) -> bool
         ensures { λ r. ⌜ r ≡ allOf meterOk (self .meters) ⌝ }
     {
-        let mut ok = true;
         let mut i = 0;
         while i < METERS {
             let m = self.meters[i];
-            ok = ok & m.is_within_bounds();
+            if !m.is_within_bounds() {
+                return false;
+            }
             i += 1;
         }
-        ok
+        true
     }
 }
