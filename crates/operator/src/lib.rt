@@ -54,7 +54,7 @@ pub fn is_counted(s: Settings, value: i32) -> bool
 
 impl Meter {
     // One value more; it becomes the last one unless a newer one is there.
-    pub fn with_value(mut self, value: i32, newest: bool) -> Meter
+    fn with_value(mut self, value: i32, newest: bool) -> Meter
         requires { ⌜ (self .count < 2 ^ 31) × InRange (self .sum) (self .count) ⌝ }
         ensures { λ r. ⌜ r ≡ cond newest (withValue value self) (withOlderValue value self) ⌝ }
     {

@@ -11,13 +11,13 @@ use cursor::Cursor;
 use node::State;
 
 // A state, and how many bytes of the output are used.
-pub struct Played {
-    pub state: State,
-    pub used: usize,
+struct Played {
+    state: State,
+    used: usize,
 }
 
 // Opens with this settings text and writes what is printed for it from the first place of `out` on.
-pub fn play_settings(
+fn play_settings(
     state: State,
     ids: &mut [u32],
     times: &mut [u32],
@@ -46,7 +46,7 @@ pub fn play_settings(
 }
 
 // Makes the call of this text and writes what is printed for it from the first place of `out` on.
-pub fn play_line(
+fn play_line(
     state: State,
     ids: &mut [u32],
     times: &mut [u32],
@@ -87,50 +87,6 @@ pub fn play_line(
     }
 }
 
-// Plays one line: the settings where no network is open, else a journal line.
-fn play(
-    state: State,
-    ids: &mut [u32],
-    times: &mut [u32],
-    values: &mut [i32],
-    arrivals: &mut [u32],
-    kinds: &mut [u8],
-    meters: &mut [u8],
-    text: &[u8],
-    area: &mut [u8],
-    out: &mut [u8],
-) -> Played
-    requires { ⌜ longestReply ≤ length (now out) ⌝ }
-    ensures { λ r. ⌜ r .used ≤ length (now (out .entry)) ⌝ }
-{
-    let settings = state.settings;
-    if settings.lines == 0 {
-        return play_settings(
-            state,
-            ids,
-            times,
-            values,
-            arrivals,
-            kinds,
-            meters,
-            text,
-            out,
-        );
-    }
-    play_line(
-        state,
-        ids,
-        times,
-        values,
-        arrivals,
-        kinds,
-        meters,
-        text,
-        area,
-        out,
-    )
-}
-
 // One turn fewer is left, and none where no text is to be played.
 fn turns_left(plays: bool, turns: u64) -> u64
     requires { ⌜ 0 < turns ⌝ }
@@ -139,7 +95,50 @@ fn turns_left(plays: bool, turns: u64) -> u64
     if plays { turns - 1 } else { 0 }
 }
 
-// Plays a journal to its end, from the state before the first opening on.
+// Plays the journal's lines to the end of the input, from the text at the cursor on.
+fn play_lines(
+    opened: State,
+    ids: &mut [u32],
+    times: &mut [u32],
+    values: &mut [i32],
+    arrivals: &mut [u32],
+    kinds: &mut [u8],
+    meters: &mut [u8],
+    area: &mut [u8],
+    buf: &mut [u8],
+    out: &mut [u8],
+    first: Cursor,
+)
+    requires { ⌜ (first .start ≤ first .end) × (first .end ≤ length (now buf)) × (first .at ≤ first .have) × (first .have ≤ length (now buf)) × (first .used + longestReply ≤ length (now out)) ⌝ }
+{
+    let mut state = opened;
+    let mut cursor = first;
+    let mut turns = turns_left(cursor.plays, u64::MAX);
+    while turns > 0 {
+        let start = cursor.start;
+        let end = cursor.end;
+        let used = cursor.used;
+        let played = play_line(
+            state,
+            ids,
+            times,
+            values,
+            arrivals,
+            kinds,
+            meters,
+            &buf[start..end],
+            area,
+            &mut out[used..],
+        );
+        state = played.state;
+        let total = used + played.used;
+        cursor.used = total;
+        cursor = cursor::onward(cursor, true, buf, out);
+        turns = turns_left(cursor.plays, turns);
+    }
+}
+
+// Plays a journal to its end: the settings on the state before the first opening, then the lines.
 fn play_all(
     ids: &mut [u32],
     times: &mut [u32],
@@ -153,7 +152,6 @@ fn play_all(
 )
     requires { ⌜ longestReply ≤ length (now out) ⌝ }
 {
-    let mut state = calls::closed_state();
     let begin = Cursor {
         start: 0,
         end: 0,
@@ -165,31 +163,39 @@ fn play_all(
         last: false,
     };
     let mut cursor = cursor::fetch(begin, false, buf, out);
-    let mut turns = turns_left(cursor.plays, u64::MAX);
-    while turns > 0 {
-        let start = cursor.start;
-        let end = cursor.end;
-        let used = cursor.used;
-        let played = play(
-            state,
-            ids,
-            times,
-            values,
-            arrivals,
-            kinds,
-            meters,
-            &buf[start..end],
-            area,
-            &mut out[used..],
-        );
-        let next = played.state;
-        state = next;
-        let settings = next.settings;
-        let total = used + played.used;
-        cursor.used = total;
-        cursor = cursor::onward(cursor, settings.lines != 0, buf, out);
-        turns = turns_left(cursor.plays, turns);
-    }
+    let start = cursor.start;
+    let end = cursor.end;
+    let used = cursor.used;
+    let closed = calls::closed_state();
+    let opened = play_settings(
+        closed,
+        ids,
+        times,
+        values,
+        arrivals,
+        kinds,
+        meters,
+        &buf[start..end],
+        &mut out[used..],
+    );
+    let state = opened.state;
+    let settings = state.settings;
+    let total = used + opened.used;
+    cursor.used = total;
+    let first = cursor::onward(cursor, settings.lines != 0, buf, out);
+    play_lines(
+        state,
+        ids,
+        times,
+        values,
+        arrivals,
+        kinds,
+        meters,
+        area,
+        buf,
+        out,
+        first,
+    );
 }
 
 // Plays a journal from standard input to standard output: first the settings line, then journal lines, to the end.

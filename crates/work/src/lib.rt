@@ -37,7 +37,7 @@ fn kept_of(heads: [LineHead; 8]) -> [u32; 8]
 }
 
 // The operator with bucket j's kept readings added.
-pub fn added(
+fn added(
     state: State,
     ids: &[u32],
     times: &[u32],

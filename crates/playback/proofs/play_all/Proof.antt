@@ -1,159 +1,116 @@
--- `playback::play_all` meets its contract: in the loop the text to play lies within the buffer and its reply has room in the output. The turns left
--- are fewer each time. Assumes nothing.
+-- `playback::play_all` meets its contract: the settings' text lies within the buffer and their reply has room in the output, and what is left
+-- of both is what the lines ask for. Assumes nothing.
 use native.Mathlib.Omega.{arith}
 use borrow.Author.Needs.{needs}
-use mathlib.Core.Path.{_≡_, refl}
-use Prim.Native.Nat.{_+_, _-_, _≤_}
+use Prim.Native.Nat.{_-_}
 use lib.ListN.{length}
 use borrow.Rule.Slice.PartMut.{same-len-mid}
-use Rattle.reply.specs.Reply.{longestReply}
 use Rattle.playback.proofs.Parts.{part-used}
+use Rattle.playback.proofs.Replies.{front-within}
 use Rattle.playback.proofs.play_all.Statement.{statement}
 use Rattle.playback.proofs.play_all.Tie as tie
 
-abbrev Inv-loop : tie.InvT-loop
-Inv-loop ids₀ times₀ values₀ arrivals₀ kinds₀ meters₀ area₀ buf₀ out₀ state₀ cursor₀ turns₀ ids times values arrivals kinds meters area buf out state cursor turns =
-    (cursor .start ≤ cursor .end) × (cursor .end ≤ length buf) × (cursor .at ≤ cursor .have) × (cursor .have ≤ length buf) × (cursor .used + longestReply ≤ length out) × (length ids ≡ length ids₀) × (length times ≡ length times₀) × (length values ≡ length values₀) × (length arrivals ≡ length arrivals₀) × (length kinds ≡ length kinds₀) × (length meters ≡ length meters₀) × (length area ≡ length area₀) × (length buf ≡ length buf₀) × (length out ≡ length out₀)
-
-abbrev μ-loop : tie.MeasureT-loop
-μ-loop ids₀ times₀ values₀ arrivals₀ kinds₀ meters₀ area₀ buf₀ out₀ state₀ cursor₀ turns₀ ids times values arrivals kinds meters area buf out state cursor turns =
-    turns
-
-closed-state-requires : tie.Need-closed-state-requires Inv-loop μ-loop
-closed-state-requires c κs = search needs
-
-fetch-requires : tie.Need-fetch-requires Inv-loop μ-loop
+fetch-requires : tie.Need-fetch-requires
 fetch-requires c κs = search needs
 
-turns-left-requires : tie.Need-turns-left-requires Inv-loop μ-loop
-turns-left-requires c κs = search needs
+closed-state-requires : tie.Need-closed-state-requires
+closed-state-requires c κs = search needs
 
-loop-holds : tie.Need-loop-holds Inv-loop μ-loop
-loop-holds c =
-    let f = c .before .before .before .fetch in
-    let e = f .ensures in
-    let k = f .kept .1 .1 .0 in
-    (e .0, omega (arith, e .1, k), e .2, omega (arith, e .3, k), e .4, refl, refl, refl, refl, refl, refl, refl, refl, refl)
+sub-play-settings : tie.Need-sub-play-settings
+sub-play-settings c = search needs
 
-sub-play : tie.Need-sub-play Inv-loop μ-loop
-sub-play c = search needs
+part-play-settings-start : tie.Need-part-play-settings-start
+part-play-settings-start c = search needs
 
-part-play-start : tie.Need-part-play-start Inv-loop μ-loop
-part-play-start c = search needs
+part-play-settings-end : tie.Need-part-play-settings-end
+part-play-settings-end c = search needs
 
-part-play-end : tie.Need-part-play-end Inv-loop μ-loop
-part-play-end c = search needs
+sub-play-settings-2 : tie.Need-sub-play-settings-2
+sub-play-settings-2 c = search needs
 
-sub-play-2 : tie.Need-sub-play-2 Inv-loop μ-loop
-sub-play-2 c = search needs
+part-play-settings-start-2 : tie.Need-part-play-settings-start-2
+part-play-settings-start-2 c = search needs
 
-part-play-start-2 : tie.Need-part-play-start-2 Inv-loop μ-loop
-part-play-start-2 c = search needs
+part-play-settings-end-2 : tie.Need-part-play-settings-end-2
+part-play-settings-end-2 c = search needs
 
-part-play-end-2 : tie.Need-part-play-end-2 Inv-loop μ-loop
-part-play-end-2 c = search needs
+play-settings-requires : tie.Need-play-settings-requires
+play-settings-requires c κs = search needs
 
-play-requires : tie.Need-play-requires Inv-loop μ-loop
-play-requires c κs = search needs
-
-add-total : tie.Need-add-total Inv-loop μ-loop
+add-total : tie.Need-add-total
 add-total c =
-    let p = c .before .before .before .before .before .before .before .before .before .before .before .before .before .before .before .before .before .before .play in
-    let l = c .before .before .before .before .before .before .before .before .before .before .before .before .before .before .before .before .before .before .before .before .before .before .before .before .before .before .before .before .before .before .loop in
-    omega (arith, c .before .before .before .before .before .before .before .before .before .before .before .before .before .before .before .before .before .before .before .before .before .before .before .before .before .before .before .before .before .before .before .before .before .before .before .before .before .before .before .before .before .before .before .before .before .before .good .1 .1 .1 .1 .1 .1 .1 .1 .0, l .inv .13, part-used (l .out) (l .cursor .used) (p .result .used) (omega (arith, l .inv .4)) (p .ensures))
+    let p = c .before .before .before .before .before .before .before .before .before .before .before .before .before .before .before .before .play-settings in
+    let f = c .before .before .before .before .before .before .before .before .before .before .before .before .before .before .before .before .before .before .before .before .before .before .before .before .before .before .before .before .before .fetch in
+    let out = c .before .before .before .before .before .before .before .before .before .before .before .before .before .before .before .before .before .before .before .before .before .before .before .before .before .before .before .before .before .before .before .before .before .before .before .before .before .before .before .before .args .out .now in
+    let kept = p .kept .1 .1 .1 .1 .1 .1 .1 .1 .0 in
+    let within = part-used out (f .result .used) (p .result .used) (omega (arith, f .ensures .4)) (front-within _ _ (p .ensures .1 .1) kept) in
+    omega (arith, c .before .before .before .before .before .before .before .before .before .before .before .before .before .before .before .before .before .before .before .before .before .before .before .before .before .before .before .before .before .before .before .before .before .before .before .before .before .before .before .before .good .1 .1 .1 .1 .1 .1 .1 .1 .0, within)
 
-onward-requires : tie.Need-onward-requires Inv-loop μ-loop
+onward-requires : tie.Need-onward-requires
 onward-requires c κs =
-    let p = c .before .before .before .before .before .before .before .before .before .before .before .before .before .before .before .before .before .before .before .before .before .play in
-    let l = c .before .before .before .before .before .before .before .before .before .before .before .before .before .before .before .before .before .before .before .before .before .before .before .before .before .before .before .before .before .before .before .before .before .loop in
-    let same = same-len-mid (l .cursor .used) (length (l .out) - l .cursor .used) (l .out) (p .last .1 .1 .1 .1 .1 .1 .1 .1 .1 .0) (p .kept .1 .1 .1 .1 .1 .1 .1 .1 .1 .0) in (
-      l .inv .2,
-      l .inv .3,
-      omega (arith, same, part-used (l .out) (l .cursor .used) (p .result .used) (omega (arith, l .inv .4)) (p .ensures)),
-      omega (arith, same, l .inv .4),
-    )
+    let p = c .before .before .before .before .before .before .before .before .before .before .before .before .before .before .before .before .before .before .before .play-settings in
+    let f = c .before .before .before .before .before .before .before .before .before .before .before .before .before .before .before .before .before .before .before .before .before .before .before .before .before .before .before .before .before .before .before .before .fetch in
+    let out = c .before .before .before .before .before .before .before .before .before .before .before .before .before .before .before .before .before .before .before .before .before .before .before .before .before .before .before .before .before .before .before .before .before .before .before .before .before .before .before .before .before .before .before .args .out .now in
+    let kept = p .kept .1 .1 .1 .1 .1 .1 .1 .1 .0 in
+    let within = part-used out (f .result .used) (p .result .used) (omega (arith, f .ensures .4)) (front-within _ _ (p .ensures .1 .1) kept) in
+    let same = same-len-mid (f .result .used) (length out - f .result .used) out (p .last .1 .1 .1 .1 .1 .1 .1 .1 .0) kept in
+    let k = f .kept .1 .1 .0 in
+    (f .ensures .2, omega (arith, f .ensures .3, k), omega (arith, same, within), omega (arith, same, f .ensures .4))
 
-turns-left-requires-2 : tie.Need-turns-left-requires-2 Inv-loop μ-loop
-turns-left-requires-2 c κs = omega (arith, c .before .before .before .before .before .before .before .before .before .before .before .before .before .before .before .before .before .before .before .before .before .before .before .before .before .before .before .before .before .before .before .before .before .before .before .loop-test)
+play-lines-requires : tie.Need-play-lines-requires
+play-lines-requires c κs = search needs
 
-loop-less : tie.Need-loop-less Inv-loop μ-loop
-loop-less c = search needs
+same-length : tie.Need-same-length
+same-length c = omega (arith, c .before .before .before .before .before .before .before .before .before .before .before .before .before .before .before .before .before .play-lines .kept .1 .0, c .before .before .before .before .before .before .before .before .before .before .before .before .before .before .before .before .before .before .before .before .before .before .before .before .before .before .before .before .before .before .before .before .before .before .before .before .before .before .before .before .before .before .before .before .before .before .before .before .before .play-settings .kept .1 .0)
 
-loop-again : tie.Need-loop-again Inv-loop μ-loop
-loop-again c =
-    let o = c .before .before .before .onward in
-    let p = c .before .before .before .before .before .before .before .before .before .before .before .before .before .before .before .before .before .before .before .before .before .before .before .before .before .play in
-    let l = c .before .before .before .before .before .before .before .before .before .before .before .before .before .before .before .before .before .before .before .before .before .before .before .before .before .before .before .before .before .before .before .before .before .before .before .before .before .loop in
-    let e = o .ensures in
-    let k = o .kept .1 .1 .0 in (
-      e .0,
-      omega (arith, e .1, k),
-      e .2,
-      omega (arith, e .3, k),
-      omega (arith, e .4),
-      omega (arith, p .kept .1 .0, l .inv .5),
-      omega (arith, p .kept .1 .1 .0, l .inv .6),
-      omega (arith, p .kept .1 .1 .1 .0, l .inv .7),
-      omega (arith, p .kept .1 .1 .1 .1 .0, l .inv .8),
-      omega (arith, p .kept .1 .1 .1 .1 .1 .0, l .inv .9),
-      omega (arith, p .kept .1 .1 .1 .1 .1 .1 .0, l .inv .10),
-      omega (arith, p .kept .1 .1 .1 .1 .1 .1 .1 .1 .0, l .inv .11),
-      omega (arith, k, l .inv .12),
-      omega (arith, same-len-mid (l .cursor .used) (length (l .out) - l .cursor .used) (l .out) (p .last .1 .1 .1 .1 .1 .1 .1 .1 .1 .0) (p .kept .1 .1 .1 .1 .1 .1 .1 .1 .1 .0), l .inv .13),
-    )
+same-length-2 : tie.Need-same-length-2
+same-length-2 c = omega (arith, c .before .before .before .before .before .before .before .before .before .before .before .before .before .before .before .before .before .play-lines .kept .1 .1 .0, c .before .before .before .before .before .before .before .before .before .before .before .before .before .before .before .before .before .before .before .before .before .before .before .before .before .before .before .before .before .before .before .before .before .before .before .before .before .before .before .before .before .before .before .before .before .before .before .before .before .play-settings .kept .1 .1 .0)
 
-same-length : tie.Need-same-length Inv-loop μ-loop
-same-length c = c .before .loop .inv .5
+same-length-3 : tie.Need-same-length-3
+same-length-3 c = omega (arith, c .before .before .before .before .before .before .before .before .before .before .before .before .before .before .before .before .before .play-lines .kept .1 .1 .1 .0, c .before .before .before .before .before .before .before .before .before .before .before .before .before .before .before .before .before .before .before .before .before .before .before .before .before .before .before .before .before .before .before .before .before .before .before .before .before .before .before .before .before .before .before .before .before .before .before .before .before .play-settings .kept .1 .1 .1 .0)
 
-same-length-2 : tie.Need-same-length-2 Inv-loop μ-loop
-same-length-2 c = c .before .loop .inv .6
+same-length-4 : tie.Need-same-length-4
+same-length-4 c = omega (arith, c .before .before .before .before .before .before .before .before .before .before .before .before .before .before .before .before .before .play-lines .kept .1 .1 .1 .1 .0, c .before .before .before .before .before .before .before .before .before .before .before .before .before .before .before .before .before .before .before .before .before .before .before .before .before .before .before .before .before .before .before .before .before .before .before .before .before .before .before .before .before .before .before .before .before .before .before .before .before .play-settings .kept .1 .1 .1 .1 .0)
 
-same-length-3 : tie.Need-same-length-3 Inv-loop μ-loop
-same-length-3 c = c .before .loop .inv .7
+same-length-5 : tie.Need-same-length-5
+same-length-5 c = omega (arith, c .before .before .before .before .before .before .before .before .before .before .before .before .before .before .before .before .before .play-lines .kept .1 .1 .1 .1 .1 .0, c .before .before .before .before .before .before .before .before .before .before .before .before .before .before .before .before .before .before .before .before .before .before .before .before .before .before .before .before .before .before .before .before .before .before .before .before .before .before .before .before .before .before .before .before .before .before .before .before .before .play-settings .kept .1 .1 .1 .1 .1 .0)
 
-same-length-4 : tie.Need-same-length-4 Inv-loop μ-loop
-same-length-4 c = c .before .loop .inv .8
+same-length-6 : tie.Need-same-length-6
+same-length-6 c = omega (arith, c .before .before .before .before .before .before .before .before .before .before .before .before .before .before .before .before .before .play-lines .kept .1 .1 .1 .1 .1 .1 .0, c .before .before .before .before .before .before .before .before .before .before .before .before .before .before .before .before .before .before .before .before .before .before .before .before .before .before .before .before .before .before .before .before .before .before .before .before .before .before .before .before .before .before .before .before .before .before .before .before .before .play-settings .kept .1 .1 .1 .1 .1 .1 .0)
 
-same-length-5 : tie.Need-same-length-5 Inv-loop μ-loop
-same-length-5 c = c .before .loop .inv .9
+same-length-7 : tie.Need-same-length-7
+same-length-7 c = search needs
 
-same-length-6 : tie.Need-same-length-6 Inv-loop μ-loop
-same-length-6 c = c .before .loop .inv .10
+same-length-8 : tie.Need-same-length-8
+same-length-8 c =
+    omega (arith, c .before .before .before .before .before .before .before .before .before .before .before .before .before .before .before .before .before .play-lines .kept .1 .1 .1 .1 .1 .1 .1 .1 .0, c .before .before .before .before .before .before .before .before .before .before .before .before .before .before .before .before .before .before .before .before .before .before .before .before .before .before .before .before .before .onward .kept .1 .1 .0, c .before .before .before .before .before .before .before .before .before .before .before .before .before .before .before .before .before .before .before .before .before .before .before .before .before .before .before .before .before .before .before .before .before .before .before .before .before .before .before .before .before .before .before .before .before .before .before .before .before .before .before .before .before .before .before .before .before .before .before .before .before .before .fetch .kept .1 .1 .0)
 
-same-length-7 : tie.Need-same-length-7 Inv-loop μ-loop
-same-length-7 c = c .before .loop .inv .11
+same-length-9 : tie.Need-same-length-9
+same-length-9 c =
+    let p = c .before .before .before .before .before .before .before .before .before .before .before .before .before .before .before .before .before .before .before .before .before .before .before .before .before .before .before .before .before .before .before .before .before .before .before .before .before .before .before .before .before .before .before .before .before .before .before .before .before .play-settings in
+    let f = c .before .before .before .before .before .before .before .before .before .before .before .before .before .before .before .before .before .before .before .before .before .before .before .before .before .before .before .before .before .before .before .before .before .before .before .before .before .before .before .before .before .before .before .before .before .before .before .before .before .before .before .before .before .before .before .before .before .before .before .before .before .before .fetch in
+    let out = c .before .before .before .before .before .before .before .before .before .before .before .before .before .before .before .before .before .before .before .before .before .before .before .before .before .before .before .before .before .before .before .before .before .before .before .before .before .before .before .before .before .before .before .before .before .before .before .before .before .before .before .before .before .before .before .before .before .before .before .before .before .before .before .before .before .before .before .before .before .before .before .before .before .args .out .now in
+    omega (arith, c .before .before .before .before .before .before .before .before .before .before .before .before .before .before .before .before .before .play-lines .kept .1 .1 .1 .1 .1 .1 .1 .1 .1 .0, same-len-mid (f .result .used) (length out - f .result .used) out (p .last .1 .1 .1 .1 .1 .1 .1 .1 .0) (p .kept .1 .1 .1 .1 .1 .1 .1 .1 .0))
 
-same-length-8 : tie.Need-same-length-8 Inv-loop μ-loop
-same-length-8 c = omega (arith, c .before .loop .inv .12, c .before .before .before .before .before .fetch .kept .1 .1 .0)
-
-same-length-9 : tie.Need-same-length-9 Inv-loop μ-loop
-same-length-9 c = c .before .loop .inv .13
-
-returns : tie.Need-returns Inv-loop μ-loop
+returns : tie.Need-returns
 returns c = search needs
 
 pub play-all-spec : {M : Type 1} → statement M
 play-all-spec =
     tie.close
     (tie.spec
-    Inv-loop
-    μ-loop
-    closed-state-requires
     fetch-requires
-    turns-left-requires
-    loop-holds
-    sub-play
-    part-play-start
-    part-play-end
-    sub-play-2
-    part-play-start-2
-    part-play-end-2
-    play-requires
+    closed-state-requires
+    sub-play-settings
+    part-play-settings-start
+    part-play-settings-end
+    sub-play-settings-2
+    part-play-settings-start-2
+    part-play-settings-end-2
+    play-settings-requires
     add-total
     onward-requires
-    turns-left-requires-2
-    loop-less
-    loop-again
+    play-lines-requires
     same-length
     same-length-2
     same-length-3
