@@ -1,4 +1,0 @@
-// Plays a journal that takes all 256 places of a line.
-fn main() {
-    playback::run();
-}

@@ -1,4 +1,0 @@
-// Plays a journal of eight lines.
-fn main() {
-    playback::run();
-}

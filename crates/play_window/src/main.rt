@@ -1,4 +1,0 @@
-// Plays a journal with windows of sixteen buckets.
-fn main() {
-    playback::run();
-}
