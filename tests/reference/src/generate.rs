@@ -11,7 +11,7 @@ mod nasty;
 mod random;
 mod workload;
 
-pub use aim::{fitting_call, spoil_call};
+pub use aim::{any_call, fitting_call, spoil_call};
 pub use host::{host_case, host_state, Host, HostCase};
 pub use host_fault::{break_shape, FAULTS};
 pub use malformed::spoil_text;

@@ -6,8 +6,8 @@ mod reader;
 mod settings;
 
 pub use journal::{
-    has_form, read_call, write_call, Call, BOUNDARY, DONE, JOURNAL_LONGEST, STABLE, STEP,
-    TENTATIVE, UNDO,
+    has_form, read_call, spell_call, write_call, Call, BOUNDARY, DONE, JOURNAL_LONGEST, STABLE,
+    STEP, TENTATIVE, UNDO,
 };
 pub(crate) use pen::Pen;
 pub use settings::{read_settings, write_settings, Settings, SETTINGS_LONGEST};

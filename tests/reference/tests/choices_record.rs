@@ -3,7 +3,7 @@
 mod common;
 
 use common::{plain, spell, UNTOUCHED};
-use reference::generate::Random;
+use reference::generate::{any_call, Random};
 use reference::record::{decode, encode, record_text, Record, RECORD_TEXT_LONGEST};
 use reference::refusal::answer;
 use reference::text::{read_call, write_call, Call, JOURNAL_LONGEST};
@@ -119,15 +119,7 @@ fn a22_kinds_without_a_letter() {
 fn a22_written_lines_read_back() {
     let mut random = Random::new(22);
     for _ in 0..20_000 {
-        let call = Call {
-            now: random.word(),
-            line: random.bits() as u8,
-            kind: random.pick(b"STBURP"),
-            id: random.word(),
-            time: random.word(),
-            meter: random.bits() as u8,
-            value: random.signed_word(),
-        };
+        let call = any_call(&mut random);
         assert_eq!(read_call(&spell(&call)), Some(call));
     }
     let longest = Call {

@@ -8,10 +8,10 @@
 use std::io::{self, BufWriter, Write};
 use std::process::ExitCode;
 
-use reference::generate::{spoil_text, Random};
+use reference::generate::{any_call, spoil_text, Random};
 use reference::record::{decode, encode, record_text, Record, RECORD_BYTES, RECORD_TEXT_LONGEST};
 use reference::refusal::answer;
-use reference::text::{has_form, write_call, Call, JOURNAL_LONGEST};
+use reference::text::{has_form, spell_call, JOURNAL_LONGEST};
 
 const USAGE: &str = "usage: c-cases SEED COUNT";
 
@@ -82,19 +82,7 @@ fn any_text(random: &mut Random) -> Vec<u8> {
 }
 
 fn any_line(random: &mut Random) -> Vec<u8> {
-    let call = Call {
-        now: random.word(),
-        line: random.word() as u8,
-        kind: random.pick(b"STBURP"),
-        id: random.word(),
-        time: random.word(),
-        meter: random.word() as u8,
-        value: random.signed_word(),
-    };
-    let mut text = vec![0; JOURNAL_LONGEST];
-    let length = write_call(&call, &mut text).expect("a kind with a letter");
-    text.truncate(length);
-    text
+    spell_call(&any_call(random))
 }
 
 fn any_bytes(random: &mut Random, limit: u64) -> Vec<u8> {

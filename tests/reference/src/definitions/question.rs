@@ -5,7 +5,7 @@ use super::tally::{sort_of_answer, sort_of_call};
 use crate::node::{call, open, Reading, State};
 use crate::record::{decode, Record, AREA_BYTES, RECORD_BYTES};
 use crate::refusal::answer;
-use crate::text::{read_call, write_call, Call, JOURNAL_LONGEST};
+use crate::text::{read_call, spell_call, Call};
 
 /// What a call or an opening leaves; an opening has no records and no area.
 #[derive(Clone, Debug, PartialEq, Eq)]
@@ -101,7 +101,7 @@ impl NodeQuestion {
     pub(super) fn ask(state: State, store: Vec<Reading>, asked: Call) -> Self {
         let (mut after, mut store_after) = (state.clone(), store.clone());
         let mut area = [0; AREA_BYTES];
-        let text = spell(&asked);
+        let text = spell_call(&asked);
         let (answer, records) = call(&mut after, &mut store_after, &text, &mut area);
         let laid = area.chunks_exact(RECORD_BYTES).take(records);
         NodeQuestion {
@@ -117,12 +117,4 @@ impl NodeQuestion {
                 .collect(),
         }
     }
-}
-
-/// The text of a call.
-pub(super) fn spell(call: &Call) -> Vec<u8> {
-    let mut text = vec![0; JOURNAL_LONGEST];
-    let length = write_call(call, &mut text).expect("a kind with a letter");
-    text.truncate(length);
-    text
 }

@@ -1,10 +1,9 @@
 //! Texts to read: settings lines and journal lines, of the form and broken.
 
-use super::question::spell;
 use super::tally::{sort_of_answer, Tally};
-use crate::generate::{spoil_text, Random};
+use crate::generate::{any_call, spoil_text, Random};
 use crate::refusal::answer;
-use crate::text::{has_form, read_settings, write_settings, Call, Settings};
+use crate::text::{has_form, read_settings, spell_call, write_settings, Settings};
 
 /// Settings texts, so many of them.
 pub(super) fn settings_texts(random: &mut Random, count: usize, tally: &mut Tally) -> Vec<Vec<u8>> {
@@ -51,16 +50,7 @@ pub(super) fn settings_text(random: &mut Random) -> Vec<u8> {
 
 /// A call's text: of the form, or broken once or more often.
 fn call_text(random: &mut Random) -> Vec<u8> {
-    let call = Call {
-        now: random.word(),
-        line: random.bits() as u8,
-        kind: random.pick(b"STBURP"),
-        id: random.word(),
-        time: random.word(),
-        meter: random.bits() as u8,
-        value: random.signed_word(),
-    };
-    let mut text = spell(&call);
+    let mut text = spell_call(&any_call(random));
     while random.once_in(2) {
         text = spoil_text(random, &text);
     }

@@ -1,8 +1,21 @@
-//! Calls aimed at a state, and faults aimed at one refusal each.
+//! Any calls, calls aimed at a state, and faults aimed at one refusal each.
 
 use super::random::Random;
 use crate::node::{Head, Reading, State, LINES, METERS, SHARE};
 use crate::text::{Call, BOUNDARY, DONE, STABLE, STEP, TENTATIVE, UNDO};
+
+/// A call with every field anywhere in its range, often at one of its ends.
+pub fn any_call(random: &mut Random) -> Call {
+    Call {
+        now: random.word(),
+        line: random.word() as u8,
+        kind: random.pick(b"STBURP"),
+        id: random.word(),
+        time: random.word(),
+        meter: random.word() as u8,
+        value: random.signed_word(),
+    }
+}
 
 /// The lines that a state really has heads for, whatever its settings say.
 fn line_count(state: &State) -> u64 {

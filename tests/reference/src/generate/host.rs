@@ -9,7 +9,7 @@ use crate::node::{Head, Meter, Operator, Reading, State, Word};
 use crate::node::{GREATEST_BUCKET, LINES, METERS, SHARE};
 use crate::record::AREA_BYTES;
 use crate::refusal::Refusal;
-use crate::text::{write_call, JOURNAL_LONGEST, STABLE, TENTATIVE};
+use crate::text::{spell_call, STABLE, TENTATIVE};
 
 /// What a host hands over from call to call.
 #[derive(Clone, Debug, PartialEq, Eq)]
@@ -35,9 +35,7 @@ pub fn host_case(random: &mut Random) -> HostCase {
     for _ in 0..random.pick(&[0, 0, 0, 0, 1, 2]) {
         spoil_call(random, &host.state, &host.store, &mut call);
     }
-    let mut text = vec![0; JOURNAL_LONGEST];
-    let length = write_call(&call, &mut text).expect("a kind with a letter");
-    text.truncate(length);
+    let mut text = spell_call(&call);
     if random.once_in(24) {
         text = spoil_text(random, &text);
     }

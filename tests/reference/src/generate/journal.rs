@@ -5,7 +5,7 @@ use std::io::{self, Write};
 use super::random::Random;
 use crate::node::{call, open, Reading, State, LINES, SHARE};
 use crate::record::AREA_BYTES;
-use crate::text::{next_line, read_call, write_call, Call, JOURNAL_LONGEST, LINE_END};
+use crate::text::{next_line, read_call, spell_call, Call, LINE_END};
 
 /// The journal written so far, and what a node has become by it.
 pub(super) struct Journal<'a> {
@@ -49,9 +49,7 @@ impl<'a> Journal<'a> {
 
     /// Writes a call, unless the journal is full, and gives the node's answer.
     pub(super) fn put(&mut self, call: &Call) -> io::Result<u32> {
-        let mut text = [0; JOURNAL_LONGEST];
-        let length = write_call(call, &mut text).expect("a kind with a letter");
-        self.put_text(&text[..length])
+        self.put_text(&spell_call(call))
     }
 
     /// Writes any text, which may be several lines or a part of one that goes on with the next

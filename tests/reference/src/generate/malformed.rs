@@ -6,7 +6,7 @@ use super::aim::fitting_call;
 use super::journal::Journal;
 use super::nasty;
 use super::random::Random;
-use crate::text::{write_call, write_settings, JOURNAL_LONGEST, LINE_END};
+use crate::text::{spell_call, write_settings, LINE_END};
 
 /// Texts to put in the place of a number.
 const NUMBERS: [&str; 24] = [
@@ -51,9 +51,7 @@ pub(super) fn write(seed: u64, lines: u64, output: &mut dyn Write) -> io::Result
     };
     while !journal.is_full() {
         let call = fitting_call(&mut journal.random, &journal.state, &journal.store);
-        let mut room = [0; JOURNAL_LONGEST];
-        let length = write_call(&call, &mut room).expect("a kind with a letter");
-        let mut text = room[..length].to_vec();
+        let mut text = spell_call(&call);
         while journal.random.once_in(2) {
             text = spoil_text(&mut journal.random, &text);
         }

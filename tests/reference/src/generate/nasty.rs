@@ -7,7 +7,7 @@ use super::journal::Journal;
 use super::malformed::spoil_text;
 use super::random::Random;
 use crate::node::SHARE;
-use crate::text::{write_call, write_settings, Call, Settings, JOURNAL_LONGEST};
+use crate::text::{spell_call, write_settings, Call, Settings};
 use crate::text::{BOUNDARY, STABLE, STEP, TENTATIVE, UNDO};
 
 /// From so many lines on, holds are short, so that the clock does not reach its end early.
@@ -140,9 +140,7 @@ fn mixed(journal: &mut Journal, count: i64) -> io::Result<()> {
             call.time = u32::MAX;
         }
         if journal.random.once_in(40) {
-            let mut text = [0; JOURNAL_LONGEST];
-            let length = write_call(&call, &mut text).expect("a kind with a letter");
-            let spoilt = spoil_text(&mut journal.random, &text[..length]);
+            let spoilt = spoil_text(&mut journal.random, &spell_call(&call));
             if !journal.leaps(&spoilt) || journal.rarely() {
                 journal.put_text(&spoilt)?;
             }

@@ -8,7 +8,7 @@ use super::malformed::spoil_text;
 use super::random::Random;
 use super::{write_journal, Kind};
 use crate::node::{METERS, SHARE};
-use crate::text::{write_call, write_settings, Call, Settings, JOURNAL_LONGEST};
+use crate::text::{spell_call, write_settings, Call, Settings};
 use crate::text::{BOUNDARY, STABLE, STEP};
 
 /// The longest text among the malformed ones, so that the cost of a line is not that of its length.
@@ -226,9 +226,7 @@ impl<'a> Site<'a> {
             if (2..5).contains(&fault) {
                 spoil_call(random, state, store, &mut call);
             }
-            let mut room = [0; JOURNAL_LONGEST];
-            let length = write_call(&call, &mut room).expect("a kind with a letter");
-            let mut text = room[..length].to_vec();
+            let mut text = spell_call(&call);
             if fault >= 5 {
                 text = spoil_text(random, &text);
             }

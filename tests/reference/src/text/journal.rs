@@ -92,6 +92,12 @@ pub fn write_call(call: &Call, area: &mut [u8]) -> Result<usize, Refusal> {
     Ok(pen.text().len())
 }
 
+/// The line of a call whose kind has a letter.
+pub fn spell_call(call: &Call) -> Vec<u8> {
+    assert!(is_letter(call.kind), "a kind with a letter");
+    spell(call).text().to_vec()
+}
+
 fn spell(call: &Call) -> Pen {
     let mut pen = Pen::new();
     pen.word(b"now=");

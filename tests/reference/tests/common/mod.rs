@@ -145,7 +145,7 @@ pub fn meter(count: u32, sum: i64, last: i32) -> Meter {
     Meter { count, sum, last }
 }
 
-/// The text of a call.
+/// The text of a call, by the writer that has an area.
 pub fn spell(call: &Call) -> Vec<u8> {
     let mut text = vec![0; JOURNAL_LONGEST];
     let length = write_call(call, &mut text).expect("a kind with a letter");
