@@ -1,4 +1,2 @@
--- Laws on the opening and the call.
-pub mod Openings
-pub mod AcceptedCalls
+-- Laws on the call.
 pub mod Answers

@@ -34,7 +34,7 @@ fn play_settings(
     ensures { λ r. ⌜ r .used ≡ length (openingText (openedOn state (columnsOf (now (ids .entry)) (now (times .entry)) (now (values .entry)) (now (arrivals .entry)) (now (kinds .entry)) (now (meters .entry))) (now (text .entry)))) ⌝ }
     ensures { λ _. ⌜ now (out .exit) ≡ inFront (openingText (openedOn state (columnsOf (now (ids .entry)) (now (times .entry)) (now (values .entry)) (now (arrivals .entry)) (now (kinds .entry)) (now (meters .entry))) (now (text .entry)))) (now (out .entry)) ⌝ }
 {
-    let done = calls::open(state, ids, times, values, arrivals, kinds, meters, text);
+    let done = opening::open(state, ids, times, values, arrivals, kinds, meters, text);
     let next = done.state;
     let settings = next.settings;
     let phase = next.phase;
@@ -166,7 +166,7 @@ fn play_all(
     let start = cursor.start;
     let end = cursor.end;
     let used = cursor.used;
-    let closed = calls::closed_state();
+    let closed = opening::closed_state();
     let opened = play_settings(
         closed,
         ids,

@@ -1,10 +1,10 @@
--- `calls::fresh_state` meets its contract: the heads are written out, and the operator is the fresh one. Assumes nothing.
+-- `opening::fresh_state` meets its contract: the heads are written out, and the operator is the fresh one. Assumes nothing.
 use borrow.Author.Needs.{needs}
 use Rattle.protocol.specs.Node.{noLine, opened}
 use Rattle.node.specs.View.{headOf}
 use Rattle.node.specs.Opening.{freshState}
-use Rattle.calls.proofs.fresh_state.Statement.{statement}
-use Rattle.calls.proofs.fresh_state.Tie as tie
+use Rattle.opening.proofs.fresh_state.Statement.{statement}
+use Rattle.opening.proofs.fresh_state.Tie as tie
 
 fresh-requires : tie.Need-fresh-requires
 fresh-requires c κs = search needs

@@ -1,8 +1,8 @@
--- `calls::closed_state` meets its contract, by that of `fresh_state`. Assumes nothing.
+-- `opening::closed_state` meets its contract, by that of `fresh_state`. Assumes nothing.
 use borrow.Author.Needs.{needs}
 use Rattle.node.specs.Opening.{closedState}
-use Rattle.calls.proofs.closed_state.Statement.{statement}
-use Rattle.calls.proofs.closed_state.Tie as tie
+use Rattle.opening.proofs.closed_state.Statement.{statement}
+use Rattle.opening.proofs.closed_state.Tie as tie
 
 fresh-state-requires : tie.Need-fresh-state-requires
 fresh-state-requires c κs = search needs

@@ -1,11 +1,11 @@
--- `calls::open` meets its contract: each way out is the law of what the text was read as. Assumes nothing.
+-- `opening::open` meets its contract: each way out is the law of what the text was read as. Assumes nothing.
 use mathlib.Core.Path.{sym, _∙_}
 use native.Mathlib.Omega.{arith}
 use borrow.Author.Needs.{needs}
 use Rattle.store.specs.Columns.{Columns, columnsOf}
-use Rattle.calls.proofs.Openings.{enough-room, opening-malformed, opening-outside, opening-short, opening-done}
-use Rattle.calls.proofs.open.Statement.{statement}
-use Rattle.calls.proofs.open.Tie as tie
+use Rattle.opening.proofs.Openings.{enough-room, opening-malformed, opening-outside, opening-short, opening-done}
+use Rattle.opening.proofs.open.Statement.{statement}
+use Rattle.opening.proofs.open.Tie as tie
 
 read-settings-requires : tie.Need-read-settings-requires
 read-settings-requires c κs = search needs

@@ -1,4 +1,4 @@
--- `calls::accept` meets its contract: an accepted call that names no line is a step, any other an input on its line. Assumes nothing.
+-- `accepted::accept` meets its contract: an accepted call that names no line is a step, any other an input on its line. Assumes nothing.
 use mathlib.Core.Path.{_≡_}
 use borrow.Author.Needs.{needs}
 use lib.ListN.{length}
@@ -6,9 +6,9 @@ use Rattle.store.specs.Columns.{Columns, columnsOf}
 use Rattle.protocol.specs.Node.{noLine}
 use Rattle.node.specs.View.{headOf}
 use Rattle.operator.proofs.FromPlace.{length-mapped}
-use Rattle.calls.proofs.AcceptedCalls.{step-laid, line-below, input-ready, input-laid}
-use Rattle.calls.proofs.accept.Statement.{statement}
-use Rattle.calls.proofs.accept.Tie as tie
+use Rattle.accepted.proofs.AcceptedCalls.{step-laid, line-below, input-ready, input-laid}
+use Rattle.accepted.proofs.accept.Statement.{statement}
+use Rattle.accepted.proofs.accept.Tie as tie
 
 step-requires : tie.Need-step-requires
 step-requires c κs = search needs

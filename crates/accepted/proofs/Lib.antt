@@ -1,0 +1,2 @@
+-- Laws on an accepted call.
+pub mod AcceptedCalls

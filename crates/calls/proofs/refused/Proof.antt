@@ -1,0 +1,10 @@
+-- `calls::refused` meets its contract: the state is handed back, and there is no record. Assumes nothing.
+use mathlib.Core.Path.{refl}
+use Rattle.calls.proofs.refused.Statement.{statement}
+use Rattle.calls.proofs.refused.Tie as tie
+
+returns : tie.Need-returns
+returns c = (refl, (refl, refl))
+
+pub refused-spec : {M : Type 1} → statement M
+refused-spec = tie.close (tie.spec returns)

@@ -1,0 +1,2 @@
+-- Laws on the opening.
+pub mod Openings

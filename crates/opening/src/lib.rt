@@ -1,0 +1,102 @@
+// The opening, and the state before it. Whatever state, store and text come, it answers.
+ghost use mathlib.Core.Path.{_≡_};
+ghost use Rattle.store.specs.Columns.{columnsOf};
+ghost use Rattle.node.specs.Opening.{freshState, closedState, openedOn};
+use clock::ArrivalTick;
+use clock::ReadingTime;
+use node::LineHead;
+use node::State;
+use operator::Operator;
+use protocol::Phase;
+use settings::Settings;
+use settings::SettingsRead;
+
+// Document 01's numbers of the refusals that a settings line gets.
+pub const MALFORMED_SETTINGS: u32 = 1;
+
+pub const SETTING_OUTSIDE_LIMITS: u32 = 2;
+
+// What an opening answers.
+pub struct OpeningReply {
+    pub state: State,
+    pub answer: u32,
+}
+
+// A state as an opening leaves it.
+fn fresh_state(s: Settings) -> State
+    ensures { λ r. ⌜ r ≡ freshState s ⌝ }
+{
+    let none = LineHead {
+        boundary: ReadingTime(0),
+        last_id: 0,
+        last_stable_id: 0,
+        kept: 0,
+    };
+    let operator = Operator::fresh();
+    State {
+        operator: operator,
+        checkpoint: operator,
+        heads: [none; 8],
+        settings: s,
+        clock: ArrivalTick(0),
+        c: 0,
+        p: 0,
+        phase: Phase::Stable,
+    }
+}
+
+// The state before the first opening: no network is open, and every call on it is refused.
+pub fn closed_state() -> State
+    ensures { λ r. ⌜ r ≡ closedState ⌝ }
+{
+    let none = Settings {
+        lines: 0,
+        bucket: 0,
+        window: 0,
+        hold: 0,
+        low: 0,
+        high: 0,
+    };
+    fresh_state(none)
+}
+
+// Opens a network: reads the settings, clears the state and zeroes the lines' shares. A refused opening hands back what it was given.
+pub fn open(
+    state: State,
+    ids: &mut [u32],
+    times: &mut [u32],
+    values: &mut [i32],
+    arrivals: &mut [u32],
+    kinds: &mut [u8],
+    meters: &mut [u8],
+    text: &[u8],
+) -> OpeningReply
+    ensures { λ r. ⌜ record { answer = r .answer; state = r .state; columns = columnsOf (now (ids .exit)) (now (times .exit)) (now (values .exit)) (now (arrivals .exit)) (now (kinds .exit)) (now (meters .exit)) } ≡ openedOn state (columnsOf (now (ids .entry)) (now (times .entry)) (now (values .entry)) (now (arrivals .entry)) (now (kinds .entry)) (now (meters .entry))) (now (text .entry)) ⌝ }
+{
+    let read = settings::read_settings(text);
+    match read {
+        SettingsRead::Malformed => OpeningReply {
+            state: state,
+            answer: MALFORMED_SETTINGS,
+        },
+        SettingsRead::OutsideLimits => OpeningReply {
+            state: state,
+            answer: SETTING_OUTSIDE_LIMITS,
+        },
+        SettingsRead::Accepted(s) => {
+            if shape::is_short(s.lines, ids, times, values, arrivals, kinds, meters) {
+                return OpeningReply {
+                    state: state,
+                    answer: shape::SHORT_STORE,
+                };
+            }
+            let end = s.lines as usize * store::READINGS_PER_LINE;
+            shares::zero(ids, times, values, arrivals, kinds, meters, 0, end);
+            let fresh = fresh_state(s);
+            OpeningReply {
+                state: fresh,
+                answer: 0,
+            }
+        }
+    }
+}
