@@ -1,7 +1,9 @@
 -- `accepted::accept` meets its contract: an accepted call that names no line is a step, any other an input on its line. Assumes nothing.
+use Prim.Native.Nat.{_-_, _<_}
 use mathlib.Core.Path.{_≡_}
 use borrow.Author.Needs.{needs}
 use lib.ListN.{length}
+use Rattle.settings.specs.Limits.{maxLines}
 use Rattle.store.specs.Columns.{Columns, columnsOf}
 use Rattle.protocol.specs.Node.{noLine}
 use Rattle.node.specs.View.{headOf}
@@ -9,6 +11,29 @@ use Rattle.operator.proofs.FromPlace.{length-mapped}
 use Rattle.accepted.proofs.AcceptedCalls.{step-laid, line-below, input-ready, input-laid}
 use Rattle.accepted.proofs.accept.Statement.{statement}
 use Rattle.accepted.proofs.accept.Tie as tie
+
+-- ---- what is known at the places on the way
+
+-- the columns as they are lent
+abbrev store : tie.Start → Columns
+store s =
+    columnsOf (s .args .ids .now) (s .args .times .now) (s .args .values .now) (s .args .arrivals .now) (s .args .kinds .now) (s .args .meters .now)
+
+-- the entry, from where the line's number is tested
+abbrev entry : tie.After-struct-known → tie.Start
+entry t = t .before .before .before .before .before .before .before .before
+
+-- an array has its length
+eight : (s : tie.Start) → length (s .args .state .heads) ≡ maxLines
+eight s = search (needs, length-mapped)
+
+-- the line that is named has a head
+below : (e : tie.Else1) → entry (e .before) .args .k .line - 1 < 8
+below e =
+    let s = entry (e .before) in
+    line-below (s .args .state) (store s) (s .args .area .now) (s .args .k) (s .pre .1) (s .pre .0) (e .if1 .left)
+
+-- ---- the needs
 
 step-requires : tie.Need-step-requires
 step-requires c κs = search needs
@@ -36,10 +61,10 @@ same-length-7 c = search needs
 
 returns : tie.Need-returns
 returns c =
-    let a = c .before .before .before .before .before .before .before .before .before .before .before .before .before .before .before .before .before .before .before .before .before .before .before .before .before .before .before .before .before .before .before .args in
-    let p = c .before .before .before .before .before .before .before .before .before .before .before .before .before .before .before .before .before .before .before .before .before .before .before .before .before .before .before .before .before .before .before .pre in
-    let x : Columns = columnsOf (a .ids .now) (a .times .now) (a .values .now) (a .arrivals .now) (a .kinds .now) (a .meters .now) in
-    step-laid (a .state) x (a .area .now) (a .k) (p .1) (c .before .before .before .before .before .before .before .before .before .before .before .before .before .before .before .before .before .before .before .before .before .before .if1 .taken) (c .before .before .before .before .before .before .before .before .before .before .before .before .before .before .step .ensures .0) (c .before .before .before .before .before .before .before .before .before .before .before .before .before .before .step .ensures .1 .0) (c .before .before .before .before .before .before .before .before .before .before .before .before .before .before .step .ensures .1 .1 .0) (c .before .before .before .before .before .before .before .before .before .before .before .before .before .before .step .ensures .1 .1 .1)
+    let done = c .before .before .before .before .before .before .before .before .before .before .before .before .before .before in
+    let t = done .before .before .before .before .before .before .before .before in
+    let s = entry (t .before) in
+    step-laid (s .args .state) (store s) (s .args .area .now) (s .args .k) (s .pre .1) (t .if1 .taken) (done .step .ensures .0) (done .step .ensures .1 .0) (done .step .ensures .1 .1 .0) (done .step .ensures .1 .1 .1)
 
 cast-i : tie.Need-cast-i
 cast-i c = search needs
@@ -54,31 +79,20 @@ mul-head : tie.Need-mul-head
 mul-head c = search needs
 
 element-copy-out-head : tie.Need-element-copy-out-head
-element-copy-out-head c =
-    let a = c .before .before .before .before .before .before .before .before .before .before .args in
-    let p = c .before .before .before .before .before .before .before .before .before .before .pre in
-    let x : Columns = columnsOf (a .ids .now) (a .times .now) (a .values .now) (a .arrivals .now) (a .kinds .now) (a .meters .now) in
-    line-below (a .state) x (a .area .now) (a .k) (p .1) (p .0) (c .before .if1 .left)
+element-copy-out-head c = below (c .before)
 
 input-requires : tie.Need-input-requires
 unfolding headOf noLine
 input-requires c κs =
-    let a = c .before .before .before .before .before .before .before .before .before .before .before .before .before .before .before .before .before .args in
-    let p = c .before .before .before .before .before .before .before .before .before .before .before .before .before .before .before .before .before .pre in
-    let x : Columns = columnsOf (a .ids .now) (a .times .now) (a .values .now) (a .arrivals .now) (a .kinds .now) (a .meters .now) in
-    let good = c .before .before .before .before .before .before .before .before .before .before .before .before .before .before .before .before .before .good .0 in
-    let eight : length (a .state .heads) ≡ 8 = search (needs, length-mapped) in
-    input-ready (a .state) x (a .area .now) (a .k) (p .1) (p .0) (c .before .before .before .before .before .before .before .before .if1 .left) eight
+    let e = c .before .before .before .before .before .before .before .before in
+    let s = entry (e .before) in
+    input-ready (s .args .state) (store s) (s .args .area .now) (s .args .k) (s .pre .1) (s .pre .0) (e .if1 .left) (eight s)
 
 mul-after : tie.Need-mul-after
 mul-after c = search needs
 
 element-set-from-after : tie.Need-element-set-from-after
-element-set-from-after c =
-    let a = c .before .before .before .before .before .before .before .before .before .before .before .before .before .before .before .before .before .before .before .before .before .before .before .before .before .before .before .before .before .args in
-    let p = c .before .before .before .before .before .before .before .before .before .before .before .before .before .before .before .before .before .before .before .before .before .before .before .before .before .before .before .before .before .pre in
-    let x : Columns = columnsOf (a .ids .now) (a .times .now) (a .values .now) (a .arrivals .now) (a .kinds .now) (a .meters .now) in
-    line-below (a .state) x (a .area .now) (a .k) (p .1) (p .0) (c .before .before .before .before .before .before .before .before .before .before .before .before .before .before .before .before .before .before .before .before .if1 .left)
+element-set-from-after c = below (c .before .before .before .before .before .before .before .before .before .before .before .before .before .before .before .before .before .before .before .before)
 
 same-length-8 : tie.Need-same-length-8
 same-length-8 c = search needs
@@ -101,12 +115,10 @@ same-length-13 c = search needs
 returns-2 : tie.Need-returns-2
 unfolding headOf noLine
 returns-2 c =
-    let a = c .before .before .before .before .before .before .before .before .before .before .before .before .before .before .before .before .before .before .before .before .before .before .before .before .before .before .before .before .before .args in
-    let p = c .before .before .before .before .before .before .before .before .before .before .before .before .before .before .before .before .before .before .before .before .before .before .before .before .before .before .before .before .before .pre in
-    let x : Columns = columnsOf (a .ids .now) (a .times .now) (a .values .now) (a .arrivals .now) (a .kinds .now) (a .meters .now) in
-    let good = c .before .before .before .before .before .before .before .before .before .before .before .before .before .before .before .before .before .before .before .before .before .before .before .before .before .before .before .before .before .good .0 in
-    let eight : length (a .state .heads) ≡ 8 = search (needs, length-mapped) in
-    input-laid (a .state) x (a .area .now) (a .k) (p .1) (p .0) (c .before .before .before .before .before .before .before .before .before .before .before .before .before .before .before .before .before .before .before .before .if1 .left) eight (c .before .before .before .before .before .before .before .before .before .before .before .input .ensures .0) (c .before .before .before .before .before .before .before .before .before .before .before .input .ensures .1)
+    let done = c .before .before .before .before .before .before .before .before .before .before .before in
+    let e = done .before .before .before .before .before .before .before .before .before in
+    let s = entry (e .before) in
+    input-laid (s .args .state) (store s) (s .args .area .now) (s .args .k) (s .pre .1) (s .pre .0) (e .if1 .left) (eight s) (done .input .ensures .0) (done .input .ensures .1)
 
 pub accept-spec : {M : Type 1} → statement M
 accept-spec =

@@ -1,12 +1,60 @@
 -- `calls::call` meets its contract: each way out is the law of what was refused first, and the last one is what `accept` ensures.
 -- Assumes nothing.
-use mathlib.Core.Path.{refl, sym, _∙_}
+use Prim.Native.Nat.{ℕ}
+use mathlib.Core.Path.{_≡_, refl, sym, _∙_}
 use native.Mathlib.Omega.{arith}
 use borrow.Author.Needs.{needs}
+use Rattle.journal.specs.declared.CallRead.the-variants as CallRead
+use Rattle.journal.specs.JournalLine.{callOf}
 use Rattle.store.specs.Columns.{Columns, columnsOf}
+use Rattle.protocol.specs.Refusals.{firstFailed, answerTo}
+use Rattle.node.specs.View.{view}
+use Rattle.node.specs.Calls.{hostTests}
 use Rattle.calls.proofs.Answers.{host-refused, text-refused, call-refused, call-done, refusal-ready, refused-same}
 use Rattle.calls.proofs.call.Statement.{statement}
 use Rattle.calls.proofs.call.Tie as tie
+
+-- ---- what is known at the places on the way; each place names the one that it goes back to
+
+-- the columns as they are lent
+abbrev store : tie.Start → Columns
+store s =
+    columnsOf (s .args .ids .now) (s .args .times .now) (s .args .values .now) (s .args .arrivals .now) (s .args .kinds .now) (s .args .meters .now)
+
+-- the host's tests, once they are made
+abbrev asked : tie.After-host-refusal → tie.Start
+asked h = h .before .before .before .before .before .before .before .before .before .before .before .before .before .before
+
+abbrev tests : tie.Start → ℕ
+tests s = firstFailed (hostTests (s .args .state) (store s) (s .args .area .now))
+
+host : (h : tie.After-host-refusal) → h .host-refusal .result ≡ tests (asked h)
+host h = h .host-refusal .ensures (asked h .args .area .now) (omega arith)
+
+passed : (e : tie.Else1) → tests (asked (e .before)) ≡ 0
+passed e = sym (host (e .before)) ∙ e .if1 .left
+
+-- the call that the text is read as
+abbrev past : tie.After-read → tie.Else1
+past r = r .before .before .before
+
+abbrev entry : tie.After-read → tie.Start
+entry r = asked (past r .before)
+
+read : (r : tie.After-read) → callOf (entry r .args .text .now) ≡ CallRead.Accepted (r .read .given .0 .0)
+read r = sym (r .before .before .read-call .ensures .0) ∙ r .read .given .1
+
+-- its refusals, once they are asked for
+abbrev judged : tie.After-refusal → tie.After-read
+judged f = f .before .before .before .before .before .before
+
+answer : (f : tie.After-refusal) → f .refusal .result ≡ answerTo (entry (judged f) .args .state .settings) (view (entry (judged f) .args .state) (store (entry (judged f)))) (judged f .read .given .0 .0)
+answer f =
+    let s = entry (judged f) in
+    f .refusal .ensures (s .args .state) (store s) refl refl refl refl
+    (refusal-ready (s .args .state) (store s) (s .args .area .now) (passed (past (judged f))) .room)
+
+-- ---- the needs
 
 host-refusal-requires : tie.Need-host-refusal-requires
 host-refusal-requires c κs = search needs
@@ -34,10 +82,9 @@ same-length-6 c = search needs
 
 returns : tie.Need-returns
 returns c =
-    let a = c .before .before .before .before .before .before .before .before .before .before .before .before .before .before .before .before .args in
-    let x : Columns = columnsOf (a .ids .now) (a .times .now) (a .values .now) (a .arrivals .now) (a .kinds .now) (a .meters .now) in
-    let host = c .before .before .host-refusal .ensures (a .area .now) (omega arith) in
-    refused-same x (a .area .now) (c .refused .ensures .0) (c .refused .ensures .1 .0) (c .refused .ensures .1 .1) ∙ host-refused (a .state) x (a .text .now) (a .area .now) host (c .before .if1 .taken)
+    let s = asked (c .before .before) in
+    refused-same (store s) (s .args .area .now) (c .refused .ensures .0) (c .refused .ensures .1 .0) (c .refused .ensures .1 .1) ∙
+    host-refused (s .args .state) (store s) (s .args .text .now) (s .args .area .now) (host (c .before .before)) (c .before .if1 .taken)
 
 read-call-requires : tie.Need-read-call-requires
 read-call-requires c κs = search needs
@@ -71,17 +118,17 @@ same-length-12 c = search needs
 
 returns-2 : tie.Need-returns-2
 returns-2 c =
-    let a = c .before .before .before .before .before .before .before .before .before .before .before .before .before .before .before .before .before .before .before .args in
-    let x : Columns = columnsOf (a .ids .now) (a .times .now) (a .values .now) (a .arrivals .now) (a .kinds .now) (a .meters .now) in
-    let host = c .before .before .before .before .before .host-refusal .ensures (a .area .now) (omega arith) in
-    refused-same x (a .area .now) (c .refused2 .ensures .0) (c .refused2 .ensures .1 .0) (omega (arith, c .refused2 .ensures .1 .1)) ∙ text-refused (a .state) x (a .text .now) (a .area .now) (sym host ∙ c .before .before .before .before .if1 .left) (sym (c .before .before .before .read-call .ensures .0) ∙ c .before .enum-told .given .1)
+    let e = c .before .before .before .before in
+    let s = asked (e .before) in
+    refused-same (store s) (s .args .area .now) (c .refused2 .ensures .0) (c .refused2 .ensures .1 .0) (omega (arith, c .refused2 .ensures .1 .1)) ∙
+    text-refused (s .args .state) (store s) (s .args .text .now) (s .args .area .now) (passed e)
+    (sym (c .before .before .before .read-call .ensures .0) ∙ c .before .enum-told .given .1)
 
 refusal-requires : tie.Need-refusal-requires
 refusal-requires c κs =
-    let a = c .before .before .before .before .before .before .before .before .before .before .before .before .before .before .before .before .before .before .before .before .before .before .before .args in
-    let x : Columns = columnsOf (a .ids .now) (a .times .now) (a .values .now) (a .arrivals .now) (a .kinds .now) (a .meters .now) in
-    let host = c .before .before .before .before .before .before .before .before .before .host-refusal .ensures (a .area .now) (omega arith) in
-    let ready = refusal-ready (a .state) x (a .area .now) (sym host ∙ c .before .before .before .before .before .before .before .before .if1 .left) in
+    let e = past (c .before .before .before .before .before) in
+    let s = asked (e .before) in
+    let ready = refusal-ready (s .args .state) (store s) (s .args .area .now) (passed e) in
     (ready .lines, ready .kinds, ready .small)
 
 refused-requires-3 : tie.Need-refused-requires-3
@@ -107,23 +154,15 @@ same-length-18 c = search needs
 
 returns-3 : tie.Need-returns-3
 returns-3 c =
-    let a = c .before .before .before .before .before .before .before .before .before .before .before .before .before .before .before .before .before .before .before .before .before .before .before .before .before .before .args in
-    let x : Columns = columnsOf (a .ids .now) (a .times .now) (a .values .now) (a .arrivals .now) (a .kinds .now) (a .meters .now) in
-    let host = c .before .before .before .before .before .before .before .before .before .before .before .before .host-refusal .ensures (a .area .now) (omega arith) in
-    let passed = sym host ∙ c .before .before .before .before .before .before .before .before .before .before .before .if1 .left in
-    let k = c .before .before .before .before .before .before .before .before .read .given .0 .0 in
-    let answer = c .before .before .refusal .ensures (a .state) x refl refl refl refl (refusal-ready (a .state) x (a .area .now) passed .room) in
-    refused-same x (a .area .now) (c .refused3 .ensures .0) (c .refused3 .ensures .1 .0) (c .refused3 .ensures .1 .1) ∙ call-refused (a .state) x (a .text .now) (a .area .now) passed k (sym (c .before .before .before .before .before .before .before .before .before .before .read-call .ensures .0) ∙ c .before .before .before .before .before .before .before .before .read .given .1) answer (λ z. omega arith)
+    let r = judged (c .before .before) in
+    let s = entry r in
+    refused-same (store s) (s .args .area .now) (c .refused3 .ensures .0) (c .refused3 .ensures .1 .0) (c .refused3 .ensures .1 .1) ∙
+    call-refused (s .args .state) (store s) (s .args .text .now) (s .args .area .now) (passed (past r)) (r .read .given .0 .0) (read r) (answer (c .before .before)) (λ z. omega arith)
 
 accept-requires : tie.Need-accept-requires
 accept-requires c κs =
-    let a = c .before .before .before .before .before .before .before .before .before .before .before .before .before .before .before .before .before .before .before .before .before .before .before .before .before .before .before .before .before .before .before .before .args in
-    let x : Columns = columnsOf (a .ids .now) (a .times .now) (a .values .now) (a .arrivals .now) (a .kinds .now) (a .meters .now) in
-    let host = c .before .before .before .before .before .before .before .before .before .before .before .before .before .before .before .before .before .before .host-refusal .ensures (a .area .now) (omega arith) in
-    let passed = sym host ∙ c .before .before .before .before .before .before .before .before .before .before .before .before .before .before .before .before .before .if1 .left in
-    let k = c .before .before .before .before .before .before .before .before .before .before .before .before .before .before .read .given .0 .0 in
-    let answer = c .before .before .before .before .before .before .before .before .refusal .ensures (a .state) x refl refl refl refl (refusal-ready (a .state) x (a .area .now) passed .room) in
-    (passed, sym answer ∙ c .before .before .before .before .before .before .before .if2 .left)
+    let e = c .before .before .before .before .before .before .before in
+    (passed (past (judged (e .before))), sym (answer (e .before)) ∙ e .if2 .left)
 
 same-length-19 : tie.Need-same-length-19
 same-length-19 c = search needs
@@ -148,10 +187,11 @@ same-length-25 c = search needs
 
 returns-4 : tie.Need-returns-4
 returns-4 c =
-    let a = c .before .before .before .before .before .before .before .before .before .before .before .before .before .before .before .before .before .before .before .before .before .before .before .before .before .before .before .before .before .before .before .before .before .before .before .before .before .before .before .before .before .before .before .before .before .before .args in
-    let x : Columns = columnsOf (a .ids .now) (a .times .now) (a .values .now) (a .arrivals .now) (a .kinds .now) (a .meters .now) in
-    let host = c .before .before .before .before .before .before .before .before .before .before .before .before .before .before .before .before .before .before .before .before .before .before .before .before .before .before .before .before .before .before .before .before .host-refusal .ensures (a .area .now) (omega arith) in
-    c .before .before .before .before .before .before .before .before .before .before .before .before .before .accept .ensures ∙ call-done (a .state) x (a .text .now) (a .area .now) (sym host ∙ c .before .before .before .before .before .before .before .before .before .before .before .before .before .before .before .before .before .before .before .before .before .before .before .before .before .before .before .before .before .before .before .if1 .left) (c .before .before .before .before .before .before .before .before .before .before .before .before .before .before .before .before .before .before .before .before .before .before .before .before .before .before .before .before .read .given .0 .0) (sym (c .before .before .before .before .before .before .before .before .before .before .before .before .before .before .before .before .before .before .before .before .before .before .before .before .before .before .before .before .before .before .read-call .ensures .0) ∙ c .before .before .before .before .before .before .before .before .before .before .before .before .before .before .before .before .before .before .before .before .before .before .before .before .before .before .before .before .read .given .1)
+    let done = c .before .before .before .before .before .before .before .before .before .before .before .before .before in
+    let r = judged (done .before .before .before .before .before .before .before .before .before) in
+    let s = entry r in
+    done .accept .ensures ∙
+    call-done (s .args .state) (store s) (s .args .text .now) (s .args .area .now) (passed (past r)) (r .read .given .0 .0) (read r)
 
 pub call-spec : {M : Type 1} → statement M
 call-spec =

@@ -1,11 +1,48 @@
 -- `opening::open` meets its contract: each way out is the law of what the text was read as. Assumes nothing.
-use mathlib.Core.Path.{sym, _∙_}
+use mathlib.Core.Path.{_≡_, sym, _∙_}
+use mathlib.Core.Bool.{true, false}
 use native.Mathlib.Omega.{arith}
 use borrow.Author.Needs.{needs}
+use Rattle.settings.specs.declared.Settings.{Settings}
+use Rattle.settings.specs.declared.SettingsRead.the-variants as SettingsRead
+use Rattle.settings.specs.SettingsLine.{settingsOf}
 use Rattle.store.specs.Columns.{Columns, columnsOf}
+use Rattle.node.specs.Opening.{isShort}
 use Rattle.opening.proofs.Openings.{enough-room, opening-malformed, opening-outside, opening-short, opening-done}
 use Rattle.opening.proofs.open.Statement.{statement}
 use Rattle.opening.proofs.open.Tie as tie
+
+-- ---- what is known at the places on the way; each place names the one that it goes back to
+
+-- the columns as they are lent
+abbrev store : tie.Start → Columns
+store s =
+    columnsOf (s .args .ids .now) (s .args .times .now) (s .args .values .now) (s .args .arrivals .now) (s .args .kinds .now) (s .args .meters .now)
+
+-- the text, once it is read
+abbrev asked : tie.After-read-settings → tie.Start
+asked t = t .before .before .before .before .before .before .before
+
+abbrev entry : tie.After-read → tie.Start
+entry r = asked (r .before .before)
+
+abbrev settings : tie.After-read → Settings
+settings r = r .read .given .0 .0
+
+read : (r : tie.After-read) → settingsOf (entry r .args .text .now) ≡ SettingsRead.Accepted (settings r)
+read r = sym (r .before .before .read-settings .ensures .0) ∙ r .read .given .1
+
+-- the room, once it is measured
+abbrev measured : tie.After-is-short → tie.After-read
+measured m = m .before .before .before .before .before .before .before .before
+
+short : (t : tie.Then1) → isShort (settings (measured (t .before)) .lines) (store (entry (measured (t .before)))) ≡ true
+short t = sym (t .before .is-short .ensures) ∙ t .if1 .taken
+
+room : (e : tie.Else1) → isShort (settings (measured (e .before)) .lines) (store (entry (measured (e .before)))) ≡ false
+room e = sym (e .before .is-short .ensures) ∙ e .if1 .left
+
+-- ---- the needs
 
 read-settings-requires : tie.Need-read-settings-requires
 read-settings-requires c κs = search needs
@@ -42,9 +79,9 @@ same-length-6 c = search needs
 
 returns : tie.Need-returns
 returns c =
-    let a = c .before .before .before .before .before .before .before .before .before .before .before .before .before .before .before .before .before .before .args in
-    let x : Columns = columnsOf (a .ids .now) (a .times .now) (a .values .now) (a .arrivals .now) (a .kinds .now) (a .meters .now) in
-    opening-short (a .state) x (a .text .now) (c .before .before .before .before .before .before .before .before .before .read .given .0 .0) (sym (c .before .before .before .before .before .before .before .before .before .before .before .read-settings .ensures .0) ∙ c .before .before .before .before .before .before .before .before .before .read .given .1) (sym (c .before .is-short .ensures) ∙ c .if1 .taken)
+    let r = measured (c .before) in
+    let s = entry r in
+    opening-short (s .args .state) (store s) (s .args .text .now) (settings r) (read r) (short c)
 
 cast-end : tie.Need-cast-end
 cast-end c = search needs
@@ -54,9 +91,9 @@ mul-end c = search needs
 
 zero-requires : tie.Need-zero-requires
 zero-requires c κs =
-    let a = c .before .before .before .before .before .before .before .before .before .before .before .before .before .before .before .before .before .before .before .before .before .before .before .before .before .args in
-    let x : Columns = columnsOf (a .ids .now) (a .times .now) (a .values .now) (a .arrivals .now) (a .kinds .now) (a .meters .now) in
-    let long = enough-room (c .before .before .before .before .before .before .before .before .before .before .before .before .before .before .before .before .read .given .0 .0 .lines) x (sym (c .before .before .before .before .before .before .before .before .is-short .ensures) ∙ c .before .before .before .before .before .before .before .if1 .left) in
+    let e = c .before .before .before .before .before .before .before in
+    let r = measured (e .before) in
+    let long = enough-room (settings r .lines) (store (entry r)) (room e) in
     (omega arith, omega (arith, long))
 
 fresh-state-requires : tie.Need-fresh-state-requires
@@ -64,15 +101,15 @@ fresh-state-requires c κs = search needs
 
 returns-2 : tie.Need-returns-2
 returns-2 c =
-    let a = c .before .before .before .before .before .before .before .before .before .args in
-    let x : Columns = columnsOf (a .ids .now) (a .times .now) (a .values .now) (a .arrivals .now) (a .kinds .now) (a .meters .now) in
-    opening-malformed (a .state) x (a .text .now) (sym (c .before .before .read-settings .ensures .0) ∙ c .enum-told .given .1)
+    let t = c .before .before in
+    let s = asked t in
+    opening-malformed (s .args .state) (store s) (s .args .text .now) (sym (t .read-settings .ensures .0) ∙ c .enum-told .given .1)
 
 returns-3 : tie.Need-returns-3
 returns-3 c =
-    let a = c .before .before .before .before .before .before .before .before .before .args in
-    let x : Columns = columnsOf (a .ids .now) (a .times .now) (a .values .now) (a .arrivals .now) (a .kinds .now) (a .meters .now) in
-    opening-outside (a .state) x (a .text .now) (sym (c .before .before .read-settings .ensures .0) ∙ c .enum-told2 .given .1)
+    let t = c .before .before in
+    let s = asked t in
+    opening-outside (s .args .state) (store s) (s .args .text .now) (sym (t .read-settings .ensures .0) ∙ c .enum-told2 .given .1)
 
 same-length-7 : tie.Need-same-length-7
 same-length-7 c = search needs
@@ -94,9 +131,11 @@ same-length-12 c = search needs
 
 returns-4 : tie.Need-returns-4
 returns-4 c =
-    let a = c .before .before .before .before .before .before .before .before .before .before .before .before .before .before .before .before .before .before .before .before .before .before .before .before .before .before .before .before .before .before .before .before .before .before .before .before .before .before .args in
-    let x : Columns = columnsOf (a .ids .now) (a .times .now) (a .values .now) (a .arrivals .now) (a .kinds .now) (a .meters .now) in
-    opening-done (a .state) x (a .text .now) (c .before .before .before .before .before .before .before .before .before .before .before .before .before .before .before .before .before .before .before .before .before .before .before .before .before .before .before .before .before .read .given .0 .0) (sym (c .before .before .before .before .before .before .before .before .before .before .before .before .before .before .before .before .before .before .before .before .before .before .before .before .before .before .before .before .before .before .before .read-settings .ensures .0) ∙ c .before .before .before .before .before .before .before .before .before .before .before .before .before .before .before .before .before .before .before .before .before .before .before .before .before .before .before .before .before .read .given .1) (sym (c .before .before .before .before .before .before .before .before .before .before .before .before .before .before .before .before .before .before .before .before .before .is-short .ensures) ∙ c .before .before .before .before .before .before .before .before .before .before .before .before .before .before .before .before .before .before .before .before .if1 .left) (c .fresh-state .ensures) (c .before .before .before .before .before .before .before .before .before .before .before .before .zero .ensures)
+    let z = c .before .before .before .before .before .before .before .before .before .before .before .before in
+    let e = z .before .before .before .before .before .before .before .before in
+    let r = measured (e .before) in
+    let s = entry r in
+    opening-done (s .args .state) (store s) (s .args .text .now) (settings r) (read r) (room e) (c .fresh-state .ensures) (z .zero .ensures)
 
 pub open-spec : {M : Type 1} → statement M
 open-spec =
