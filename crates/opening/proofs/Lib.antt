@@ -1,2 +1,3 @@
--- Laws on the opening.
+-- Laws on the opening, and on the state before it.
 pub mod Openings
+pub mod Closed
