@@ -1,5 +1,3 @@
--- Laws on the steps: readings removed line by line, the records of a bucket's work, what each rule leaves, and times within 32 bits.
-pub mod Removed
-pub mod Given
-pub mod Acts
+-- Laws on a step: what the rule that applies does, and times within 32 bits.
+pub mod ByRule
 pub mod Within

@@ -28,7 +28,7 @@ use Rattle.node.specs.View.{viewLine, viewLines, places, view}
 use Rattle.node.proofs.Limits.{limits-hold}
 use Rattle.node.proofs.Shape.{InShape}
 use Rattle.node.proofs.Shares.{length-viewLines}
-use Rattle.steps.proofs.Acts.{Found, applies}
+use Rattle.steps.proofs.ByRule.{Found, applies}
 use Rattle.node.proofs.Times.{TimesWithin, start-fits, stable-end-within, due-start-within}
 
 -- what owning one element tells holds of every element of an array that is owned

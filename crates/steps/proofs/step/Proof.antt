@@ -13,7 +13,7 @@ use Rattle.node.proofs.LineHead.{the-field as head-field}
 use Rattle.node.proofs.Limits.{limits-hold}
 use Rattle.node.proofs.Shape.{inShape-facts}
 use Rattle.node.proofs.Calls.{HostPassed, host-passed}
-use Rattle.steps.proofs.Acts.{Found, idle-acts, by-rule}
+use Rattle.steps.proofs.ByRule.{Found, idle-acts, by-rule}
 use Rattle.steps.proofs.Within.{BoundaryWithin, every-owned, stable-within, tentative-within}
 use Rattle.steps.proofs.step.Statement.{statement}
 use Rattle.steps.proofs.step.Tie as tie

@@ -1,4 +1,4 @@
--- `steps::stable_records` meets its contract: the results, and the boundary behind them where bucket c closes a window. Assumes nothing.
+-- `acts::stable_records` meets its contract: the results, and the boundary behind them where bucket c closes a window. Assumes nothing.
 use Prim.Native.Nat.{ℕ, _*_, _-_, _≤_}
 use mathlib.Core.Path.{_≡_, sym, _∙_, ap}
 use mathlib.Core.List.{List}
@@ -20,9 +20,9 @@ use Rattle.node.specs.View.{view}
 use Rattle.node.proofs.Limits.{limits-hold}
 use Rattle.node.proofs.Shape.{inShape-facts}
 use Rattle.node.proofs.Times.{start-fits, stable-start-fits}
-use Rattle.steps.proofs.Given.{Given, work-given, no-boundary, with-boundary, one-more, record-behind}
-use Rattle.steps.proofs.stable_records.Statement.{statement}
-use Rattle.steps.proofs.stable_records.Tie as tie
+use Rattle.acts.proofs.Given.{Given, work-given, no-boundary, with-boundary, one-more, record-behind}
+use Rattle.acts.proofs.stable_records.Statement.{statement}
+use Rattle.acts.proofs.stable_records.Tie as tie
 
 -- the operator's array has its length
 all-meters : (c : tie.Start) → length (c .args .state .operator .meters) ≡ meterCount

@@ -1,8 +1,8 @@
--- `steps::plain` meets its contract. Assumes nothing.
+-- `acts::plain` meets its contract. Assumes nothing.
 use mathlib.Core.Path.{refl}
 use Rattle.operator.specs.Results.{plain}
-use Rattle.steps.proofs.plain.Statement.{statement}
-use Rattle.steps.proofs.plain.Tie as tie
+use Rattle.acts.proofs.plain.Statement.{statement}
+use Rattle.acts.proofs.plain.Tie as tie
 
 returns : tie.Need-returns
 unfolding plain

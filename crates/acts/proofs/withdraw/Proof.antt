@@ -1,13 +1,13 @@
--- `steps::withdraw` meets its contract: one record, the checkpoint back, and no line changed. Assumes nothing.
+-- `acts::withdraw` meets its contract: one record, the checkpoint back, and no line changed. Assumes nothing.
 use mathlib.Core.Path.{_∙_, ap}
 use borrow.Author.Needs.{needs}
 use Rattle.area.specs.Laid.{inFront}
 use Rattle.record.specs.declared.Record.{Record}
 use Rattle.record.specs.Layout.{bytesOf}
 use Rattle.operator.proofs.FromPlace.{length-mapped}
-use Rattle.steps.proofs.Acts.{withdraw-acts}
-use Rattle.steps.proofs.withdraw.Statement.{statement}
-use Rattle.steps.proofs.withdraw.Tie as tie
+use Rattle.acts.proofs.Acts.{withdraw-acts}
+use Rattle.acts.proofs.withdraw.Statement.{statement}
+use Rattle.acts.proofs.withdraw.Tie as tie
 
 cast-plain : tie.Need-cast-plain
 cast-plain c = search needs

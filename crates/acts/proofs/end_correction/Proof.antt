@@ -1,13 +1,13 @@
--- `steps::end_correction` meets its contract: one record, and no line changed. Assumes nothing.
+-- `acts::end_correction` meets its contract: one record, and no line changed. Assumes nothing.
 use mathlib.Core.Path.{_∙_, ap}
 use borrow.Author.Needs.{needs}
 use Rattle.area.specs.Laid.{inFront}
 use Rattle.record.specs.declared.Record.{Record}
 use Rattle.record.specs.Layout.{bytesOf}
 use Rattle.operator.proofs.FromPlace.{length-mapped}
-use Rattle.steps.proofs.Acts.{end-correction-acts}
-use Rattle.steps.proofs.end_correction.Statement.{statement}
-use Rattle.steps.proofs.end_correction.Tie as tie
+use Rattle.acts.proofs.Acts.{end-correction-acts}
+use Rattle.acts.proofs.end_correction.Statement.{statement}
+use Rattle.acts.proofs.end_correction.Tie as tie
 
 plain-requires : tie.Need-plain-requires
 plain-requires c κs = search needs

@@ -1,4 +1,4 @@
--- `steps::work_stable` meets its contract: the bucket's records, and its readings removed from every line. Assumes nothing.
+-- `acts::work_stable` meets its contract: the bucket's records, and its readings removed from every line. Assumes nothing.
 use mathlib.Core.Path.{_≡_}
 use native.Mathlib.Omega.{arith}
 use borrow.Author.Needs.{needs}
@@ -11,9 +11,9 @@ use Rattle.node.specs.View.{places, view}
 use Rattle.node.proofs.Lists.{every-to}
 use Rattle.node.proofs.Limits.{limits-hold}
 use Rattle.node.proofs.Shape.{HeadShape, inShape-facts}
-use Rattle.steps.proofs.Acts.{work-stable-acts}
-use Rattle.steps.proofs.work_stable.Statement.{statement}
-use Rattle.steps.proofs.work_stable.Tie as tie
+use Rattle.acts.proofs.Acts.{work-stable-acts}
+use Rattle.acts.proofs.work_stable.Statement.{statement}
+use Rattle.acts.proofs.work_stable.Tie as tie
 
 -- the state's array of heads has its length
 all-heads : (c : tie.Start) → length (c .args .state .heads) ≡ maxLines

@@ -1,0 +1,2 @@
+-- What the acts of the rules do.
+pub mod Acted

@@ -1,2 +1,0 @@
--- What a step's rules do.
-pub mod Acted
