@@ -63,7 +63,7 @@ cast-t21 : tie.Need-cast-t21
 cast-t21 c = let g = results-given (c .before .before) in omega arith
 
 same-length : tie.Need-same-length
-same-length c = search needs
+same-length c = c .before .before .before .before .before .before .work .kept .1 .1 .1 .1 .1 .1 .1 .1 .1 .0
 
 returns : tie.Need-returns
 returns c =

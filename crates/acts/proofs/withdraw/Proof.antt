@@ -19,7 +19,7 @@ put-record-requires : tie.Need-put-record-requires
 put-record-requires c κs = search needs
 
 same-length : tie.Need-same-length
-same-length c = search needs
+same-length c = c .before .before .put-record .kept .0
 
 returns : tie.Need-returns
 returns c x room shape =

@@ -53,7 +53,7 @@ add-t21 c =
     omega (arith, inShape-facts (a .state) x (start .pre .1) .buckets .last)
 
 same-length : tie.Need-same-length
-same-length c = search needs
+same-length c = c .before .before .before .before .work .kept .1 .1 .1 .1 .1 .1 .1 .1 .1 .0
 
 returns : tie.Need-returns
 returns c =
