@@ -1,6 +1,6 @@
 -- Laws on the number that a text spells from a place on, by the run of digits that stands there. Assumes nothing.
 use mathlib.Core.Path.{_≡_, refl}
-use mathlib.Core.Bool.{Bool, true, false, cond, _&&_, _||_}
+use mathlib.Core.Bool.{Bool, true, false, cond, _&&_, _||_, or-true}
 use mathlib.Core.List.{List}
 use Prim.Native.Nat.{ℕ, _+_, _<_, _≤_}
 use native.Mathlib.Omega.{arith}
@@ -14,10 +14,6 @@ use Rattle.decimal.specs.declared.Number.the-variants as Number
 either-false : (x y : Bool) → (x || y) ≡ false → (x ≡ false) × (y ≡ false)
 either-false true y e = let z : _≡_ {A = ℕ} 0 1 = cc in absurd (omega arith)
 either-false false y e = (refl, e)
-
-or-true : (x : Bool) → (x || true) ≡ true
-or-true true = refl
-or-true false = refl
 
 -- how a run is misspelled, and how not
 pub no-digits : (t : List ℕ) → runLength t ≡ 0 → misspelled t ≡ true

@@ -1,6 +1,6 @@
 -- Laws on the run of digits at the start of a text, by its first byte: how long it is and what value it has. Assumes nothing.
 use mathlib.Core.Path.{_≡_, refl}
-use mathlib.Core.Bool.{Bool, true, false, cond, _&&_}
+use mathlib.Core.Bool.{Bool, true, false, cond, and-eq-true-iff}
 use mathlib.Core.List.{List, [], _∷_}
 use Prim.Native.Nat.{ℕ, suc, _+_, _-_, _*_, _<_, _≤_}
 use native.Mathlib.Nat.{add-zero}
@@ -25,11 +25,7 @@ above-digits b h = simp (le-leb 48 b (omega arith), lt-leb b 57 h)
 
 pub digit-range : (b : ℕ) → isDigit b ≡ true → (48 ≤ b) × (b ≤ 57)
 unfolding isDigit
-digit-range b e = let p = both (leb 48 b) (leb b 57) e in (leb-true 48 b (p .0), leb-true b 57 (p .1))
-  where
-    both : (x y : Bool) → (x && y) ≡ true → (x ≡ true) × (y ≡ true)
-    both true y e = (refl, e)
-    both false y e = let z : _≡_ {A = ℕ} 0 1 = cc in absurd (omega arith)
+digit-range b e = let p = and-eq-true-iff (leb 48 b) (leb b 57) .0 e in (leb-true 48 b (p .0), leb-true b 57 (p .1))
 
 -- the byte that a rest of a text begins with
 pub head-drop : (i : ℕ) (s : List ℕ) → getD (drop i s) 0 0 ≡ getD s i 0

@@ -1,6 +1,6 @@
 -- Laws on a text that begins with given bytes: exactly if those bytes stand in front. Assumes nothing.
 use mathlib.Core.Path.{_≡_, refl, sym, ap, ap₂, _∙_}
-use mathlib.Core.Bool.{Bool, true, false, _&&_}
+use mathlib.Core.Bool.{true, false, _&&_, and-eq-true-iff, and-false}
 use mathlib.Core.List.{List, [], _∷_, _++_}
 use Prim.Native.Nat.{ℕ, zero, suc, _+_, _<_, _≤_}
 use native.Mathlib.Omega.{arith}
@@ -18,21 +18,13 @@ unfolding startsWith
 starts-complete [] rest = refl
 starts-complete (k ∷ key) rest = rw (eq-eqb k k refl) (starts-complete key rest)
 
-and-true : (a b : Bool) → a && b ≡ true → (a ≡ true) × (b ≡ true)
-and-true true b e = (refl, e)
-and-true false b e = absurd (let z : _≡_ {A = ℕ} 0 1 = cc in omega arith)
-
 pub starts-sound : (key t : List ℕ) → startsWith key t ≡ true → t ≡ key ++ drop (length key) t
 unfolding startsWith
 starts-sound [] t e = refl
 starts-sound (k ∷ key) [] e = absurd (let z : _≡_ {A = ℕ} 0 1 = cc in omega arith)
 starts-sound (k ∷ key) (b ∷ t) e =
-    let both = and-true (eqb k b) (startsWith key t) e in
+    let both = and-eq-true-iff (eqb k b) (startsWith key t) .0 e in
     ap₂ (λ (x : ℕ) (l : List ℕ). x ∷ l) (sym (eqb-true k b (both .0))) (starts-sound key t (both .1))
-
-and-false : (a : Bool) → a && false ≡ false
-and-false true = refl
-and-false false = refl
 
 -- a text that is shorter than the bytes does not begin with them
 pub starts-short : (key t : List ℕ) → length t < length key → startsWith key t ≡ false

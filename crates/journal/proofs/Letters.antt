@@ -4,13 +4,13 @@ use mathlib.Core.Bool.{Bool, true, false, cond}
 use mathlib.Core.List.{List, [], _∷_, _++_}
 use Prim.Native.Nat.{ℕ, zero, suc, _+_, _<_, _≤_}
 use native.Mathlib.Omega.{arith}
-use native.Mathlib.Nat.{add-zero}
 use native.Mathlib.Numerals.{add-one}
 use borrow.Author.Tests.{ne-eqb, ltb-true, ltb-false}
 use lib.Dec.{ltb}
 use lib.ListN.{length, getD, drop, length-append, List·getD-eq-default}
-use lib.Seq.{drop-cons, getD-drop}
+use lib.Seq.{drop-cons}
 use Rattle.decimal.specs.declared.Number.the-variants as Number
+use Rattle.decimal.proofs.Runs.{head-drop}
 use Rattle.fields.specs.Field.{startsWith}
 use Rattle.fields.proofs.Spells.{Spells, spells-rest}
 use Rattle.fields.proofs.Fields.{picked, no-number, field-sound, field-complete, getD-inside}
@@ -38,10 +38,6 @@ letter-byte b e = (elim (ltb b 256) as (λ t. ltb b 256 ≡ t → b < 256) [ tru
     large : 256 ≤ b → ⊥
     large h = let f : isLetter b ≡ false = no-such-letter b (λ q. omega arith) (λ q. omega arith) (λ q. omega arith) (λ q. omega arith) (λ q. omega arith) (λ q. omega arith) in let z : _≡_ {A = ℕ} 0 1 = cc in omega arith
 
--- the byte at a place, as the head of what stands from there on
-head-drop : (s : List ℕ) (at : ℕ) → getD (drop at s) 0 0 ≡ getD s at 0
-head-drop s at = getD-drop at s 0 0 ∙ ap (λ (n : ℕ). getD s n 0) (add-zero at)
-
 same-value : (a b c d : ℕ) → Number.Value a b ≡ Number.Value c d → (a ≡ c) × (b ≡ d)
 same-value a b c d q = (cc, cc)
 
@@ -58,7 +54,7 @@ letter-at-sound s at k e q =
 letter-at-complete : (s r : List ℕ) (at k : ℕ) → isLetter k ≡ true → drop at s ≡ (k ∷ []) ++ r → letterAt s at ≡ Number.Value k (at + 1)
 unfolding letterAt
 letter-at-complete s r at k l p =
-    let byte : getD s at 0 ≡ k = sym (head-drop s at) ∙ ap (λ (t : List ℕ). getD t 0 0) p in
+    let byte : getD s at 0 ≡ k = sym (head-drop at s) ∙ ap (λ (t : List ℕ). getD t 0 0) p in
     rw (byte, l)
 
 module _ (key s : List ℕ) (at k : ℕ) where

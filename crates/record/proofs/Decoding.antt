@@ -1,7 +1,7 @@
 -- Bytes are read as a record exactly if they are that record's bytes, and its kind is one that records have.
 -- By the one test of the form: where it holds the fields are there and back, where it fails nothing is read. Assumes nothing.
 use mathlib.Core.Path.{_≡_, refl, sym, ap, subst, _∙_}
-use mathlib.Core.Bool.{Bool, true, false, _&&_}
+use mathlib.Core.Bool.{true, false, _&&_, and-eq-true-iff}
 use mathlib.Core.List.{List}
 use Prim.Native.Nat.{ℕ}
 use native.Mathlib.Omega.{arith}
@@ -41,17 +41,13 @@ decoded-bytesOf r w k = decoded-well (bytesOf r) (wellFormed-bytesOf r k) ∙ ap
 
 -- ---- and nothing else is
 
-and-true : (s t : Bool) → s && t ≡ true → (s ≡ true) × (t ≡ true)
-and-true true t e = (refl, e)
-and-true false t e = let z : _≡_ {A = ℕ} 0 1 = cc in absurd (omega arith)
-
 -- what the test of the form says
 pub wellFormed-only : (b : List ℕ) → isWellFormed b ≡ true → (length b ≡ 32) × (isRecord (getD b 0 0) ≡ true) × (getD b 2 0 ≡ 0) × (getD b 3 0 ≡ 0)
 unfolding isWellFormed
 wellFormed-only b e =
-    let size = and-true (eqb (length b) 32) (isRecord (getD b 0 0) && (eqb (getD b 2 0) 0 && eqb (getD b 3 0) 0)) e in
-    let kind = and-true (isRecord (getD b 0 0)) (eqb (getD b 2 0) 0 && eqb (getD b 3 0) 0) (size .1) in
-    let zeros = and-true (eqb (getD b 2 0) 0) (eqb (getD b 3 0) 0) (kind .1) in
+    let size = and-eq-true-iff (eqb (length b) 32) (isRecord (getD b 0 0) && (eqb (getD b 2 0) 0 && eqb (getD b 3 0) 0)) .0 e in
+    let kind = and-eq-true-iff (isRecord (getD b 0 0)) (eqb (getD b 2 0) 0 && eqb (getD b 3 0) 0) .0 (size .1) in
+    let zeros = and-eq-true-iff (eqb (getD b 2 0) 0) (eqb (getD b 3 0) 0) .0 (kind .1) in
     (eqb-true (length b) 32 (size .0), kind .0, eqb-true (getD b 2 0) 0 (zeros .0), eqb-true (getD b 3 0) 0 (zeros .1))
 
 pub decoded-only : (b : List ℕ) (r : Record) → AreBytes b → decoded b ≡ Decoded.Is r → (b ≡ bytesOf r) × Within r × (isRecord (r .kind) ≡ true)
