@@ -20,9 +20,9 @@ use Rattle.store.specs.declared.Reading.{Reading}
 use Rattle.store.specs.Sizes.{readingsPerLine}
 use Rattle.store.specs.Columns.{Columns, storeLength, rowsFrom, withKept, share}
 use Rattle.store.proofs.Pairs.{every-index}
-use Rattle.store.proofs.Columns.{length-rowsFrom}
+use Rattle.store.proofs.Columns.{length-rowsFrom, take-rows}
 use Rattle.columns.specs.Places.{rises}
-use Rattle.shares.proofs.Rows.{take-rows, ids-share}
+use Rattle.shares.proofs.Rows.{ids-share}
 use Rattle.protocol.specs.Kinds.{Kind, kindOf}
 use Rattle.protocol.specs.Node.{Line, Node, noLine, onLine}
 use Rattle.protocol.specs.Rules.{Outcome, ruleOf, act}

@@ -14,16 +14,15 @@ use Rattle.store.specs.Sizes.{readingsPerLine}
 use Rattle.store.specs.Lists.{keep, Every}
 use Rattle.store.specs.Order.{isIn}
 use Rattle.store.specs.Columns.{Columns, storeLength, rowsFrom, rows, zeroed, withRows, withRowsAt, withKept}
-use Rattle.store.proofs.Columns.{length-rowsFrom}
-use Rattle.shares.proofs.Lists.{length-keep}
-use Rattle.shares.proofs.Rows.{take-rows, own-rows}
-use Rattle.shares.proofs.Written.{SameLengths, rows-join, rows-behind, lengths-written, same-lengths, lengths-then, rows-front}
+use Rattle.store.proofs.Pairs.{every-to, every-map}
+use Rattle.store.proofs.Columns.{length-rowsFrom, take-rows, drop-rows, withRowsAt-front}
+use Rattle.store.proofs.Keeping.{length-keep}
+use Rattle.shares.proofs.Rows.{own-rows}
+use Rattle.shares.proofs.Written.{SameLengths, rows-join, rows-behind, lengths-written, same-lengths, lengths-then}
 use Rattle.protocol.specs.Node.{Line}
 use Rattle.protocol.specs.Rules.{without}
 use Rattle.node.specs.declared.LineHead.{LineHead}
 use Rattle.node.specs.View.{viewLine, viewLines, headOf, headsWith, shareWith, sharesWith}
-use Rattle.node.proofs.Lists.{every-map}
-use Rattle.node.proofs.Lines.{drop-rows}
 use Rattle.node.proofs.Shares.{SmallHead, SmallLine, Shares, length-sharesWith, length-viewLines, small-viewLines}
 
 -- the readings of the other buckets, of so many from a place on
@@ -211,5 +210,5 @@ store-front s j hs x enough small room =
     let lines : List Line = linesLeft s j x 0 (s .lines) hs in
     let many : length lines ≡ s .lines = length-map (viewLines (s .lines) hs rs) (without s j) ∙ length-viewLines (s .lines) hs rs enough in
     let shares : Shares (length lines) hs rs = record { heads = omega arith; kept = rw many small; room = omega (arith, length-rowsFrom x 0 (s .lines * readingsPerLine)) } in
-    let fit : Every SmallLine lines = every-map SmallLine (without s j) (without-small s j) (viewLines (s .lines) hs rs) (small-viewLines (s .lines) hs rs) in
-    rows-front x (sharesWith hs rs lines) (omega (arith, length-sharesWith lines hs rs shares fit, length-rowsFrom x 0 (s .lines * readingsPerLine)))
+    let fit : Every SmallLine lines = every-map (without s j) SmallLine (viewLines (s .lines) hs rs) (every-to (viewLines (s .lines) hs rs) (without-small s j) (small-viewLines (s .lines) hs rs)) in
+    withRowsAt-front x (sharesWith hs rs lines) (omega (arith, length-sharesWith lines hs rs shares fit, length-rowsFrom x 0 (s .lines * readingsPerLine)))

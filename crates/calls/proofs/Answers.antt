@@ -11,13 +11,13 @@ use lib.ListN.{length, take}
 use Rattle.store.specs.Sizes.{readingsPerLine}
 use Rattle.store.specs.Lists.{Every}
 use Rattle.store.specs.Columns.{Columns, storeLength}
+use Rattle.store.proofs.Pairs.{every-to}
 use Rattle.store.proofs.Columns.{room}
 use Rattle.protocol.specs.Refusals.{firstFailed, answerTo}
 use Rattle.node.specs.declared.LineHead.{LineHead}
 use Rattle.node.specs.declared.State.{State}
 use Rattle.node.specs.View.{places, view}
 use Rattle.node.specs.Calls.{hostTests, refusedWith, calledWith, calledOn}
-use Rattle.node.proofs.Lists.{every-to}
 use Rattle.node.proofs.Limits.{limits-hold}
 use Rattle.node.proofs.Shape.{HeadShape, InShape, inShape-facts}
 use Rattle.node.proofs.Calls.{HostPassed, host-passed, called-past-host}

@@ -2,8 +2,8 @@
 -- Assumes nothing.
 use mathlib.Core.Path.{_≡_, refl, sym, ap, _∙_}
 use mathlib.Core.Bool.{true}
-use mathlib.Core.List.{List, [], _∷_, _++_}
-use Prim.Native.Nat.{ℕ, zero, suc, _+_, _-_, _*_, _<_, _≤_}
+use mathlib.Core.List.{List, [], _++_}
+use Prim.Native.Nat.{ℕ, suc, _+_, _-_, _*_, _<_, _≤_}
 use native.Mathlib.Omega.{arith}
 use lib.ListN.{length, getD, take, drop, length-append, drop-of-length-le}
 use lib.Seq.{sets, length-sets, drop-cons}
@@ -11,15 +11,12 @@ use borrow.Rule.Slice.PartMut.{putMid}
 use Rattle.store.specs.Lists.{Every}
 use Rattle.store.specs.Sizes.{readingsPerLine}
 use Rattle.store.specs.Columns.{share}
+use Rattle.store.proofs.Pairs.{every-index}
+use Rattle.store.proofs.Runs.{sets-sets}
 use Rattle.columns.specs.Places.{placesWhere, isTimeOf, bucketPlaces}
 use Rattle.columns.proofs.Shares.{length-share-le}
 use Rattle.columns.proofs.PlacesLaws.{length-places-le}
-use Rattle.columns.proofs.Stores.{sets-sets, sets-lent}
-
-pub every-at : {A : Type 0} (P : A → Type 0) (blank : A) (xs : List A) (i : ℕ) → i < length xs → Every P xs → P (getD xs i blank)
-every-at P blank [] i h each = absurd (omega arith)
-every-at P blank (x ∷ xs) zero h each = each .0
-every-at P blank (x ∷ xs) (suc i) h each = every-at P blank xs i (omega arith) (each .1)
+use Rattle.columns.proofs.Stores.{sets-lent}
 
 -- the places in the share of line i + 1
 abbrev pub placesOf : ℕ → ℕ → List ℕ → List ℕ → ℕ → List ℕ
@@ -33,7 +30,7 @@ few-places bucket j times kept i h small =
       arith,
       length-places-le (isTimeOf true bucket j) (i * readingsPerLine) (share (i * readingsPerLine) (getD kept i 0) times),
       length-share-le (i * readingsPerLine) (getD kept i 0) times,
-      every-at (λ n. n ≤ readingsPerLine) 0 kept i h small,
+      every-index (λ n. n ≤ readingsPerLine) kept i 0 h small,
     )
 
 -- what is left when i lines have been gathered

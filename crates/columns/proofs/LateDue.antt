@@ -1,7 +1,7 @@
 -- The test whether some reading of bucket p or later has waited out the hold, as bounds on its time and its arrival: a time is of bucket p or
 -- later where it is not before that bucket's start, and an arrival is due where it is not behind the tick less the hold. Assumes nothing.
 use mathlib.Core.Path.{_≡_, refl, sym, _∙_}
-use mathlib.Core.Bool.{Bool, true, false, _&&_}
+use mathlib.Core.Bool.{Bool, true, false, _&&_, and-false}
 use mathlib.Core.List.{List, [], _∷_}
 use Prim.Native.Nat.{ℕ, zero, suc, _+_, _-_, _*_, _<_, _≤_}
 use native.Mathlib.Omega.{arith}
@@ -76,10 +76,6 @@ module _ (bucket p hold : ℕ) (now : ArrivalTick) (times arrivals : List ℕ) (
       no-pair (isLateDue bucket p hold now) (share base n times) (share base n arrivals)
       (every-share 0 (λ t. (a : ℕ) → isLateDue bucket p hold now t a ≡ false) base n times room
       (λ i a. rw (lt-leb (a + hold) (now .0) (omega arith)) (and-false (leb p (bucketOf bucket (record { 0 = getD times i 0 }))))))
-    where
-      and-false : (b : Bool) → b && false ≡ false
-      and-false true = refl
-      and-false false = refl
 
   -- otherwise the two bounds are the test
   pub some-late-due : (r : Bool) → 0 < bucket → hold ≤ now .0

@@ -1,7 +1,7 @@
 -- Tests over a share that are kept in one Bool, number by number: what is found so far, together with the test of what is left, stays the
 -- same. Assumes nothing.
 use mathlib.Core.Path.{_≡_, refl, sym, ap, _∙_}
-use mathlib.Core.Bool.{Bool, true, false, _&&_, _||_}
+use mathlib.Core.Bool.{Bool, true, false, _&&_, _||_, and-assoc, and-true, or-assoc, or-false}
 use mathlib.Core.List.{List, [], _∷_}
 use Prim.Native.Nat.{ℕ, _+_, _-_, _<_, _≤_}
 use native.Mathlib.Omega.{arith}
@@ -11,22 +11,6 @@ use Rattle.store.specs.Lists.{someOf, allOf}
 use Rattle.store.specs.Columns.{share}
 use Rattle.columns.specs.Places.{rises, someOfBoth}
 use Rattle.columns.proofs.Shares.{length-share-le, left, left-all, left-cons, left-none}
-
-and-turn : (a b c : Bool) → (a && b) && c ≡ a && (b && c)
-and-turn true b c = refl
-and-turn false b c = refl
-
-and-true : (a : Bool) → a && true ≡ a
-and-true true = refl
-and-true false = refl
-
-or-turn : (a b c : Bool) → (a || b) || c ≡ a || (b || c)
-or-turn true b c = refl
-or-turn false b c = refl
-
-or-false : (a : Bool) → a || false ≡ a
-or-false true = refl
-or-false false = refl
 
 -- ---- whether all pass
 
@@ -42,7 +26,7 @@ module _ (test : ℕ → Bool) (xs : List ℕ) (base n : ℕ) where
     pub all-turn : base + n ≤ length xs → i < n → AllSoFar test xs base n (ok && test (getD xs (base + i) 0)) (i + 1)
     unfolding allOf
     all-turn room h =
-        and-turn ok (test (getD xs (base + i) 0)) (allOf test (left base n xs (i + 1)))
+        and-assoc ok (test (getD xs (base + i) 0)) (allOf test (left base n xs (i + 1)))
         ∙ (rw (left-cons 0 base n xs i room h) at v)
 
     pub all-end : n ≤ i → ok ≡ allOf test (share base n xs)
@@ -62,7 +46,7 @@ module _ (test : ℕ → Bool) (xs : List ℕ) (base n : ℕ) where
     pub some-turn : base + n ≤ length xs → i < n → SomeSoFar test xs base n (found || test (getD xs (base + i) 0)) (i + 1)
     unfolding someOf
     some-turn room h =
-        or-turn found (test (getD xs (base + i) 0)) (someOf test (left base n xs (i + 1)))
+        or-assoc found (test (getD xs (base + i) 0)) (someOf test (left base n xs (i + 1)))
         ∙ (rw (left-cons 0 base n xs i room h) at v)
 
     pub some-end : n ≤ i → found ≡ someOf test (share base n xs)
@@ -83,7 +67,7 @@ module _ (test : ℕ → ℕ → Bool) (xs ys : List ℕ) (base n : ℕ) where
     pub some-pair-turn : base + n ≤ length xs → base + n ≤ length ys → i < n → SomePairSoFar test xs ys base n (found || test (getD xs (base + i) 0) (getD ys (base + i) 0)) (i + 1)
     unfolding someOfBoth
     some-pair-turn room room′ h =
-        or-turn found (test (getD xs (base + i) 0) (getD ys (base + i) 0)) (someOfBoth test (left base n xs (i + 1)) (left base n ys (i + 1)))
+        or-assoc found (test (getD xs (base + i) 0) (getD ys (base + i) 0)) (someOfBoth test (left base n xs (i + 1)) (left base n ys (i + 1)))
         ∙ (rw (left-cons 0 base n xs i room h, left-cons 0 base n ys i room′ h) at v)
 
     pub some-pair-end : n ≤ i → found ≡ someOfBoth test (share base n xs) (share base n ys)
@@ -117,7 +101,7 @@ module _ (xs : List ℕ) (base n : ℕ) where
         let second = left-cons 0 base n xs i room h in (
           omega arith,
           rw (here′, second)
-              (and-turn ok (ltb (getD xs (base + i - 1) 0) (getD xs (base + i) 0)) (rises (getD xs (base + i) 0 ∷ left base n xs (i + 1)))
+              (and-assoc ok (ltb (getD xs (base + i - 1) 0) (getD xs (base + i) 0)) (rises (getD xs (base + i) 0 ∷ left base n xs (i + 1)))
               ∙ (rw (first, before, here, second) at (v .1))),
         )
 

@@ -15,9 +15,8 @@ use Rattle.journal.specs.JournalLine.{callOf}
 use Rattle.record.specs.declared.Record.{Record}
 use Rattle.record.specs.Layout.{bytesOf}
 use Rattle.store.specs.declared.Reading.{Reading}
-use Rattle.store.proofs.Pairs.{every-to, every-append}
+use Rattle.store.proofs.Pairs.{every-append}
 use Rattle.store.specs.Lists.{Every}
-use Rattle.operator.specs.declared.Meter.{Meter}
 use Rattle.protocol.specs.Node.{Node}
 use Rattle.protocol.specs.Calls.{outcomeOf}
 use Rattle.protocol.specs.DayBook.{DayBook, bookCall}
@@ -29,7 +28,7 @@ use Rattle.node.specs.View.{view}
 use Rattle.node.specs.Shape.{inShape}
 use Rattle.node.specs.Calls.{Called, calledOn}
 use Rattle.node.proofs.View.{Fits, view-sized}
-use Rattle.node.proofs.Shape.{MeterShape, inShape-facts}
+use Rattle.node.proofs.Shape.{inShape-facts}
 use Rattle.node.proofs.Calls.{AcceptedOn, refused-call, accepted-call}
 use Rattle.node.proofs.AfterCalls.{accepted-records, accepted-area, accepted-view, accepted-fits, accepted-settings}
 use Rattle.consistency.specs.Runs.{Box, Input, called, left, leftAfter, pieces, output}
@@ -75,9 +74,7 @@ shape-facts st x room e =
       top = shape .buckets .last;
       stableNumber = shape .numbers .stable;
       newestNumber = shape .numbers .newest;
-      meters =
-          every-to (st .operator .meters) (λ (m : Meter) (h : MeterShape m). record { count = h .count; range = h .sum })
-          (shape .operator);
+      meters = shape .operator;
     }
 
 -- a refused call

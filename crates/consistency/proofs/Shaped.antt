@@ -29,6 +29,7 @@ use Rattle.protocol.specs.Rules.{isCorrecting, someOverdue, ruleOf, worked, act
 use Rattle.protocol.specs.Refusals.{answerTo}
 use Rattle.store.specs.Sizes.{readingsPerLine}
 use Rattle.protocol.specs.Calls.{input, done, accepted, outcomeOf}
+use Rattle.protocol.proofs.Rules.{rule-cases}
 use Rattle.node.specs.Sizes.{resultsPerBucket, lastBucket}
 use Rattle.node.proofs.Lists.{every-replicate}
 use Rattle.node.proofs.Limits.{Limits, limits-hold}
@@ -37,7 +38,7 @@ use Rattle.node.proofs.Outcomes.{outcome-lines, outcome-kept}
 use Rattle.operator.proofs.Meters.{Counted, no-counted}
 use Rattle.node.proofs.Fits.{NodeFits, opened-fits, values-fit, outcome-fits}
 use Rattle.node.proofs.Times.{stable-end-fits, due-start-fits}
-use Rattle.node.proofs.Records.{by-rule, few-readings}
+use Rattle.node.proofs.Records.{few-readings}
 use Rattle.consistency.proofs.ShapedLines.{LineShaped, noLine-shaped, lines-shaped, all-without-shaped}
 use Rattle.consistency.proofs.ShapedWork.{CountedAt, work-counted, work-few, work-onwards, stable-top, tentative-top}
 
@@ -198,10 +199,10 @@ module _ (s : Settings) (n : Node) (v : Shaped s n) where
   step-work : (now : ArrivalTick) → WorkOf s (act s n (ruleOf s n now) .node)
   unfolding ruleOf
   step-work now =
-      by-rule (isStable s (n .c) (n .lines)) (ltb (n .c) (n .p)) (isCorrecting (n .phase)) (someOverdue s (n .p) now (n .lines))
-      (λ (rule : Rule). WorkOf s (act s n rule .node)) withdraw-work
+      rule-cases (isStable s (n .c) (n .lines)) (ltb (n .c) (n .p)) (isCorrecting (n .phase)) (someOverdue s (n .p) now (n .lines))
+      (λ (rule : Rule). WorkOf s (act s n rule .node)) (λ _ _. withdraw-work)
       (λ e b. let h : n .p ≤ n .c = ltb-false _ _ b in stable-work e (omega (arith, v .work .order)))
-      correction-work (tentative-work now) idle-work
+      (λ _. correction-work) (λ _ _. tentative-work now) (λ _ _. idle-work)
 
   step-lines : (rule : Rule) → Every LineShaped (act s n rule .node .lines)
   unfolding act

@@ -16,8 +16,8 @@ use Rattle.store.specs.declared.Reading.{Reading}
 use Rattle.store.specs.Lists.{Every, keep, modify}
 use Rattle.store.specs.Order.{isIn}
 use Rattle.store.specs.Sorted as sorted
-use Rattle.store.proofs.Pairs.{every-to, every-append, every-keep, pairwise-append, pairwise-keep}
-use Rattle.store.proofs.Choices.{cond-either}
+use Rattle.store.proofs.Pairs.{every-to, every-append, every-keep, pairwise-append, pairwise-keep, every-map}
+use Rattle.store.proofs.Keeping.{keep-passes}
 use Rattle.protocol.specs.Kinds.{Kind, kindOf}
 use Rattle.protocol.specs.Node.{Line, Node, noLine, readingOf, onLine}
 use Rattle.protocol.specs.Refusals.{lineOf, answerTo}
@@ -27,7 +27,7 @@ use Rattle.protocol.proofs.Letters.{kind-S, kind-T}
 use Rattle.protocol.proofs.Acceptance.{ReadingFits, UndoFits, accepts-S, accepts-T, accepts-U}
 use Rattle.node.specs.View.{viewLine, viewLines}
 use Rattle.node.specs.declared.LineHead.{LineHead}
-use Rattle.node.proofs.Lists as lists
+use Rattle.node.proofs.Lists.{every-modify}
 use Rattle.node.proofs.Shares.{SmallHead}
 use Rattle.node.proofs.Shape.{HeadShape, ReadingShape, Rising, KeptShape}
 
@@ -67,10 +67,8 @@ module _ (k : Call) (l : Line) (h : LineShaped l) (next : k .id ≡ l .lastId + 
 
 -- what an undo keeps
 kept-low : (id : ℕ) (rs : List Reading) → Every (UpTo id) (keep (λ (r : Reading). leb (r .id) id) rs)
-unfolding keep
-kept-low id [] = tt
-kept-low id (r ∷ rs) =
-    cond-either (Every (UpTo id)) (leb (r .id) id) (λ e. (leb-true (r .id) id e, kept-low id rs)) (λ e. kept-low id rs)
+kept-low id rs =
+    every-to (keep (λ (r : Reading). leb (r .id) id) rs) (λ r e. leb-true (r .id) id e) (keep-passes (λ (r : Reading). leb (r .id) id) rs)
 
 module _ (s : Settings) (n : Node) (k : Call) (answered : answerTo s n k ≡ 0) (h : LineShaped (lineOf n k)) where
   pub line-shaped : (kind : Kind) → kindOf (k .kind) ≡ kind → LineShaped (onLine k kind (lineOf n k))
@@ -109,7 +107,7 @@ pub lines-shaped :
     Every LineShaped (modify (onLine k kind) (k .line - 1) (n .lines))
 unfolding lineOf
 lines-shaped s n k answered kind e h =
-    lists.every-modify LineShaped (onLine k kind) noLine (k .line - 1) (n .lines) (λ g. line-shaped s n k answered g kind e) h
+    every-modify LineShaped (onLine k kind) noLine (k .line - 1) (n .lines) (λ g. line-shaped s n k answered g kind e) h
 
 -- ---- a bucket taken out
 
@@ -125,7 +123,7 @@ without-shaped s j l h =
     }
 
 pub all-without-shaped : (s : Settings) (j : ℕ) (ls : List Line) → Every LineShaped ls → Every LineShaped (map (without s j) ls)
-all-without-shaped s j ls h = lists.every-map LineShaped (without s j) (without-shaped s j) ls h
+all-without-shaped s j ls h = every-map (without s j) LineShaped ls (every-to ls (without-shaped s j) h)
 
 -- ---- as refusal 4 asks for it
 

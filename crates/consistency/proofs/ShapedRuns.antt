@@ -31,12 +31,12 @@ use Rattle.node.specs.Opening.{isShort}
 use Rattle.node.specs.Calls.{Called, hostTests, refusedWith, calledWith, calledOn}
 use Rattle.node.proofs.View.{Fits}
 use Rattle.node.proofs.Limits.{limits-hold}
-use Rattle.node.proofs.Shape.{MeterShape}
 use Rattle.node.proofs.Calls.{laidDown, either-way}
 use Rattle.node.proofs.AfterCalls.{accepted-view, accepted-settings, called-fits}
 use Rattle.node.proofs.Opening as opening
 use Rattle.consistency.specs.Runs.{Box, Input, called, left, leftAfter}
 use Rattle.consistency.specs.Demand.{Handed, opening as openingOf, isOpened, boxOf}
+use Rattle.operator.specs.Bounds.{countLimit}
 use Rattle.operator.proofs.Meters.{Counted}
 use Rattle.consistency.proofs.ShapedTests.{facts-inShape}
 use Rattle.consistency.proofs.ShapedLines.{kept-shape, heads-shape}
@@ -46,10 +46,10 @@ use Rattle.consistency.proofs.Shaped.{Shaped, opened-shaped, outcome-sh
 -- ---- a state and a store that stand for a node in shape
 
 -- a window has at most sixteen buckets, so that its counts are within the limit
-meters-shape : (s : Settings) (j : ℕ) (ms : List Meter) → 1 ≤ s .window → s .window ≤ 16 → CountedAt s j ms → Every MeterShape ms
+meters-shape : (s : Settings) (j : ℕ) (ms : List Meter) → 1 ≤ s .window → s .window ≤ 16 → CountedAt s j ms → Every (Counted countLimit) ms
 meters-shape s j ms some most h =
     let below : j % s .window < s .window = mod-lt j some in
-    every-to ms (λ (m : Meter) (g : Counted (readingsPerBucket * (j % s .window)) m). record { count = omega (arith, g .count); sum = g .range }) h
+    every-to ms (λ (m : Meter) (g : Counted (readingsPerBucket * (j % s .window)) m). record { count = omega (arith, g .count); range = g .range }) h
 
 pub shaped-inShape : (st : State) (x : Columns) → Fits st x → Shaped (st .settings) (view st x) → inShape st x ≡ true
 unfolding view

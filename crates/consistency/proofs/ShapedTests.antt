@@ -22,13 +22,14 @@ use Rattle.protocol.specs.Node.{Line}
 use Rattle.store.specs.Sizes.{readingsPerLine}
 use Rattle.node.specs.Sizes.{resultsPerBucket, lastBucket}
 use Rattle.operator.specs.Bounds.{countLimit, sumOk, meterOk}
+use Rattle.operator.proofs.Meters.{Counted}
 use Rattle.store.specs.Columns.{Columns}
 use Rattle.columns.specs.Places.{rises, isReadingKind}
 use Rattle.node.specs.View.{view}
 use Rattle.node.specs.Shape.{readingOk, idsRise, headOk, keptOk, phaseOk, bucketsOk, numbersOk, inShape}
 use Rattle.node.specs.declared.LineHead.{LineHead}
 use Rattle.node.specs.declared.State.{State}
-use Rattle.node.proofs.Shape.{HeadShape, ReadingShape, Rising, KeptShape, PhaseShape, BucketsShape, NumbersShape, MeterShape, InShape}
+use Rattle.node.proofs.Shape.{HeadShape, ReadingShape, Rising, KeptShape, PhaseShape, BucketsShape, NumbersShape, InShape}
 
 -- ---- tests joined, and tests of a list
 
@@ -117,10 +118,10 @@ unfolding sumOk
 sum-passes (pos a) count h = le-leb _ _ h
 sum-passes (negsuc a) count h = le-leb _ _ h
 
-meter-passes : (m : Meter) → MeterShape m → meterOk m ≡ true
+meter-passes : (m : Meter) → Counted countLimit m → meterOk m ≡ true
 unfolding meterOk
 meter-passes m v =
-    both (leb (m .count) countLimit) (sumOk (m .sum) (m .count)) (le-leb (m .count) countLimit (v .count)) (sum-passes (m .sum) (m .count) (v .sum))
+    both (leb (m .count) countLimit) (sumOk (m .sum) (m .count)) (le-leb (m .count) countLimit (v .count)) (sum-passes (m .sum) (m .count) (v .range))
 
 -- ---- all tests
 
@@ -138,5 +139,5 @@ facts-inShape st x v =
     (both c (d && (f && (g && h))) (all-pass KeptShape keptOk kept-passes (view st x .lines) (v .lines))
     (both d (f && (g && h)) (buckets-pass st (v .buckets))
     (both f (g && h) (numbers-pass st (v .numbers))
-    (both g h (all-pass MeterShape meterOk meter-passes (st .operator .meters) (v .operator))
-    (all-pass MeterShape meterOk meter-passes (st .checkpoint .meters) (v .checkpoint)))))))
+    (both g h (all-pass (Counted countLimit) meterOk meter-passes (st .operator .meters) (v .operator))
+    (all-pass (Counted countLimit) meterOk meter-passes (st .checkpoint .meters) (v .checkpoint)))))))

@@ -11,9 +11,9 @@ use Rattle.record.specs.Kinds.{isResult, isStable, isTentative}
 use Rattle.record.specs.Layout.{bytesOf}
 use Rattle.store.specs.Lists.{Every, keep}
 use Rattle.store.proofs.Pairs.{every-to, every-append, every-keep}
+use Rattle.store.proofs.Keeping.{keep-through}
 use Rattle.protocol.specs.Undos.{applyOne, applied, struckByOne, struck, markDue}
 use Rattle.protocol.specs.Demand.{stableRecords}
-use Rattle.protocol.proofs.Lists.{keep-same, keep-map}
 use Rattle.consistency.specs.Undos.{kindIn, idIn, pieceKind, pieceId, applyPiece, appliedPieces, struckPieces, stablePieces, markDueIn}
 use Rattle.node.proofs.Records.{Decodes}
 
@@ -25,14 +25,11 @@ pub pieceId-bytesOf : (r : Record) → Decodes r → pieceId (bytesOf r) ≡ r .
 unfolding pieceId idIn
 pieceId-bytesOf r d = ap idIn d
 
--- ---- choices and choosing, through a function
+-- ---- a choice, through a function
 
 cond-through : {A B : Type 0} (f : A → B) (test : Bool) (x y : A) (u v : B) → u ≡ f x → v ≡ f y → cond test u v ≡ f (cond test x y)
 cond-through f true x y u v p q = p
 cond-through f false x y u v p q = q
-
-keep-through : {A B : Type 0} (f : A → B) (old : A → Bool) (new : B → Bool) (xs : List A) → Every (λ x. new (f x) ≡ old x) xs → keep new (map f xs) ≡ map f (keep old xs)
-keep-through f old new xs h = keep-map f new xs ∙ ap (map f) (keep-same (λ x. new (f x)) old xs h)
 
 -- ---- undos applied
 

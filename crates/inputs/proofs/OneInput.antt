@@ -14,8 +14,8 @@ use Rattle.store.specs.declared.Reading.{Reading}
 use Rattle.store.specs.Lists.{keep}
 use Rattle.store.specs.Sizes.{readingsPerLine}
 use Rattle.store.specs.Columns.{Columns, rowsFrom, withRowsAt, withKept}
-use Rattle.store.proofs.Columns.{length-rowsFrom}
-use Rattle.shares.proofs.Rows.{take-rows, kept-all, kept-more}
+use Rattle.store.proofs.Columns.{length-rowsFrom, take-rows}
+use Rattle.shares.proofs.Rows.{kept-all, kept-more}
 use Rattle.protocol.specs.Kinds.{Kind, kindOf}
 use Rattle.protocol.specs.Node.{readingOf, onLine}
 use Rattle.protocol.specs.Refusals.{isFull}

@@ -12,13 +12,13 @@ use Rattle.journal.specs.declared.Call.{Call}
 use Rattle.protocol.specs.Node.{Node}
 use Rattle.protocol.specs.Calls.{outcomeOf}
 use Rattle.store.specs.Columns.{storeLength, Columns}
+use Rattle.store.proofs.Pairs.{every-to}
 use Rattle.node.specs.View.{places, view, putState, putColumns}
 use Rattle.node.specs.Shape.{inShape}
 use Rattle.node.specs.Calls.{Called, calledOn}
 use Rattle.record.specs.Layout.{allBytes}
 use Rattle.node.specs.declared.LineHead.{LineHead}
 use Rattle.node.specs.declared.State.{State}
-use Rattle.node.proofs.Lists.{every-to}
 use Rattle.node.proofs.Limits.{limits-hold}
 use Rattle.node.proofs.View.{Fits, Sized, view-sized, view-put, fits-put, storeLength-put, settings-put, length-heads-put}
 use Rattle.node.proofs.Shape.{HeadShape, InShape, inShape-facts}

@@ -18,6 +18,7 @@ use Rattle.store.specs.Lists.{Every}
 use Rattle.protocol.specs.Refusals.{Test, firstFailed, answerTo}
 use Rattle.store.specs.Sizes.{readingsPerLine}
 use Rattle.protocol.specs.Calls.{outcomeOf}
+use Rattle.protocol.proofs.Passed.{none-failed}
 use Rattle.node.specs.Sizes.{areaBytes}
 use Rattle.store.specs.Columns.{storeLength, Columns}
 use Rattle.node.specs.View.{places, view, putState, putColumns}
@@ -26,7 +27,6 @@ use Rattle.node.specs.Opening.{isShort}
 use Rattle.node.specs.Calls.{Called, hostTests, refusedWith, calledWith, calledOn}
 use Rattle.record.specs.Layout.{allBytes}
 use Rattle.node.specs.declared.State.{State}
-use Rattle.node.proofs.Outcomes.{all-passed}
 
 -- what a refused call hands back
 pub record Untouched (st : State) (x : Columns) (area : List ℕ) (r : Called) : Type 0 where
@@ -68,7 +68,7 @@ module _ (st : State) (x : Columns) (area : List ℕ) where
   pub host-passed : firstFailed (hostTests st x area) ≡ 0 → HostPassed st x area
   unfolding hostTests isShort places
   host-passed e =
-      let h : Every (λ (t : Test). t .fails ≡ false) (hostTests st x area) = all-passed (hostTests st x area) (omega arith) e in
+      let h : Every (λ (t : Test). t .fails ≡ false) (hostTests st x area) = none-failed (hostTests st x area) (omega arith) e in
       record { room = ltb-false _ _ (h .0); shape = not-false _ (h .1 .0); bytes = ltb-false _ _ (h .1 .1 .0) }
 
   pub host-passes : HostPassed st x area → firstFailed (hostTests st x area) ≡ 0

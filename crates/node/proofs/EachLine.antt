@@ -2,7 +2,7 @@
 -- same. Line i is its head with the i-th share of the readings. Assumes nothing.
 use Prim.Native.Nat.{ℕ, _+_, _*_, _<_, _≤_}
 use mathlib.Core.Path.{_≡_, refl, sym, ap, _∙_}
-use mathlib.Core.Bool.{Bool, true, false, _&&_, _||_}
+use mathlib.Core.Bool.{Bool, true, false, _&&_, _||_, and-assoc, and-true, or-assoc, or-false}
 use mathlib.Core.List.{List, [], _∷_}
 use native.Mathlib.Numerals.{add-one}
 use native.Mathlib.Omega.{arith}
@@ -33,14 +33,6 @@ no-lines-left n hs rs i room h =
 
 -- ---- whether all lines pass
 
-and-turn : (a b c : Bool) → (a && b) && c ≡ a && (b && c)
-and-turn true b c = refl
-and-turn false b c = refl
-
-and-true : (a : Bool) → a && true ≡ a
-and-true true = refl
-and-true false = refl
-
 -- i lines have been tested
 abbrev pub AllLinesSoFar : (Line → Bool) → ℕ → List LineHead → List Reading → Bool → ℕ → Type 0
 AllLinesSoFar test n hs rs ok i = ok && allOf test (drop i (viewLines n hs rs)) ≡ allOf test (viewLines n hs rs)
@@ -54,7 +46,7 @@ module _ (test : Line → Bool) (n : ℕ) (hs : List LineHead) (rs : List Readin
     unfolding allOf
     all-lines-turn h passes e =
         let left : Bool = allOf test (drop (i + 1) (viewLines n hs rs)) in
-        and-turn ok passes left
+        and-assoc ok passes left
         ∙ ap (λ (b : Bool). ok && (b && left)) e
         ∙ (rw (lines-left n hs rs i room h) at v)
 
@@ -63,14 +55,6 @@ module _ (test : Line → Bool) (n : ℕ) (hs : List LineHead) (rs : List Readin
     all-lines-end h = sym (and-true ok) ∙ (rw (no-lines-left n hs rs i room h) at v)
 
 -- ---- whether some line passes
-
-or-turn : (a b c : Bool) → (a || b) || c ≡ a || (b || c)
-or-turn true b c = refl
-or-turn false b c = refl
-
-or-false : (a : Bool) → a || false ≡ a
-or-false true = refl
-or-false false = refl
 
 -- i lines have been tested
 abbrev pub SomeLineSoFar : (Line → Bool) → ℕ → List LineHead → List Reading → Bool → ℕ → Type 0
@@ -86,7 +70,7 @@ module _ (test : Line → Bool) (n : ℕ) (hs : List LineHead) (rs : List Readin
     unfolding someOf
     some-line-turn h passes e =
         let left : Bool = someOf test (drop (i + 1) (viewLines n hs rs)) in
-        or-turn found passes left
+        or-assoc found passes left
         ∙ ap (λ (b : Bool). found || (b || left)) e
         ∙ (rw (lines-left n hs rs i room h) at v)
 

@@ -30,7 +30,8 @@ use Rattle.protocol.specs.Rules.{Outcome, ruleOf, without, worked, act}
 use Rattle.protocol.specs.Refusals.{answerTo}
 use Rattle.protocol.specs.Calls.{input, done, accepted, outcomeOf}
 use Rattle.node.proofs.Lists.{every-replicate, every-modify}
-use Rattle.operator.proofs.Meters.{LastFits, ValueFits, no-last, length-addAll, lasts-addAll}
+use Rattle.operator.proofs.Adding.{addAll-length}
+use Rattle.operator.proofs.Meters.{LastFits, ValueFits, no-last, lasts-addAll}
 use Rattle.node.proofs.Gathered.{every-inBucket}
 
 -- ---- within the widths
@@ -122,7 +123,7 @@ work-fits s kind j rs o f h =
     elim (closesWindow (s .window) j) as
     (λ b. OperatorFits (cond b (close s kind j (addAll s o rs)) (record { operator = addAll s o rs; records = [] }) .operator)) [
       | true ↦ record { meters = length-replicate meterCount noMeter; lasts = every-replicate LastFits meterCount noMeter no-last }
-      | false ↦ record { meters = length-addAll s o rs ∙ h .meters; lasts = lasts-addAll s o rs f (h .lasts) }
+      | false ↦ record { meters = addAll-length s o rs ∙ h .meters; lasts = lasts-addAll s o rs f (h .lasts) }
     ]
 
 -- the values of a bucket's readings

@@ -1,20 +1,18 @@
 -- The readings of a bucket are kept readings: what holds of every kept reading holds of every one of them, and they are no more than are
 -- kept. Line by line for what is gathered; sorting only permutes it. Assumes nothing.
 use Prim.Native.Nat.{ℕ, suc, _*_, _≤_}
-use mathlib.Core.Path.{_≡_, refl, _∙_, ap}
 use mathlib.Core.List.{List, [], _∷_, map}
 use native.Mathlib.Omega.{arith}
 use lib.ListN.{length, length-append, length-map}
 use Rattle.store.specs.declared.Reading.{Reading}
 use Rattle.store.specs.Lists.{Every, keep}
 use Rattle.store.specs.Order.{Placed, isIn, gather, inBucket}
-use Rattle.store.specs.Sorted.{Permutation, empty, behind, exchange, chain}
 use Rattle.store.proofs.Pairs.{every-append, every-keep, every-map}
-use Rattle.store.proofs.Permutations.{every-permuted}
+use Rattle.store.proofs.Permutations.{length-permuted, every-permuted}
+use Rattle.store.proofs.Keeping.{length-keep}
 use Rattle.store.proofs.Gathering.{place}
 use Rattle.store.proofs.Bucket.{inBucket-permutes}
 use Rattle.protocol.specs.Node.{Line, keptOf}
-use Rattle.node.proofs.Lists.{length-keep}
 
 module _ (law : Reading → Type 0) (size j : ℕ) where
   pub every-gather : (n : ℕ) (ls : List Line) → Every (λ (l : Line). Every law (l .kept)) ls → Every (λ (r : Placed). law (r .reading)) (gather size j n (keptOf ls))
@@ -29,12 +27,6 @@ module _ (law : Reading → Type 0) (size j : ℕ) where
   every-inBucket ls h = every-permuted (λ (r : Placed). law (r .reading)) (inBucket-permutes size j (keptOf ls)) (every-gather 1 ls h)
 
 -- ---- how many
-
-length-permuted : {A : Type 0} {xs ys : List A} → Permutation xs ys → length xs ≡ length ys
-length-permuted empty = refl
-length-permuted (behind x p) = ap suc (length-permuted p)
-length-permuted (exchange x y xs) = refl
-length-permuted (chain p q) = length-permuted p ∙ length-permuted q
 
 length-gather : (most size j n : ℕ) (ls : List Line) → Every (λ (l : Line). length (l .kept) ≤ most) ls → length (gather size j n (keptOf ls)) ≤ length ls * most
 unfolding gather keptOf

@@ -11,15 +11,14 @@ use Rattle.store.specs.Lists.{Every}
 use Rattle.store.specs.Sorted as sorted
 use Rattle.store.specs.Columns.{Columns, rows, rowsFrom}
 use Rattle.store.proofs.Pairs.{every-to, every-map}
+use Rattle.store.proofs.Columns.{take-rows, drop-rows}
 use Rattle.columns.specs.Places.{keptFrom}
-use Rattle.shares.proofs.Rows.{take-rows}
 use Rattle.protocol.specs.Node.{Line, keptOf}
 use Rattle.node.specs.View.{viewLine, viewLines, places, view}
 use Rattle.node.specs.declared.LineHead.{LineHead}
 use Rattle.node.specs.declared.State.{State}
 use Rattle.node.proofs.Shape.{Rising, KeptShape}
 use Rattle.node.proofs.Shares.{SmallHead}
-use Rattle.node.proofs.Lines.{drop-rows}
 
 -- ---- what the lines keep
 

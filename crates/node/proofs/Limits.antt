@@ -7,7 +7,7 @@ use lib.Dec.{leb}
 use lib.Signed.{leZ}
 use Rattle.settings.specs.declared.Settings.{Settings}
 use Rattle.settings.specs.Limits.{maxLines, minBucket, maxBucket, maxWindow, maxHold, withinLimits}
-use Rattle.node.proofs.Lists.{and-left, and-right}
+use Rattle.store.proofs.Choices.{and-parts}
 
 pub record Limits (s : Settings) : Type 0 where
   pub someLines : 1 ≤ s .lines
@@ -26,19 +26,19 @@ limits-hold s e =
     let b : Bool = leb minBucket (s .bucket) && leb (s .bucket) maxBucket in
     let c : Bool = leb 1 (s .window) && leb (s .window) maxWindow in
     let d : Bool = leb (s .hold) maxHold && leZ (s .low) (s .high) in
-    let ea : a ≡ true = and-left a (b && (c && d)) e in
-    let ebcd : b && (c && d) ≡ true = and-right a (b && (c && d)) e in
-    let eb : b ≡ true = and-left b (c && d) ebcd in
-    let ecd : c && d ≡ true = and-right b (c && d) ebcd in
-    let ec : c ≡ true = and-left c d ecd in
-    let ed : d ≡ true = and-right c d ecd in
+    let ea : a ≡ true = and-parts a (b && (c && d)) e .0 in
+    let ebcd : b && (c && d) ≡ true = and-parts a (b && (c && d)) e .1 in
+    let eb : b ≡ true = and-parts b (c && d) ebcd .0 in
+    let ecd : c && d ≡ true = and-parts b (c && d) ebcd .1 in
+    let ec : c ≡ true = and-parts c d ecd .0 in
+    let ed : d ≡ true = and-parts c d ecd .1 in
     record {
-      someLines = leb-true _ _ (and-left (leb 1 (s .lines)) (leb (s .lines) maxLines) ea);
-      lines = leb-true _ _ (and-right (leb 1 (s .lines)) (leb (s .lines) maxLines) ea);
-      leastBucket = leb-true _ _ (and-left (leb minBucket (s .bucket)) (leb (s .bucket) maxBucket) eb);
-      bucket = leb-true _ _ (and-right (leb minBucket (s .bucket)) (leb (s .bucket) maxBucket) eb);
-      someWindow = leb-true _ _ (and-left (leb 1 (s .window)) (leb (s .window) maxWindow) ec);
-      window = leb-true _ _ (and-right (leb 1 (s .window)) (leb (s .window) maxWindow) ec);
-      hold = leb-true _ _ (and-left (leb (s .hold) maxHold) (leZ (s .low) (s .high)) ed);
-      values = and-right (leb (s .hold) maxHold) (leZ (s .low) (s .high)) ed;
+      someLines = leb-true _ _ (and-parts (leb 1 (s .lines)) (leb (s .lines) maxLines) ea .0);
+      lines = leb-true _ _ (and-parts (leb 1 (s .lines)) (leb (s .lines) maxLines) ea .1);
+      leastBucket = leb-true _ _ (and-parts (leb minBucket (s .bucket)) (leb (s .bucket) maxBucket) eb .0);
+      bucket = leb-true _ _ (and-parts (leb minBucket (s .bucket)) (leb (s .bucket) maxBucket) eb .1);
+      someWindow = leb-true _ _ (and-parts (leb 1 (s .window)) (leb (s .window) maxWindow) ec .0);
+      window = leb-true _ _ (and-parts (leb 1 (s .window)) (leb (s .window) maxWindow) ec .1);
+      hold = leb-true _ _ (and-parts (leb (s .hold) maxHold) (leZ (s .low) (s .high)) ed .0);
+      values = and-parts (leb (s .hold) maxHold) (leZ (s .low) (s .high)) ed .1;
     }

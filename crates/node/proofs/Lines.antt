@@ -1,43 +1,28 @@
--- A viewed line in the columns: its kept readings are the first rows of its share. The rows behind a place and the first of them are rows
--- again, by induction on the rows; the line is then the one that `line-at` finds. Assumes nothing.
-use Prim.Native.Nat.{ℕ, zero, suc, _+_, _*_, _-_, _≤_, _<_}
-use mathlib.Core.Path.{_≡_, _∙_, ap, ap₂}
+-- A viewed line in the columns: its kept readings are the first rows of its share. The share of the rows is the rows of the share; the
+-- line is then the one that `line-at` finds. Assumes nothing.
+use Prim.Native.Nat.{ℕ, _+_, _*_, _-_, _≤_, _<_}
+use mathlib.Core.Path.{_≡_, _∙_, ap}
 use mathlib.Core.List.{List}
 use native.Mathlib.Omega.{arith}
-use native.Mathlib.Nat.{add-zero, zero-add}
 use lib.ListN.{length, getD, take, drop}
 use lib.Seq.{take-take, getD-take, length-take-le}
 use Rattle.store.specs.declared.Reading.{Reading}
 use Rattle.store.specs.Lists.{Every}
 use Rattle.store.specs.Sizes.{readingsPerLine}
-use Rattle.store.specs.Columns.{Columns, rowsFrom, rows}
+use Rattle.store.specs.Columns.{Columns, rowsFrom, rows, share}
 use Rattle.store.proofs.Pairs.{every-index}
-use Rattle.shares.proofs.Rows.{take-rows}
+use Rattle.store.proofs.Columns.{share-of-rows}
 use Rattle.protocol.specs.Node.{Line, noLine}
 use Rattle.node.specs.View.{viewLine, viewLines, headOf}
 use Rattle.node.specs.declared.LineHead.{LineHead}
 use Rattle.node.proofs.Shares.{SmallHead, line-at}
 
-pub drop-rows : (x : Columns) (base n k : ℕ) → k ≤ n → drop k (rowsFrom x base n) ≡ rowsFrom x (base + k) (n - k)
-unfolding rowsFrom
-drop-rows x base n zero h =
-    let e : n - 0 ≡ n = omega arith in
-    rw (add-zero base, e)
-drop-rows x base zero (suc k) h = absurd (omega arith)
-drop-rows x base (suc n) (suc k) h =
-    let e : suc base + k ≡ base + suc k = omega arith in
-    let f : n - k ≡ suc n - suc k = omega arith in
-    drop-rows x (suc base) n k (omega arith) ∙ ap₂ (rowsFrom x) e f
-
 -- the kept readings of the line at i are the first rows of its share
 pub line-rows : (x : Columns) (n i : ℕ) (h : LineHead) → h .kept ≤ readingsPerLine → (i + 1) * readingsPerLine ≤ n → viewLine h (take readingsPerLine (drop (i * readingsPerLine) (rows x n))) .kept ≡ rowsFrom x (i * readingsPerLine) (h .kept)
-unfolding viewLine rows
+unfolding viewLine share
 line-rows x n i h small room =
-    let base : ℕ = i * readingsPerLine in
-    let fits : h .kept ≤ n - base = omega arith in
-    take-take (h .kept) readingsPerLine (drop base (rowsFrom x 0 n)) small ∙
-    ap (take (h .kept)) (drop-rows x 0 n base (omega arith) ∙ ap (λ (from : ℕ). rowsFrom x from (n - base)) (zero-add base)) ∙
-    take-rows x base (n - base) (h .kept) fits
+    take-take (h .kept) readingsPerLine (drop (i * readingsPerLine) (rows x n)) small ∙
+    share-of-rows x (i * readingsPerLine) (h .kept) n (omega arith)
 
 -- each of the first heads fits a share
 pub small-at : (n : ℕ) (hs : List LineHead) (i : ℕ) → Every SmallHead (take n hs) → i < n → n ≤ length hs → SmallHead (getD hs i (headOf noLine))

@@ -4,17 +4,14 @@ use Prim.Native.Nat.{ℕ, zero, suc, _+_, _*_, _-_, _≤_, _<_, max}
 use mathlib.Core.Path.{_≡_, refl, sym, _∙_, ap}
 use mathlib.Core.List.{List, [], _∷_, _++_, map, append-assoc}
 use native.Mathlib.Omega.{arith}
-use native.Mathlib.Nat.{zero-add}
 use lib.IntN.{pos}
 use lib.ListN.{length, getD, take, drop, set, replicate, length-append, length-replicate, length-map, length-set, take-append-drop}
-use lib.Seq.{sets, sets-eq, length-sets, set-append-left, take-set-le, drop-set-add, drop-append-le, drop-drop, length-take-le, getD-take}
+use lib.Seq.{sets, sets-eq, length-sets, set-append-left, take-set-le, drop-set-add, drop-append-le, drop-drop, length-take-le}
 use Rattle.store.specs.declared.Reading.{Reading}
 use Rattle.store.specs.Lists.{modify}
 use Rattle.store.specs.Sizes.{readingsPerLine}
-use Rattle.store.specs.Columns.{Columns, storeLength, rowAt, rowsFrom, rows, withRows, withRowsAt, withKept, zeroed}
-use Rattle.store.proofs.Columns.{Room, room, column-back, length-rows}
-use Rattle.columns.proofs.BucketPlaces.{every-at}
-use Rattle.shares.proofs.Rows.{take-rows, drop-rows}
+use Rattle.store.specs.Columns.{Columns, storeLength, rowAt, rowsFrom, rows, withRows, withRowsAt, withKept, zeroed, share}
+use Rattle.store.proofs.Columns.{Room, room, column-back, length-rows, share-of-rows}
 use Rattle.protocol.specs.Node.{Line, Node, noLine}
 use Rattle.node.specs.View.{viewLine, viewLines, places, view, headOf, headsWith, shareWith, sharesWith, putColumns}
 use Rattle.node.specs.declared.LineHead.{LineHead}
@@ -22,6 +19,7 @@ use Rattle.node.specs.declared.State.{State}
 use Rattle.node.proofs.Share.{share-same, head-same}
 use Rattle.node.proofs.Shares.{Shares, SmallLine, SmallHead, shares-behind, first-share, line-at, heads-same, shares-same}
 use Rattle.node.proofs.View.{Fits, shares}
+use Rattle.node.proofs.Lines.{small-at}
 
 -- ---- runs of stores
 
@@ -142,12 +140,8 @@ module _ (g : Line → Line) where
 
 module _ (st : State) (x : Columns) (f : Fits st x) (i : ℕ) (h : i < st .settings .lines) where
   share-rows : take readingsPerLine (drop (i * readingsPerLine) (rows x (places st))) ≡ rowsFrom x (i * readingsPerLine) readingsPerLine
-  unfolding rows places
-  share-rows =
-      let left : ℕ = st .settings .lines * readingsPerLine - i * readingsPerLine in
-      let all : st .settings .lines * readingsPerLine ≡ i * readingsPerLine + left = omega arith in
-      rw (all, drop-rows x 0 left (i * readingsPerLine), zero-add (i * readingsPerLine))
-      (take-rows x (i * readingsPerLine) left readingsPerLine (omega arith))
+  unfolding share places
+  share-rows = share-of-rows x (i * readingsPerLine) readingsPerLine (st .settings .lines * readingsPerLine) (omega arith)
 
   -- line i is its head with the rows of its share
   pub line-of : getD (view st x .lines) i noLine ≡ viewLine (getD (st .heads) i (headOf noLine)) (rowsFrom x (i * readingsPerLine) readingsPerLine)
@@ -158,9 +152,7 @@ module _ (st : State) (x : Columns) (f : Fits st x) (i : ℕ) (h : i < st .setti
 
   -- line i keeps no more than its share has places
   pub head-small : SmallHead (getD (st .heads) i (headOf noLine))
-  head-small =
-      let few : i < length (take (st .settings .lines) (st .heads)) = omega (arith, length-take-le (st .settings .lines) (st .heads) (f .heads)) in
-      rw (getD-take (st .settings .lines) (st .heads) i (headOf noLine) h) at (every-at SmallHead (headOf noLine) (take (st .settings .lines) (st .heads)) i few (f .kept))
+  head-small = small-at (st .settings .lines) (st .heads) i (f .kept) h (f .heads)
 
   module _ (g : Line → Line) where
     -- where line i changes, its head is set

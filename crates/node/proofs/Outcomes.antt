@@ -3,7 +3,7 @@
 use Prim.Native.Nat.{ℕ, _-_}
 use mathlib.Core.Path.{_≡_, refl}
 use mathlib.Core.Bool.{Bool, true, false, cond, not}
-use mathlib.Core.List.{List, [], _∷_}
+use mathlib.Core.List.{[]}
 use native.Mathlib.Omega.{arith}
 use borrow.Author.Tests.{leb-false, eqb-true}
 use lib.Dec.{leb, eqb}
@@ -13,33 +13,26 @@ use Rattle.journal.specs.declared.Call.{Call}
 use Rattle.store.specs.declared.Reading.{Reading}
 use Rattle.store.specs.Order.{isIn}
 use Rattle.store.specs.Lists.{Every}
+use Rattle.store.proofs.Pairs.{every-to, every-map}
+use Rattle.store.proofs.Keeping.{length-keep}
 use Rattle.protocol.specs.Kinds.{Kind, kindOf}
 use Rattle.protocol.specs.Node.{Line, Node, noLine, onLine}
-use Rattle.protocol.specs.Refusals.{Test, firstFailed, lineOf, isFull, testsOf, answerTo}
+use Rattle.protocol.specs.Refusals.{lineOf, isFull, testsOf, answerTo}
 use Rattle.protocol.specs.declared.Rule.{Rule}
 use Rattle.protocol.specs.declared.Rule.the-variants as Rule
 use Rattle.protocol.specs.Rules.{Outcome, ruleOf, without, act}
 use Rattle.protocol.specs.Calls.{input, done, accepted, outcomeOf}
-use Rattle.node.proofs.Lists.{every-map, every-modify, length-modify, length-keep}
+use Rattle.protocol.proofs.Places.{length-modify}
+use Rattle.protocol.proofs.Passed.{none-failed}
+use Rattle.node.proofs.Lists.{every-modify}
 use Rattle.node.proofs.Shares.{SmallLine}
 
 -- ---- answer 0
 
--- where no test is numbered 0, answer 0 says that none failed
-pub all-passed : (ts : List Test) → Every (λ (t : Test). t .number ≡ 0 → ⊥) ts → firstFailed ts ≡ 0 → Every (λ (t : Test). t .fails ≡ false) ts
-unfolding firstFailed
-all-passed [] h e = tt
-all-passed (t ∷ ts) h e =
-    (elim (t .fails) as (λ b. t .fails ≡ b → cond b (t .number) (firstFailed ts) ≡ 0 → Every (λ (t : Test). t .fails ≡ false) (t ∷ ts)) [
-      | true ↦ λ q e. absurd (h .0 e)
-      | false ↦ λ q e. (q, all-passed ts (h .1) e)
-    ])
-    refl e
-
 -- a call that is accepted finds a free place where it takes one
 pub not-full : (s : Settings) (n : Node) (k : Call) → answerTo s n k ≡ 0 → isFull (lineOf n k) (kindOf (k .kind)) ≡ false
 unfolding answerTo testsOf
-not-full s n k e = all-passed (testsOf s n k (kindOf (k .kind))) (omega arith) e .1 .1 .1 .1 .1 .1 .1 .0
+not-full s n k e = none-failed (testsOf s n k (kindOf (k .kind))) (omega arith) e .1 .1 .1 .1 .1 .1 .1 .0
 
 -- ---- an input
 
@@ -79,7 +72,7 @@ without-small s j l h = omega (arith, length-keep (λ (r : Reading). not (isIn (
 act-small : (s : Settings) (n : Node) (q : Rule) → Every SmallLine (n .lines) → Every SmallLine (act s n q .node .lines)
 unfolding act
 act-small s n Rule.Withdraw h = h
-act-small s n Rule.WorkStable h = every-map SmallLine (without s (n .c)) (without-small s (n .c)) (n .lines) h
+act-small s n Rule.WorkStable h = every-map (without s (n .c)) SmallLine (n .lines) (every-to (n .lines) (without-small s (n .c)) h)
 act-small s n Rule.EndCorrection h = h
 act-small s n Rule.WorkTentative h = h
 act-small s n Rule.Idle h = h

@@ -2,7 +2,7 @@
 -- By the rule that the step does. Assumes nothing.
 use Prim.Native.Nat.{ℕ, _*_, _≤_, _<_, _^_}
 use mathlib.Core.Path.{_≡_, refl}
-use mathlib.Core.Bool.{Bool, true, false, cond}
+use mathlib.Core.Bool.{true, false, cond}
 use mathlib.Core.List.{List, [], _∷_}
 use native.Mathlib.Omega.{arith}
 use lib.Dec.{eqb, ltb}
@@ -28,10 +28,11 @@ use Rattle.protocol.specs.Kinds.{Kind, kindOf}
 use Rattle.protocol.specs.Node.{Line, Node, isStable, keptOf}
 use Rattle.protocol.specs.declared.Rule.{Rule}
 use Rattle.protocol.specs.declared.Rule.the-variants as Rule
-use Rattle.protocol.specs.Rules.{firstRule, isCorrecting, someOverdue, ruleOf, boundaryAt, worked, act}
+use Rattle.protocol.specs.Rules.{isCorrecting, someOverdue, ruleOf, boundaryAt, worked, act}
 use Rattle.protocol.specs.Refusals.{answerTo}
 use Rattle.store.specs.Sizes.{readingsPerLine}
 use Rattle.protocol.specs.Calls.{input, done, accepted, outcomeOf}
+use Rattle.protocol.proofs.Rules.{rule-cases}
 use Rattle.node.specs.Sizes.{resultsPerBucket, recordsPerCall, areaBytes, lastBucket}
 use Rattle.operator.specs.Bounds.{countLimit}
 use Rattle.record.proofs.AllBytes.{length-allBytes}
@@ -82,19 +83,6 @@ boundary-given s j f =
       | false ↦ (omega arith, tt)
     ]
 
--- the rule of a step, by the tests that lead to it
-pub by-rule :
-    (stable ahead correcting due : Bool) (G : Rule → Type 0) →
-    G Rule.Withdraw → (stable ≡ true → ahead ≡ false → G Rule.WorkStable) → (correcting ≡ true → G Rule.EndCorrection) →
-    (due ≡ true → G Rule.WorkTentative) → G Rule.Idle →
-    G (firstRule stable ahead correcting due)
-unfolding firstRule
-by-rule true true correcting due G u w r t i = u
-by-rule true false correcting due G u w r t i = w refl refl
-by-rule false ahead true due G u w r t i = r refl
-by-rule false ahead false true G u w r t i = t refl
-by-rule false ahead false false G u w r t i = i
-
 -- a bucket's readings are no more than the lines have places
 pub few-readings :
     (s : Settings) (ls : List Line) → withinLimits s ≡ true → length ls ≡ s .lines →
@@ -106,7 +94,7 @@ few-readings s ls limits count short j =
 module _ (s : Settings) (n : Node) (fits : NodeFits n) (shape : ShapeFacts s n) where
   length-worked : (kind j : ℕ) → length (worked s kind j n .records) ≤ resultsPerBucket
   unfolding worked
-  length-worked kind j = length-work s kind j (inBucket (s .bucket) j (keptOf (n .lines))) (n .operator) (fits .operator)
+  length-worked kind j = length-work s kind j (inBucket (s .bucket) j (keptOf (n .lines))) (n .operator) (fits .operator .meters)
 
   worked-readable : (kind j : ℕ) → kind < 2 ^ 8 → isRecord kind ≡ true → j * s .bucket < 2 ^ 32 → Every Readable (worked s kind j n .records)
   unfolding worked
@@ -156,8 +144,9 @@ module _ (s : Settings) (n : Node) (fits : NodeFits n) (shape : ShapeFacts s n) 
   step-given : (now : ArrivalTick) → Given (act s n (ruleOf s n now) .records)
   unfolding ruleOf
   step-given now =
-      by-rule (isStable s (n .c) (n .lines)) (ltb (n .c) (n .p)) (isCorrecting (n .phase)) (someOverdue s (n .p) now (n .lines))
-      (λ (rule : Rule). Given (act s n rule .records)) withdraw-given (λ e _. stable-given e) (λ _. correction-given) (tentative-given now) idle-given
+      rule-cases (isStable s (n .c) (n .lines)) (ltb (n .c) (n .p)) (isCorrecting (n .phase)) (someOverdue s (n .p) now (n .lines))
+      (λ (rule : Rule). Given (act s n rule .records)) (λ _ _. withdraw-given) (λ e _. stable-given e)
+      (λ _ _. correction-given) (λ _ _. tentative-given now) (λ _ _. idle-given)
 
   -- ---- the records of a call
 

@@ -22,8 +22,10 @@ use Rattle.operator.specs.Meters.{meterCount, addAll}
 use Rattle.operator.specs.Results.{hasResult, result, results, plain}
 use Rattle.operator.specs.Work.{windowResults, close, work}
 use Rattle.store.proofs.Pairs.{every-both}
+use Rattle.operator.proofs.Adding.{addAll-number, addAll-length}
+use Rattle.operator.proofs.Results.{results-most}
 use Rattle.operator.proofs.Sums.{range-fits}
-use Rattle.operator.proofs.Meters.{LastFits, ValueFits, Counted, length-addAll, number-addAll, lasts-addAll, counted-addAll}
+use Rattle.operator.proofs.Meters.{LastFits, ValueFits, Counted, lasts-addAll, counted-addAll}
 use Rattle.node.proofs.Fits.{OperatorFits}
 
 -- a record whose bytes are read back
@@ -84,39 +86,23 @@ module _ (kind : ℕ) (byte : kind < 2 ^ 8) (known : isRecord kind ≡ true) whe
         | false ↦ results-readable most few start f (suc i) number ms (omega arith) (omega arith) (v .1)
       ]
 
-pub length-results : (kind : ℕ) (start : ReadingTime) (i number : ℕ) (ms : List Meter) → length (results kind start i number ms) ≤ length ms
-unfolding results
-length-results kind start i number [] = omega arith
-length-results kind start i number (m ∷ ms) =
-    elim (hasResult m) as
-    (λ b.
-    length
-    (cond b
-    (result kind start i (suc number) m ∷ results kind start (suc i) (suc number) ms)
-    (results kind start (suc i) number ms)) ≤
-    suc (length ms)) [
-      | true ↦ omega (arith, length-results kind start (suc i) (suc number) ms)
-      | false ↦ omega (arith, length-results kind start (suc i) number ms)
-    ]
-
 -- ---- a bucket's work
 
-module _ (s : Settings) (kind j : ℕ) (rs : List Placed) (o : Operator) (fits : OperatorFits o) where
-  pub length-work : length (work s kind j rs o .records) ≤ meterCount
-  unfolding work close windowResults
-  length-work =
-      elim (closesWindow (s .window) j) as
-      (λ b. length (cond b (close s kind j (addAll s o rs)) (record { operator = addAll s o rs; records = [] }) .records) ≤ meterCount) [
-        | true ↦
-            omega (
-              arith,
-              length-results kind (record { 0 = windowStart (s .bucket) (s .window) j }) 0 (addAll s o rs .number) (addAll s o rs .meters),
-              length-addAll s o rs,
-              fits .meters,
-            )
-        | false ↦ omega arith
-      ]
+pub length-work : (s : Settings) (kind j : ℕ) (rs : List Placed) (o : Operator) → length (o .meters) ≡ meterCount → length (work s kind j rs o .records) ≤ meterCount
+unfolding work close windowResults
+length-work s kind j rs o full =
+    elim (closesWindow (s .window) j) as
+    (λ b. length (cond b (close s kind j (addAll s o rs)) (record { operator = addAll s o rs; records = [] }) .records) ≤ meterCount) [
+      | true ↦
+          omega (
+            arith,
+            results-most kind (record { 0 = windowStart (s .bucket) (s .window) j }) 0 (addAll s o rs .number) (addAll s o rs .meters),
+            addAll-length s o rs,
+          )
+      | false ↦ omega arith
+    ]
 
+module _ (s : Settings) (kind j : ℕ) (rs : List Placed) (o : Operator) (fits : OperatorFits o) where
   pub work-readable : kind < 2 ^ 8 → isRecord kind ≡ true → windowStart (s .bucket) (s .window) j < 2 ^ 32 → (most : ℕ) → Every (Counted most) (o .meters) → most + length rs < 2 ^ 32 → Every ValueFits rs → o .number + meterCount < 2 ^ 32 → Every Readable (work s kind j rs o .records)
   unfolding work close windowResults
   work-readable byte known start most counted few values number =
@@ -125,8 +111,8 @@ module _ (s : Settings) (kind j : ℕ) (rs : List Placed) (o : Operator) (fits :
         | true ↦
             results-readable kind byte known (most + length rs) few (record { 0 = windowStart (s .bucket) (s .window) j }) start 0
             (addAll s o rs .number) (addAll s o rs .meters)
-            (omega (arith, length-addAll s o rs, fits .meters))
-            (omega (arith, length-addAll s o rs, fits .meters, number-addAll s o rs))
+            (omega (arith, addAll-length s o rs, fits .meters))
+            (omega (arith, addAll-length s o rs, fits .meters, addAll-number s o rs))
             (every-both (Counted (most + length rs)) LastFits (addAll s o rs .meters) (counted-addAll s most o rs values counted) (lasts-addAll s o rs values (fits .lasts)))
         | false ↦ tt
       ]

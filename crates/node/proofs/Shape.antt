@@ -8,28 +8,28 @@ use mathlib.Core.List.{List, [], _∷_}
 use native.Mathlib.Omega.{arith}
 use borrow.Author.Tests.{leb-true, ltb-true, eqb-true, eq-eqb}
 use lib.Dec.{leb, ltb, eqb}
-use lib.IntN.{ℤ, pos, negsuc}
 use lib.ListN.{take}
-use Rattle.signed.specs.Mean.{InRange}
 use Rattle.settings.specs.Limits.{withinLimits}
 use Rattle.journal.specs.Kinds.{letterS, letterT}
 use Rattle.store.specs.declared.Reading.{Reading}
 use Rattle.store.specs.Lists.{Every, allOf}
-use Rattle.operator.specs.declared.Meter.{Meter}
+use Rattle.store.proofs.Choices.{and-parts}
+use Rattle.store.proofs.Pairs.{every-to, every-passes}
 use Rattle.operator.specs.Meters.{meterCount}
 use Rattle.protocol.specs.declared.Phase.{Phase}
 use Rattle.protocol.specs.declared.Phase.the-variants as Phase
 use Rattle.protocol.specs.Node.{Line}
 use Rattle.store.specs.Sizes.{readingsPerLine}
 use Rattle.node.specs.Sizes.{resultsPerBucket, lastBucket}
-use Rattle.operator.specs.Bounds.{countLimit, sumOk, meterOk}
+use Rattle.operator.specs.Bounds.{countLimit, meterOk}
+use Rattle.operator.proofs.Meters.{Counted}
+use Rattle.operator.proofs.Bounds.{meters-ok}
 use Rattle.columns.specs.Places.{rises, isReadingKind}
 use Rattle.store.specs.Columns.{Columns}
 use Rattle.node.specs.View.{view}
 use Rattle.node.specs.Shape.{readingOk, idsRise, headOk, keptOk, phaseOk, bucketsOk, numbersOk, inShape}
 use Rattle.node.specs.declared.LineHead.{LineHead}
 use Rattle.node.specs.declared.State.{State}
-use Rattle.node.proofs.Lists.{and-left, and-right, every-to, every-passes}
 
 -- ---- one test each
 
@@ -47,7 +47,7 @@ unfolding headOk
 head-shape h e =
     let a : Bool = leb (h .kept) readingsPerLine in
     let b : Bool = leb (h .«last_stable_id») (h .«last_id») in
-    record { kept = leb-true _ _ (and-left a b e); stable = leb-true _ _ (and-right a b e) }
+    record { kept = leb-true _ _ (and-parts a b e .0); stable = leb-true _ _ (and-parts a b e .1) }
 
 -- a kept reading in shape
 pub record ReadingShape (r : Reading) : Type 0 where
@@ -62,8 +62,8 @@ reading-shape r e =
     record {
       kind =
           ⊎-elim (λ t. inl (eqb-true _ _ t)) (λ t. inr (eqb-true _ _ t))
-          (or-cases (eqb (r .kind) letterS) (eqb (r .kind) letterT) (and-left a b e));
-      meter = ltb-true _ _ (and-right a b e);
+          (or-cases (eqb (r .kind) letterS) (eqb (r .kind) letterT) (and-parts a b e .0));
+      meter = ltb-true _ _ (and-parts a b e .1);
     }
 
 -- each id above the one before it
@@ -78,7 +78,7 @@ ids-rise [] e = tt
 ids-rise (r ∷ []) e = tt
 ids-rise (r ∷ q ∷ rs) e =
     let a : Bool = ltb (r .id) (q .id) in
-    (ltb-true _ _ (and-left a (idsRise (q ∷ rs)) e), ids-rise (q ∷ rs) (and-right a (idsRise (q ∷ rs)) e))
+    (ltb-true _ _ (and-parts a (idsRise (q ∷ rs)) e .0), ids-rise (q ∷ rs) (and-parts a (idsRise (q ∷ rs)) e .1))
 
 -- a line's kept readings in shape
 pub record KeptShape (l : Line) : Type 0 where
@@ -90,8 +90,8 @@ unfolding keptOk
 kept-shape l e =
     let a : Bool = allOf readingOk (l .kept) in
     record {
-      readings = every-to (l .kept) reading-shape (every-passes readingOk (l .kept) (and-left a (idsRise (l .kept)) e));
-      rising = ids-rise (l .kept) (and-right a (idsRise (l .kept)) e);
+      readings = every-to (l .kept) reading-shape (every-passes readingOk (l .kept) (and-parts a (idsRise (l .kept)) e .0));
+      rising = ids-rise (l .kept) (and-parts a (idsRise (l .kept)) e .1);
     }
 
 -- tentative work is out exactly in `failure`
@@ -118,11 +118,11 @@ buckets-shape st e =
     let a : Bool = leb (st .c) (st .p) in
     let b : Bool = leb (st .p) lastBucket in
     let d : Bool = phaseOk (st .c) (st .p) (st .phase) in
-    let r : b && d ≡ true = and-right a (b && d) e in
+    let r : b && d ≡ true = and-parts a (b && d) e .1 in
     record {
-      order = leb-true _ _ (and-left a (b && d) e);
-      last = leb-true _ _ (and-left b d r);
-      phase = phase-shape (st .c) (st .p) (st .phase) (and-right b d r);
+      order = leb-true _ _ (and-parts a (b && d) e .0);
+      last = leb-true _ _ (and-parts b d r .0);
+      phase = phase-shape (st .c) (st .p) (st .phase) (and-parts b d r .1);
     }
 
 -- the last stable result's id and the newest one's
@@ -139,37 +139,18 @@ numbers-shape st e =
     let b : Bool = leb (st .operator .number) (resultsPerBucket * st .p) in
     let d : Bool = leb (st .checkpoint .number) (st .operator .number) in
     let g : Bool = cond (eqb (st .p) (st .c)) (leb (st .operator .number) (st .checkpoint .number)) true in
-    let r : b && (d && g) ≡ true = and-right a (b && (d && g)) e in
-    let q : d && g ≡ true = and-right b (d && g) r in
-    let m : st .checkpoint .number ≤ st .operator .number = leb-true _ _ (and-left d g q) in
+    let r : b && (d && g) ≡ true = and-parts a (b && (d && g)) e .1 in
+    let q : d && g ≡ true = and-parts b (d && g) r .1 in
+    let m : st .checkpoint .number ≤ st .operator .number = leb-true _ _ (and-parts d g q .0) in
     record {
-      stable = leb-true _ _ (and-left a (b && (d && g)) e);
-      newest = leb-true _ _ (and-left b (d && g) r);
+      stable = leb-true _ _ (and-parts a (b && (d && g)) e .0);
+      newest = leb-true _ _ (and-parts b (d && g) r .0);
       order = m;
       level =
           λ t.
-          let w : leb (st .operator .number) (st .checkpoint .number) ≡ true = rw (eq-eqb (st .p) (st .c) t) at (and-right d g q) in
+          let w : leb (st .operator .number) (st .checkpoint .number) ≡ true = rw (eq-eqb (st .p) (st .c) t) at (and-parts d g q .1) in
           let z : st .operator .number ≤ st .checkpoint .number = leb-true _ _ w in
           omega arith;
-    }
-
--- a meter's count, and a sum that so many values can have
-pub record MeterShape (m : Meter) : Type 0 where
-  pub count : m .count ≤ countLimit
-  pub sum : InRange (m .sum) (m .count)
-
-sum-shape : (z : ℤ) (count : ℕ) → sumOk z count ≡ true → InRange z count
-unfolding sumOk
-sum-shape (pos a) count e = leb-true _ _ e
-sum-shape (negsuc a) count e = leb-true _ _ e
-
-meter-shape : (m : Meter) → meterOk m ≡ true → MeterShape m
-unfolding meterOk
-meter-shape m e =
-    let a : Bool = leb (m .count) countLimit in
-    record {
-      count = leb-true _ _ (and-left a (sumOk (m .sum) (m .count)) e);
-      sum = sum-shape (m .sum) (m .count) (and-right a (sumOk (m .sum) (m .count)) e);
     }
 
 -- ---- all tests
@@ -180,8 +161,8 @@ pub record InShape (st : State) (x : Columns) : Type 0 where
   pub lines : Every KeptShape (view st x .lines)
   pub buckets : BucketsShape st
   pub numbers : NumbersShape st
-  pub operator : Every MeterShape (st .operator .meters)
-  pub checkpoint : Every MeterShape (st .checkpoint .meters)
+  pub operator : Every (Counted countLimit) (st .operator .meters)
+  pub checkpoint : Every (Counted countLimit) (st .checkpoint .meters)
 
 pub inShape-facts : (st : State) (x : Columns) → inShape st x ≡ true → InShape st x
 unfolding inShape
@@ -193,29 +174,27 @@ inShape-facts st x e =
     let f : Bool = numbersOk st in
     let g : Bool = allOf meterOk (st .operator .meters) in
     let h : Bool = allOf meterOk (st .checkpoint .meters) in
-    let e1 : b && (c && (d && (f && (g && h)))) ≡ true = and-right a (b && (c && (d && (f && (g && h))))) e in
-    let e2 : c && (d && (f && (g && h))) ≡ true = and-right b (c && (d && (f && (g && h)))) e1 in
-    let e3 : d && (f && (g && h)) ≡ true = and-right c (d && (f && (g && h))) e2 in
-    let e4 : f && (g && h) ≡ true = and-right d (f && (g && h)) e3 in
-    let e5 : g && h ≡ true = and-right f (g && h) e4 in
+    let e1 : b && (c && (d && (f && (g && h)))) ≡ true = and-parts a (b && (c && (d && (f && (g && h))))) e .1 in
+    let e2 : c && (d && (f && (g && h))) ≡ true = and-parts b (c && (d && (f && (g && h)))) e1 .1 in
+    let e3 : d && (f && (g && h)) ≡ true = and-parts c (d && (f && (g && h))) e2 .1 in
+    let e4 : f && (g && h) ≡ true = and-parts d (f && (g && h)) e3 .1 in
+    let e5 : g && h ≡ true = and-parts f (g && h) e4 .1 in
     record {
-      limits = and-left a (b && (c && (d && (f && (g && h))))) e;
+      limits = and-parts a (b && (c && (d && (f && (g && h))))) e .0;
       heads =
           every-to (take (st .settings .lines) (st .heads)) head-shape
-          (every-passes headOk (take (st .settings .lines) (st .heads)) (and-left b (c && (d && (f && (g && h)))) e1));
+          (every-passes headOk (take (st .settings .lines) (st .heads)) (and-parts b (c && (d && (f && (g && h)))) e1 .0));
       lines =
           every-to (view st x .lines) kept-shape
-          (every-passes keptOk (view st x .lines) (and-left c (d && (f && (g && h))) e2));
-      buckets = buckets-shape st (and-left d (f && (g && h)) e3);
-      numbers = numbers-shape st (and-left f (g && h) e4);
-      operator =
-          every-to (st .operator .meters) meter-shape (every-passes meterOk (st .operator .meters) (and-left g h e5));
-      checkpoint =
-          every-to (st .checkpoint .meters) meter-shape (every-passes meterOk (st .checkpoint .meters) (and-right g h e5));
+          (every-passes keptOk (view st x .lines) (and-parts c (d && (f && (g && h))) e2 .0));
+      buckets = buckets-shape st (and-parts d (f && (g && h)) e3 .0);
+      numbers = numbers-shape st (and-parts f (g && h) e4 .0);
+      operator = meters-ok (st .operator .meters) (and-parts g h e5 .0);
+      checkpoint = meters-ok (st .checkpoint .meters) (and-parts g h e5 .1);
     }
 
 -- the operator's meters pass their test
 pub operator-within : (st : State) (x : Columns) → inShape st x ≡ true → allOf meterOk (st .operator .meters) ≡ true
 unfolding inShape
 operator-within st x e =
-    and-left _ _ (and-right (numbersOk st) _ (and-right (bucketsOk st) _ (and-right (allOf keptOk (view st x .lines)) _ (and-right (allOf headOk (take (st .settings .lines) (st .heads))) _ (and-right (withinLimits (st .settings)) _ e)))))
+    and-parts _ _ (and-parts (numbersOk st) _ (and-parts (bucketsOk st) _ (and-parts (allOf keptOk (view st x .lines)) _ (and-parts (allOf headOk (take (st .settings .lines) (st .heads))) _ (and-parts (withinLimits (st .settings)) _ e .1) .1) .1) .1) .1) .0

@@ -10,8 +10,8 @@ use Rattle.store.specs.declared.Reading.{Reading}
 use Rattle.store.specs.Lists.{modify}
 use Rattle.store.specs.Sizes.{readingsPerLine}
 use Rattle.store.specs.Columns.{Columns, rowsFrom, rows, withRows, withRowsAt, withKept}
-use Rattle.store.proofs.Columns.{length-rowsFrom}
-use Rattle.shares.proofs.Rows.{take-rows, kept-more}
+use Rattle.store.proofs.Columns.{length-rowsFrom, take-rows}
+use Rattle.shares.proofs.Rows.{kept-more}
 use Rattle.protocol.specs.Kinds.{Kind}
 use Rattle.protocol.specs.Node.{Line, Node, noLine, keptOf, readingOf, onLine}
 use Rattle.protocol.specs.Calls.{input}

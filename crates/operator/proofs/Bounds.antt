@@ -3,7 +3,7 @@
 use Prim.Native.Nat.{ℕ, zero, suc, _-_, _*_, _^_, _<_, _≤_}
 use mathlib.Core.Path.{_≡_, sym, ap, _∙_}
 use mathlib.Core.Bool.{Bool, true, false, true≢false}
-use mathlib.Core.List.{List, [], _∷_}
+use mathlib.Core.List.{List}
 use native.Mathlib.Omega.{arith}
 use borrow.Author.Tests.{leb-true, le-leb, lt-leb, ltb-true}
 use lib.Dec.{leb, leb·suc-suc}
@@ -12,6 +12,7 @@ use lib.Signed.{leZ, ltZ}
 use Rattle.signed.specs.Mean.{InRange}
 use Rattle.store.specs.Lists.{allOf, Every}
 use Rattle.store.proofs.Choices.{and-parts}
+use Rattle.store.proofs.Pairs.{every-to, every-passes}
 use Rattle.operator.specs.declared.Meter.{Meter}
 use Rattle.operator.specs.Bounds.{countLimit, sumOk, meterOk}
 use Rattle.operator.proofs.Meters.{Counted}
@@ -28,9 +29,7 @@ meter-ok m e =
     record { count = leb-true _ _ (h .0); range = sum-ok (m .sum) (m .count) (h .1) }
 
 pub meters-ok : (ms : List Meter) → allOf meterOk ms ≡ true → Every (Counted countLimit) ms
-unfolding allOf
-meters-ok [] e = tt
-meters-ok (m ∷ ms) e = let h = and-parts (meterOk m) (allOf meterOk ms) e in (meter-ok m (h .0), meters-ok ms (h .1))
+meters-ok ms e = every-to ms meter-ok (every-passes meterOk ms e)
 
 -- ---- the test in the order of the code: the count, a sum of 0, then a sum by its sign from a product of the count
 

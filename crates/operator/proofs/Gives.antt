@@ -11,19 +11,12 @@ use lib.ListN.{length, getD}
 use borrow.Author.Tests.{eq-eqb, ne-eqb}
 use Rattle.clock.specs.declared.ReadingTime.{ReadingTime}
 use Rattle.record.specs.declared.Record.{Record}
-use Rattle.store.specs.Lists.{someOf}
+use Rattle.store.specs.Lists.{Every, someOf}
+use Rattle.store.proofs.Pairs.{every-to}
 use Rattle.operator.specs.declared.Meter.{Meter}
 use Rattle.operator.specs.Meters.{noMeter}
 use Rattle.operator.specs.Results.{hasResult, result, results}
 use Rattle.operator.proofs.Results.{has-result-count}
-
-abbrev pub EachOf : (Record → Type 0) → List Record → Type 0
-EachOf Q [] = Unit {0}
-EachOf Q (r ∷ rs) = Q r × EachOf Q rs
-
-each-map : (P Q : Record → Type 0) (rs : List Record) → ((r : Record) → P r → Q r) → EachOf P rs → EachOf Q rs
-each-map P Q [] f h = tt
-each-map P Q (r ∷ rs) f h = (f r (h .0), each-map P Q rs f (h .1))
 
 -- the record is the result of one of these meters, numbered from i on, and that meter has values
 pub record Given (kind : ℕ) (start : ReadingTime) (i : ℕ) (ms : List Meter) (r : Record) : Type 0 where
@@ -59,21 +52,21 @@ module _ (kind : ℕ) (start : ReadingTime) where
         its = ap (λ (j : ℕ). result kind start j (suc n) m) (let q : i ≡ i + 0 = omega arith in q);
       }
 
-  pub results-given : (i n : ℕ) (ms : List Meter) → EachOf (Given kind start i ms) (results kind start i n ms)
+  pub results-given : (i n : ℕ) (ms : List Meter) → Every (Given kind start i ms) (results kind start i n ms)
   unfolding results
   results-given i n [] = tt
   results-given i n (m ∷ ms) =
       (elim (hasResult m) as
       (λ b.
       hasResult m ≡ b →
-      EachOf (Given kind start i (m ∷ ms))
+      Every (Given kind start i (m ∷ ms))
       (cond b (result kind start i (suc n) m ∷ results kind start (suc i) (suc n) ms) (results kind start (suc i) n ms))) [
         | true ↦
             λ e. (
               given-first i n m ms e,
-              each-map _ _ (results kind start (suc i) (suc n) ms) (given-later i m ms) (results-given (suc i) (suc n) ms),
+              every-to (results kind start (suc i) (suc n) ms) (given-later i m ms) (results-given (suc i) (suc n) ms),
             )
-        | false ↦ λ e. each-map _ _ (results kind start (suc i) n ms) (given-later i m ms) (results-given (suc i) n ms)
+        | false ↦ λ e. every-to (results kind start (suc i) n ms) (given-later i m ms) (results-given (suc i) n ms)
       ])
       refl
 

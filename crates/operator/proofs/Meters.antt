@@ -1,14 +1,13 @@
--- What holds of every meter while readings are added, and how many meters and results there are. A law on meters that may grow with each
--- reading is carried along the list; two instances: the last value fits 32 bits, and the sum stays in the range of a count that grows by
--- at most one a reading. Assumes nothing.
+-- What holds of every meter while readings are added. A law on meters that may grow with each reading is carried along the list; two
+-- instances: the last value fits 32 bits, and the sum stays in the range of a count that grows by at most one a reading. Assumes nothing.
 use Prim.Native.Nat.{ℕ, suc, _+_, _≤_, _<_, _^_}
-use mathlib.Core.Path.{_≡_, refl, _∙_}
+use mathlib.Core.Path.{_≡_}
 use mathlib.Core.Bool.{true, false, cond}
 use mathlib.Core.List.{List, [], _∷_}
 use native.Mathlib.Omega.{arith}
 use native.Mathlib.Nat.{add-zero}
 use lib.IntN.{ℤ}
-use lib.ListN.{length, getD, set, length-set}
+use lib.ListN.{length, getD, set}
 use lib.Signed.{mag}
 use Rattle.signed.specs.Mean.{InRange}
 use Rattle.settings.specs.declared.Settings.{Settings}
@@ -25,50 +24,6 @@ use Rattle.operator.proofs.Sums.{add-range}
 -- a reading's value fits 32 bits
 abbrev pub ValueFits : Placed → Type 0
 ValueFits r = mag (r .reading .value) < 2 ^ 31
-
--- ---- how many meters
-
-length-add : (s : Settings) (o : Operator) (r : Reading) → length (add s o r .meters) ≡ length (o .meters)
-unfolding add
-length-add s o r =
-    elim (isCounted s (r .value)) as
-    (λ b.
-    length
-    (cond b
-    (record { meters = set (o .meters) (r .meter) (withValue (r .value) (getD (o .meters) (r .meter) noMeter)); number = o .number })
-    o
-    .meters) ≡
-    length (o .meters)) [
-      | true ↦ length-set (o .meters) (r .meter) (withValue (r .value) (getD (o .meters) (r .meter) noMeter))
-      | false ↦ refl
-    ]
-
-pub length-addAll : (s : Settings) (o : Operator) (rs : List Placed) → length (addAll s o rs .meters) ≡ length (o .meters)
-unfolding addAll
-length-addAll s o [] = refl
-length-addAll s o (r ∷ rs) = length-addAll s (add s o (r .reading)) rs ∙ length-add s o (r .reading)
-
--- readings do not number
-number-add : (s : Settings) (o : Operator) (r : Reading) → add s o r .number ≡ o .number
-unfolding add
-number-add s o r =
-    elim (isCounted s (r .value)) as
-    (λ b.
-    cond b
-    (record { meters = set (o .meters) (r .meter) (withValue (r .value) (getD (o .meters) (r .meter) noMeter)); number = o .number })
-    o
-    .number ≡
-    o .number) [
-      | true ↦ refl
-      | false ↦ refl
-    ]
-
-pub number-addAll : (s : Settings) (o : Operator) (rs : List Placed) → addAll s o rs .number ≡ o .number
-unfolding addAll
-number-addAll s o [] = refl
-number-addAll s o (r ∷ rs) = number-addAll s (add s o (r .reading)) rs ∙ number-add s o (r .reading)
-
--- ---- what holds of every meter
 
 module _
     (law : ℕ → Meter → Type 0)

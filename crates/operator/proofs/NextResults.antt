@@ -1,8 +1,8 @@
 -- The next result is that of the first meter at or above a place that has one, and there is none exactly if no such meter has one; the
 -- results of the meters from that place on begin with it. By the number of meters that are left. Assumes nothing.
 use Prim.Native.Nat.{ℕ, zero, suc, _+_, _-_, _≤_, _<_}
-use mathlib.Core.Path.{_≡_, refl, sym, _∙_, ap, subst}
-use mathlib.Core.Bool.{Bool, true, false, true≢false}
+use mathlib.Core.Path.{_≡_, refl, _∙_, ap, subst}
+use mathlib.Core.Bool.{Bool, true, false}
 use mathlib.Core.List.{List, [], _∷_}
 use mathlib.Core.Logic.{_↔_}
 use native.Mathlib.Omega.{arith}
@@ -11,6 +11,7 @@ use borrow.Author.Tests.{ltb-true, ltb-false}
 use lib.Dec.{ltb}
 use lib.ListN.{length, getD, drop}
 use Rattle.clock.specs.declared.ReadingTime.{ReadingTime}
+use Rattle.store.proofs.Choices.{not-both}
 use Rattle.operator.specs.declared.Meter.{Meter}
 use Rattle.operator.specs.declared.NextResult.{NextResult}
 use Rattle.operator.specs.declared.NextResult.the-variants as NextResult
@@ -42,9 +43,6 @@ by-order {X} a b below others =
       | false ↦ λ e. others (ltb-false a b e)
     ])
     refl
-
-clash : {X : Type 0} (b : Bool) → b ≡ true → b ≡ false → X
-clash b e f = absurd (true≢false (sym e ∙ f))
 
 module _ (ms : List Meter) where
   earlier : (from k : ℕ) → from ≤ k → hasResult (getD ms from noMeter) ≡ false → (suc from ≤ k → hasResult (getD ms k noMeter) ≡ false) → hasResult (getD ms k noMeter) ≡ false
@@ -79,15 +77,15 @@ module _ (ms : List Meter) where
   only-at : (from i : ℕ) (r : NextResult) → Claim from ms r → FirstGiver from ms i → r ≡ NextResult.At i
   only-at from i (NextResult.At j) c g =
       by-order j i
-      (λ l. clash (hasResult (getD ms j noMeter)) (c .gives) (g .first j (c .above) l))
+      (λ l. not-both (c .gives) (g .first j (c .above) l))
       (λ l.
       by-order i j
-      (λ k. clash (hasResult (getD ms i noMeter)) (g .gives) (c .first i (g .above) k))
+      (λ k. not-both (g .gives) (c .first i (g .above) k))
       (λ k. let e : j ≡ i = omega arith in ap NextResult.At e))
-  only-at from i NextResult.Nothing c g = clash (hasResult (getD ms i noMeter)) (g .gives) (c i (g .above) (g .within))
+  only-at from i NextResult.Nothing c g = not-both (g .gives) (c i (g .above) (g .within))
 
   only-nothing : (from : ℕ) (r : NextResult) → Claim from ms r → NoGiver from ms → r ≡ NextResult.Nothing
-  only-nothing from (NextResult.At j) c g = clash (hasResult (getD ms j noMeter)) (c .gives) (g j (c .above) (c .within))
+  only-nothing from (NextResult.At j) c g = not-both (c .gives) (g j (c .above) (c .within))
   only-nothing from NextResult.Nothing c g = refl
 
   its-claim : (from : ℕ) → Claim from ms (nextResult from ms)

@@ -5,11 +5,11 @@ use mathlib.Core.Path.{_≡_, refl, ap}
 use mathlib.Core.Bool.{true, false, cond}
 use mathlib.Core.List.{List, [], _∷_}
 use mathlib.Core.Logic.{_↔_}
-use native.Mathlib.Omega.{arith}
 use lib.ListN.{length, replicate}
 use borrow.Author.Tests.{ltb-true, lt-ltb}
 use Rattle.clock.specs.declared.ReadingTime.{ReadingTime}
 use Rattle.store.specs.Lists.{keep}
+use Rattle.store.proofs.Keeping.{length-keep}
 use Rattle.operator.specs.declared.Meter.{Meter}
 use Rattle.operator.specs.Meters.{noMeter}
 use Rattle.operator.specs.Results.{hasResult, result, results}
@@ -24,13 +24,8 @@ unfoldable pub givers : List Meter → ℕ
 givers ms = length (keep hasResult ms)
 
 pub givers-most : (ms : List Meter) → givers ms ≤ length ms
-unfolding givers keep
-givers-most [] = omega arith
-givers-most (m ∷ ms) =
-    elim (hasResult m) as (λ b. length (cond b (m ∷ keep hasResult ms) (keep hasResult ms)) ≤ length (m ∷ ms)) [
-      | true ↦ omega (arith, givers-most ms)
-      | false ↦ omega (arith, givers-most ms)
-    ]
+unfolding givers
+givers-most ms = length-keep hasResult ms
 
 module _ (kind : ℕ) (start : ReadingTime) where
   pub results-length : (i n : ℕ) (ms : List Meter) → length (results kind start i n ms) ≡ givers ms

@@ -8,18 +8,15 @@ use native.Mathlib.Omega.{arith}
 use lib.Dec.{eqb}
 use lib.ListN.{length, length-append}
 use Rattle.clock.specs.Buckets.{bucketEnd}
-use Rattle.clock.specs.Windows.{closesWindow, windowStart}
+use Rattle.clock.specs.Windows.{closesWindow}
 use Rattle.settings.specs.declared.Settings.{Settings}
 use Rattle.journal.specs.declared.Call.{Call}
 use Rattle.journal.specs.Kinds.{letterS, letterT, letterB}
 use Rattle.record.specs.Sizes.{recordBytes}
 use Rattle.store.specs.Columns.{Columns}
-use Rattle.store.specs.Order.{Placed, inBucket}
-use Rattle.operator.specs.declared.Operator.{Operator}
-use Rattle.operator.specs.Meters.{meterCount, addAll}
+use Rattle.store.specs.Order.{inBucket}
+use Rattle.operator.specs.Meters.{meterCount}
 use Rattle.operator.specs.Results.{plain}
-use Rattle.operator.specs.Work.{windowResults, close, work}
-use Rattle.operator.proofs.Meters.{length-addAll}
 use Rattle.protocol.specs.Kinds.{Kind, kindOf}
 use Rattle.protocol.specs.Node.{Node, keptOf}
 use Rattle.protocol.specs.declared.Rule.{Rule}
@@ -31,22 +28,8 @@ use Rattle.node.specs.declared.State.{State}
 use Rattle.node.specs.Sizes.{recordsPerCall}
 use Rattle.node.specs.View.{view}
 use Rattle.node.specs.Calls.{Called, calledOn}
-use Rattle.node.proofs.Results.{length-results}
+use Rattle.node.proofs.Results.{length-work}
 use Rattle.node.proofs.Calls.{Untouched, AcceptedOn, either-way}
-
-work-few : (s : Settings) (kind j : ℕ) (rs : List Placed) (o : Operator) → length (o .meters) ≡ meterCount → length (work s kind j rs o .records) ≤ meterCount
-unfolding work close windowResults
-work-few s kind j rs o h =
-    elim (closesWindow (s .window) j) as
-    (λ b. length (cond b (close s kind j (addAll s o rs)) (record { operator = addAll s o rs; records = [] }) .records) ≤ meterCount) [
-      | true ↦
-          omega (
-            arith,
-            length-results kind (record { 0 = windowStart (s .bucket) (s .window) j }) 0 (addAll s o rs .number) (addAll s o rs .meters),
-            length-addAll s o rs,
-          )
-      | false ↦ omega arith
-    ]
 
 boundary-few : (s : Settings) (j : ℕ) → length (boundaryAt s j) ≤ 1
 unfolding boundaryAt
@@ -60,7 +43,7 @@ boundary-few s j =
 module _ (s : Settings) (n : Node) (meters : length (n .operator .meters) ≡ meterCount) where
   worked-few : (kind j : ℕ) → length (worked s kind j n .records) ≤ meterCount
   unfolding worked
-  worked-few kind j = work-few s kind j (inBucket (s .bucket) j (keptOf (n .lines))) (n .operator) meters
+  worked-few kind j = length-work s kind j (inBucket (s .bucket) j (keptOf (n .lines))) (n .operator) meters
 
   act-few : (rule : Rule) → length (act s n rule .records) ≤ recordsPerCall
   unfolding act

@@ -1,9 +1,9 @@
 -- The failure-free run depends only on the readings of the buckets that it works, and not on their arrivals; and an accepted call adds no
 -- reading to a bucket that was worked as stable, since its time is at or above the boundary. Assumes nothing.
 use Prim.Native.Nat.{ℕ, zero, suc, _*_, _≤_, _<_}
-use mathlib.Core.Path.{_≡_, refl, sym, _∙_, ap, ap₂}
-use mathlib.Core.Bool.{true, false, cond}
-use mathlib.Core.List.{List, [], _∷_, _++_, map}
+use mathlib.Core.Path.{_≡_, refl}
+use mathlib.Core.Bool.{false}
+use mathlib.Core.List.{List, [], _∷_, map}
 use native.Mathlib.Omega.{arith}
 use native.Mathlib.Nat.{le-refl}
 use lib.ListN.{getD}
@@ -14,7 +14,8 @@ use Rattle.journal.specs.declared.Call.{Call}
 use Rattle.journal.specs.Kinds.{letterS}
 use Rattle.store.specs.declared.Reading.{Reading}
 use Rattle.store.specs.Lists.{keep, modify}
-use Rattle.store.specs.Order.{Placed, before, insert, sort, isIn, gather, inBucket}
+use Rattle.store.specs.Order.{Placed, isIn, gather, inBucket}
+use Rattle.store.proofs.Maps.{onReading, inBucket-map}
 use Rattle.operator.specs.declared.Operator.{Operator}
 use Rattle.operator.specs.Meters.{add, addAll}
 use Rattle.operator.specs.Work.{work}
@@ -24,7 +25,7 @@ use Rattle.protocol.specs.Refusals.{tooEarly}
 use Rattle.protocol.specs.DayBook.{Page}
 use Rattle.protocol.specs.FailureFree.{stableReading, withStable, failureFree}
 use Rattle.protocol.specs.Demand.{withoutArrival}
-use Rattle.protocol.proofs.Lists.{keep-but-last, map-append, map-map, keep-map}
+use Rattle.protocol.proofs.Lists.{keep-but-last}
 use Rattle.protocol.proofs.Places.{Each, done, more}
 use Rattle.protocol.proofs.Lines.{isFrom, from-start, Agrees}
 
@@ -60,60 +61,18 @@ module _ (s : Settings) (room : 0 < s .bucket) (c : ℕ) (k : Call) (j : ℕ) (b
 
 -- arrivals
 
-unfoldable pub placedWithout : Placed → Placed
-placedWithout x = record { line = x .line; reading = withoutArrival (x .reading) }
-
-same-before : (x y : Placed) → before (placedWithout x) (placedWithout y) ≡ before x y
-unfolding before placedWithout withoutArrival
-same-before x y = refl
-
-insert-without : (x : Placed) (ys : List Placed) → insert (placedWithout x) (map placedWithout ys) ≡ map placedWithout (insert x ys)
-unfolding insert
-insert-without x [] = refl
-insert-without x (y ∷ ys) =
-    rw (same-before x y)
-    (elim (before x y) as
-    (λ b.
-    cond b (placedWithout x ∷ placedWithout y ∷ map placedWithout ys) (placedWithout y ∷ insert (placedWithout x) (map placedWithout ys)) ≡
-    map placedWithout (cond b (x ∷ y ∷ ys) (y ∷ insert x ys))) [
-      | true ↦ refl
-      | false ↦ rw (insert-without x ys)
-    ])
-
-sort-without : (xs : List Placed) → sort (map placedWithout xs) ≡ map placedWithout (sort xs)
-unfolding sort
-sort-without [] = refl
-sort-without (x ∷ xs) = rw (sort-without xs) (insert-without x (sort xs))
-
-kept-without : (length j n : ℕ) (rs : List Reading) → map (λ (r : Reading). record { line = n; reading = r }) (keep (isIn length j) (map withoutArrival rs)) ≡ map placedWithout (map (λ (r : Reading). record { line = n; reading = r }) (keep (isIn length j) rs))
-unfolding placedWithout isIn withoutArrival
-kept-without length j n rs =
-    ap (map (λ (r : Reading). record { line = n; reading = r })) (keep-map withoutArrival (isIn length j) rs) ∙
-    map-map withoutArrival (λ (r : Reading). record { line = n; reading = r }) (keep (isIn length j) rs) ∙
-    sym (map-map (λ (r : Reading). record { line = n; reading = r }) placedWithout (keep (isIn length j) rs))
-
-gather-without : (length j n : ℕ) (ls : List (List Reading)) → gather length j n (map (map withoutArrival) ls) ≡ map placedWithout (gather length j n ls)
-unfolding gather
-gather-without length j n [] = refl
-gather-without length j n (l ∷ ls) =
-    ap₂ _++_ (kept-without length j n l) (gather-without length j (suc n) ls) ∙
-    sym
-    (map-append placedWithout
-    (map (λ (r : Reading). record { line = n; reading = r }) (keep (isIn length j) l))
-    (gather length j (suc n) ls))
-
-addAll-without : (s : Settings) (o : Operator) (rs : List Placed) → addAll s o (map placedWithout rs) ≡ addAll s o rs
-unfolding addAll add placedWithout withoutArrival
+addAll-without : (s : Settings) (o : Operator) (rs : List Placed) → addAll s o (map (onReading withoutArrival) rs) ≡ addAll s o rs
+unfolding addAll add withoutArrival
 addAll-without s o [] = refl
 addAll-without s o (r ∷ rs) = addAll-without s (add s o (r .reading)) rs
 
-work-without : (s : Settings) (kind j : ℕ) (rs : List Placed) (o : Operator) → work s kind j (map placedWithout rs) o ≡ work s kind j rs o
+work-without : (s : Settings) (kind j : ℕ) (rs : List Placed) (o : Operator) → work s kind j (map (onReading withoutArrival) rs) o ≡ work s kind j rs o
 unfolding work
 work-without s kind j rs o = rw (addAll-without s o rs)
 
-inBucket-without : (length j : ℕ) (ls : List (List Reading)) → inBucket length j (map (map withoutArrival) ls) ≡ map placedWithout (inBucket length j ls)
-unfolding inBucket
-inBucket-without length j ls = ap sort (gather-without length j 1 ls) ∙ sort-without (gather length j 1 ls)
+inBucket-without : (length j : ℕ) (ls : List (List Reading)) → inBucket length j (map (map withoutArrival) ls) ≡ map (onReading withoutArrival) (inBucket length j ls)
+unfolding withoutArrival
+inBucket-without length j ls = inBucket-map withoutArrival (λ r. refl) (λ r. refl) length j ls
 
 pub failureFree-without : (s : Settings) (ls : List (List Reading)) (n : ℕ) → failureFree s (map (map withoutArrival) ls) n ≡ failureFree s ls n
 unfolding failureFree

@@ -4,7 +4,7 @@
 use Prim.Native.Nat.{ℕ, suc, _*_, _/_, _≤_, _<_}
 use mathlib.Core.Path.{_≡_, sym, _∙_}
 use mathlib.Core.Bool.{true, false, not, _&&_}
-use mathlib.Core.List.{List, [], _∷_}
+use mathlib.Core.List.{List}
 use native.Mathlib.Omega.{arith}
 use native.Mathlib.Nat.{div-lt-iff-lt-mul}
 use lib.Dec.{leb, eqb}
@@ -14,11 +14,14 @@ use Rattle.settings.specs.declared.Settings.{Settings}
 use Rattle.store.specs.declared.Reading.{Reading}
 use Rattle.store.specs.Lists.{Every, keep}
 use Rattle.store.specs.Order.{isIn}
+use Rattle.store.proofs.Choices.{and-parts, false-unless}
+use Rattle.store.proofs.Pairs.{every-to, every-any}
+use Rattle.store.proofs.Keeping.{keep-same}
 use Rattle.protocol.specs.Node.{Line}
 use Rattle.protocol.specs.Rules.{without}
 use Rattle.protocol.specs.DayBook.{Page}
-use Rattle.protocol.proofs.Tests.{and-left, and-right, both-ways, else-false}
-use Rattle.protocol.proofs.Lists.{every-to, keep-same, keep-twice, keep-implied}
+use Rattle.protocol.proofs.Tests.{both-ways}
+use Rattle.protocol.proofs.Lists.{keep-twice, keep-implied}
 use Rattle.protocol.proofs.Lines.{isFrom, isTentativeReading, isStableReading, stable-tentative, Agrees}
 
 -- of bucket c or later, and not of c
@@ -26,20 +29,18 @@ pub later-bucket : (c n : ℕ) → leb c n && not (eqb n c) ≡ leb (suc c) n
 later-bucket c n =
     both-ways (leb c n && not (eqb n c)) (leb (suc c) n)
     (λ e.
-    let h : c ≤ n = leb-true _ _ (and-left _ _ e) in
-    let g : n ≡ c → ⊥ = eqb-false _ _ (not-true _ (and-right (leb c n) _ e)) in
+    let h : c ≤ n = leb-true _ _ (and-parts _ _ e .0) in
+    let g : n ≡ c → ⊥ = eqb-false _ _ (not-true _ (and-parts (leb c n) _ e .1)) in
     le-leb (suc c) n (omega arith))
     (λ e. let h : c < n = leb-true _ _ e in rw (le-leb c n (omega arith), ne-eqb n c (omega arith)))
 
 later-readings : (length c : ℕ) (rs : List Reading) → Every (λ (r : Reading). isFrom length c r && not (isIn length c r) ≡ isFrom length (suc c) r) rs
 unfolding isFrom isIn
-later-readings length c [] = tt
-later-readings length c (r ∷ rs) = (later-bucket c (bucketOf length (r .time)), later-readings length c rs)
+later-readings length c rs = every-any _ rs (λ r. later-bucket c (bucketOf length (r .time)))
 
 in-from : (length c : ℕ) (rs : List Reading) → Every (λ (r : Reading). isIn length c r ≡ true → isFrom length c r ≡ true) rs
 unfolding isFrom isIn
-in-from length c [] = tt
-in-from length c (r ∷ rs) = (λ e. le-leb c (bucketOf length (r .time)) (omega (arith, eqb-true)), in-from length c rs)
+in-from length c rs = every-any _ rs (λ r e. le-leb c (bucketOf length (r .time)) (omega (arith, eqb-true)))
 
 -- a reading of bucket c is below the bucket's end
 pub below-end : (length c : ℕ) (r : Reading) → 0 < length → isIn length c r ≡ true → r .time .0 < suc c * length
@@ -78,6 +79,6 @@ module _ (s : Settings) (room : 0 < s .bucket) (c : ℕ) (l : Line) (g : Page) (
       (every-to (v .all)
       (λ r h e.
       stable-tentative r false
-      (else-false (isTentativeReading r)
+      (false-unless (isTentativeReading r)
       (λ q. let above : l .boundary .0 ≤ r .time .0 = h q in omega (arith, below-end (s .bucket) c r room e))))
       (v .late))))

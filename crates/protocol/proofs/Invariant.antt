@@ -18,6 +18,7 @@ use Rattle.record.specs.declared.Record.{Record}
 use Rattle.store.specs.declared.Reading.{Reading}
 use Rattle.store.specs.Lists.{modify, allOf}
 use Rattle.store.specs.Order.{Placed, sort, gather, inBucket}
+use Rattle.store.proofs.Choices.{and-parts}
 use Rattle.operator.specs.declared.Operator.{Operator}
 use Rattle.operator.specs.Work.{work}
 use Rattle.protocol.specs.declared.Phase.{Phase}
@@ -31,7 +32,6 @@ use Rattle.protocol.specs.Calls.{input, done as doneBy, accepted, outcom
 use Rattle.protocol.specs.DayBook.{Page, onPage, bookInput, bookKind, bookCall}
 use Rattle.protocol.specs.FailureFree.{withStable, stableAfter, failureFree}
 use Rattle.protocol.specs.Runs.{Event, Trace, isAccepted, next, after}
-use Rattle.protocol.proofs.Tests.{and-left, and-right}
 use Rattle.protocol.proofs.Places.{Each, done, more, each-map, each-modify, length-modify, modify-same}
 use Rattle.protocol.proofs.Lines.{Agrees, line-input}
 use Rattle.protocol.proofs.Finished.{line-finish, line-bucket}
@@ -59,8 +59,8 @@ module _ (s : Settings) (c : ℕ) where
   unfolding isStable allOf finishes bucketEnd Finished
   each-finished e done = done
   each-finished e (more {a = l} r rs) =
-      let h : c * s .bucket + s .bucket ≤ l .boundary .0 = leb-true _ _ (and-left _ _ e) in
-      more (r, omega arith) (each-finished (and-right (leb (c * s .bucket + s .bucket) (l .boundary .0)) _ e) rs)
+      let h : c * s .bucket + s .bucket ≤ l .boundary .0 = leb-true _ _ (and-parts _ _ e .0) in
+      more (r, omega arith) (each-finished (and-parts (leb (c * s .bucket + s .bucket) (l .boundary .0)) _ e .1) rs)
 
   module _ (room : 0 < s .bucket) where
     each-gather : {ls : List Line} {gs : List Page} {zs : List (List Reading)} (n : ℕ) → Each Finished ls gs zs → gather (s .bucket) c n (keptOf ls) ≡ gather (s .bucket) c n zs
@@ -199,7 +199,7 @@ module _ (s : Settings) (room : 0 < s .bucket) (t : Trace) (v : Invariant s t) w
   step-kept now =
       rule-cases _ _ _ _ (λ (q : Rule). Invariant s (Stepped s t now q)) (λ a b. withdraw-kept now)
       (λ a b. let h : t .node .p ≤ t .node .c = ltb-false _ _ b in stable-kept now a (omega (arith, v .order)))
-      (λ a m. mark-kept now) (λ a m. tentative-kept now m) (λ a m. idle-kept now)
+      (λ a m. mark-kept now) (λ a m d. tentative-kept now m) (λ a m. idle-kept now)
 
   no-new-stable : (k : Call) → modify (withStable k Kind.P) (k .line - 1) (t .stables) ≡ t .stables
   unfolding withStable

@@ -4,7 +4,7 @@
 use Prim.Native.Nat.{ℕ, _+_, _*_, _/_, _≤_, _<_}
 use mathlib.Core.Path.{_≡_, refl, sym, _∙_, ap}
 use mathlib.Core.Bool.{Bool, true, false, not}
-use mathlib.Core.List.{List, [], _∷_, _++_, map, append-nil}
+use mathlib.Core.List.{List, [], _∷_, _++_, map, append-nil, map-append}
 use native.Mathlib.Omega.{arith}
 use native.Mathlib.Nat.{le-div-iff-mul-le, le-refl}
 use lib.Dec.{leb, eqb}
@@ -15,13 +15,15 @@ use Rattle.journal.specs.declared.Call.{Call}
 use Rattle.journal.specs.Kinds.{letterS, letterT}
 use Rattle.store.specs.declared.Reading.{Reading}
 use Rattle.store.specs.Lists.{Every, keep, someOf}
+use Rattle.store.proofs.Choices.{not-both, and-parts}
+use Rattle.store.proofs.Pairs.{every-to, every-append, every-keep}
+use Rattle.store.proofs.Keeping.{keep-map}
 use Rattle.protocol.specs.Kinds.{Kind, kindOf}
 use Rattle.protocol.specs.Node.{Line, keepsTentative, readingOf, onLine}
 use Rattle.protocol.specs.Refusals.{wrongId, tooEarly, isHeldBack}
 use Rattle.protocol.specs.DayBook.{Entry, Page, entryOf, onPage}
 use Rattle.protocol.specs.FailureFree.{stableReading, withStable}
-use Rattle.protocol.proofs.Tests.{and-left, not-both}
-use Rattle.protocol.proofs.Lists.{every-to, every-append, every-keep, every-from-kept, keep-last, keep-but-last, keep-swap, keep-implied, none-passes, map-append, keep-map}
+use Rattle.protocol.proofs.Lists.{every-from-kept, keep-last, keep-but-last, keep-swap, keep-implied, none-passes}
 use Rattle.protocol.proofs.Letters.{kind-S, kind-T}
 
 -- a reading of bucket c or later
@@ -135,7 +137,7 @@ module _ (s : Settings) (room : 0 < s .bucket) (c : ℕ) (k : Call) (l : Line) (
   undo-call : wrongId l (k .id) Kind.U ≡ false → Agrees s c (onLine k Kind.U l) (onPage k Kind.U g) (withStable k Kind.U stables)
   unfolding onLine onPage withStable wrongId entryOfReading
   undo-call wrong =
-      let least : l .lastStableId ≤ k .id = leb-true _ _ (and-left _ _ (not-false _ wrong)) in
+      let least : l .lastStableId ≤ k .id = leb-true _ _ (and-parts _ _ (not-false _ wrong) .0) in
       record {
         all = keep (λ (r : Reading). leb (r .id) (k .id)) (v .all);
         boundary = v .boundary;

@@ -1,12 +1,12 @@
 -- Results and their numbers: those of a bucket's work are of its kind and numbered above the operator's number before and up to the one
 -- after; so are those of the failure-free run, from 1. Assumes nothing.
 use Prim.Native.Nat.{ℕ, zero, suc, _+_, _≤_, _<_}
-use mathlib.Core.Path.{_≡_, refl, _∙_}
+use mathlib.Core.Path.{_≡_, refl}
 use mathlib.Core.Bool.{true, false, cond}
 use mathlib.Core.List.{List, [], _∷_}
 use native.Mathlib.Omega.{arith}
 use native.Mathlib.Nat.{le-refl}
-use lib.ListN.{length, getD, set}
+use lib.ListN.{length}
 use Rattle.clock.specs.declared.ReadingTime.{ReadingTime}
 use Rattle.clock.specs.Windows.{closesWindow, windowStart}
 use Rattle.settings.specs.declared.Settings.{Settings}
@@ -15,13 +15,14 @@ use Rattle.record.specs.declared.Record.{Record}
 use Rattle.store.specs.declared.Reading.{Reading}
 use Rattle.store.specs.Order.{Placed, inBucket}
 use Rattle.store.specs.Lists.{Every}
+use Rattle.store.proofs.Pairs.{every-to, every-append}
 use Rattle.operator.specs.declared.Meter.{Meter}
 use Rattle.operator.specs.declared.Operator.{Operator}
-use Rattle.operator.specs.Meters.{noMeter, withValue, isCounted, add, addAll}
+use Rattle.operator.specs.Meters.{addAll}
 use Rattle.operator.specs.Results.{hasResult, result, results}
 use Rattle.operator.specs.Work.{Worked, windowResults, close, work}
+use Rattle.operator.proofs.Adding.{addAll-number}
 use Rattle.protocol.specs.FailureFree.{failureFree}
-use Rattle.protocol.proofs.Lists.{every-to, every-append}
 
 -- a record of this kind, numbered above `from` and up to `to`
 pub record Numbered (letter from to : ℕ) (r : Record) : Type 0 where
@@ -53,22 +54,6 @@ results-numbered kind start i number (m ∷ ms) =
       )
       | false ↦ results-numbered kind start (suc i) number ms
     ]
-
--- adding readings numbers nothing
-add-number : (s : Settings) (o : Operator) (r : Reading) → add s o r .number ≡ o .number
-unfolding add
-add-number s o r =
-    elim (isCounted s (r .value)) as
-    (λ b.
-    cond b
-    (record { meters = set (o .meters) (r .meter) (withValue (r .value) (getD (o .meters) (r .meter) noMeter)); number = o .number })
-    o .number ≡
-    o .number) [ true ↦ refl | false ↦ refl ]
-
-addAll-number : (s : Settings) (o : Operator) (rs : List Placed) → addAll s o rs .number ≡ o .number
-unfolding addAll
-addAll-number s o [] = refl
-addAll-number s o (r ∷ rs) = addAll-number s (add s o (r .reading)) rs ∙ add-number s o (r .reading)
 
 -- work from this operator numbers its records onward
 pub record Onward (kind : ℕ) (o : Operator) (w : Worked) : Type 0 where

@@ -15,6 +15,8 @@ use Rattle.journal.specs.Kinds.{letterS, letterT, letterB, letterU, letterR}
 use Rattle.record.specs.declared.Record.{Record}
 use Rattle.record.specs.Kinds.{isStable, isTentative, isResult}
 use Rattle.store.specs.Lists.{Every, keep}
+use Rattle.store.proofs.Pairs.{every-to, every-append}
+use Rattle.store.proofs.Keeping.{keep-append, keep-all, keep-none}
 use Rattle.operator.specs.declared.Operator.{Operator}
 use Rattle.operator.specs.Results.{plain}
 use Rattle.operator.specs.Work.{Worked}
@@ -23,7 +25,6 @@ use Rattle.protocol.specs.declared.Phase.the-variants as Phase
 use Rattle.protocol.specs.Rules.{isCorrecting, boundaryAt}
 use Rattle.protocol.specs.Undos.{applyOne, applied, struckByOne, struck, markDue}
 use Rattle.protocol.specs.Demand.{stableRecords}
-use Rattle.protocol.proofs.Lists.{every-to, every-append, keep-append, keep-all, keep-none}
 use Rattle.protocol.proofs.Numbers.{Numbered, wider, Onward}
 use Rattle.protocol.proofs.Undos.{
   applied-append,

@@ -3,7 +3,7 @@
 use Prim.Native.Nat.{ℕ, suc, _+_, _*_, _/_, _≤_, _<_}
 use mathlib.Core.Path.{_≡_, refl, sym, _∙_, ap, ap₂, subst}
 use mathlib.Core.Bool.{Bool, true, false, cond, _&&_, _||_}
-use mathlib.Core.List.{List, [], _∷_, map}
+use mathlib.Core.List.{List, _∷_, map}
 use native.Mathlib.Omega.{arith}
 use native.Mathlib.Nat.{le-div-iff-mul-le, not-suc-le-zero}
 use lib.Dec.{leb, ltb}
@@ -15,13 +15,16 @@ use Rattle.clock.specs.Hold.{isDue}
 use Rattle.settings.specs.declared.Settings.{Settings}
 use Rattle.store.specs.declared.Reading.{Reading}
 use Rattle.store.specs.Lists.{Every, someOf, allOf}
+use Rattle.store.proofs.Choices.{and-parts}
+use Rattle.store.proofs.Pairs.{every-any}
+use Rattle.store.proofs.Keeping.{some-map}
 use Rattle.protocol.specs.Node.{Line, Node, isStable}
 use Rattle.protocol.specs.declared.Rule.{Rule}
 use Rattle.protocol.specs.declared.Rule.the-variants as Rule
 use Rattle.protocol.specs.Rules.{firstRule, isCorrecting, isOverdue, someOverdue, ruleOf}
 use Rattle.protocol.specs.DayBook.{Page, DayBook, leastBoundary, stableBuckets, entryDue, anyDue, bookStep}
-use Rattle.protocol.proofs.Tests.{and-left, both-ways, leb-min}
-use Rattle.protocol.proofs.Lists.{some-kept, some-map}
+use Rattle.protocol.proofs.Tests.{both-ways, leb-min}
+use Rattle.protocol.proofs.Lists.{some-kept}
 use Rattle.protocol.proofs.Places.{Each, done, more}
 use Rattle.protocol.proofs.Lines.{isFrom, entryOfReading, Agrees}
 
@@ -37,12 +40,12 @@ bookAct y Rule.WorkTentative = record { d = y .d; t = suc (y .t); mark = y .mark
 bookAct y Rule.Idle = y
 
 -- the five cases of a step, with what the tests were
-pub rule-cases : (a b m d : Bool) (G : Rule → Type 0) → (a ≡ true → b ≡ true → G Rule.Withdraw) → (a ≡ true → b ≡ false → G Rule.WorkStable) → (a ≡ false → m ≡ true → G Rule.EndCorrection) → (a ≡ false → m ≡ false → G Rule.WorkTentative) → (a ≡ false → m ≡ false → G Rule.Idle) → G (firstRule a b m d)
+pub rule-cases : (a b m d : Bool) (G : Rule → Type 0) → (a ≡ true → b ≡ true → G Rule.Withdraw) → (a ≡ true → b ≡ false → G Rule.WorkStable) → (a ≡ false → m ≡ true → G Rule.EndCorrection) → (a ≡ false → m ≡ false → d ≡ true → G Rule.WorkTentative) → (a ≡ false → m ≡ false → G Rule.Idle) → G (firstRule a b m d)
 unfolding firstRule
 rule-cases true true m d G u f k t i = u refl refl
 rule-cases true false m d G u f k t i = f refl refl
 rule-cases false b true d G u f k t i = k refl refl
-rule-cases false b false true G u f k t i = t refl refl
+rule-cases false b false true G u f k t i = t refl refl refl
 rule-cases false b false false G u f k t i = i refl refl
 
 -- the book's own chain of tests is the node's chain of rules
@@ -65,7 +68,7 @@ module _ (s : Settings) (c : ℕ) where
   all-least x h done = absurd (not-suc-le-zero h)
   all-least x h (more {a = l} {b = g} r done) =
       both-ways (leb x (l .boundary .0) && true) (leb x (g .boundary))
-      (λ e. subst (λ n. leb x n ≡ true) (r .boundary) (and-left _ _ e)) (λ e. rw (r .boundary, e))
+      (λ e. subst (λ n. leb x n ≡ true) (r .boundary) (and-parts _ _ e .0)) (λ e. rw (r .boundary, e))
   all-least x h (more {a = l} {b = g} r (more {b = g₁} {ys = gs} q rs)) =
       ap₂ _&&_ (ap (leb x) (r .boundary)) (all-least x (omega arith) (more q rs)) ∙
       sym (leb-min x (g .boundary) (leastBoundary (g₁ ∷ gs)))
@@ -85,13 +88,11 @@ module _ (s : Settings) (c : ℕ) where
 
   overdue-from : (p : ℕ) (now : ArrivalTick) → c ≤ p → (rs : List Reading) → Every (λ (r : Reading). isOverdue s p now r ≡ true → isFrom (s .bucket) c r ≡ true) rs
   unfolding isOverdue isFrom
-  overdue-from p now h [] = tt
-  overdue-from p now h (r ∷ rs) = (
-    λ e.
-        let g : p ≤ bucketOf (s .bucket) (r .time) = leb-true _ _ (and-left _ _ e) in
-        le-leb c (bucketOf (s .bucket) (r .time)) (omega arith),
-    overdue-from p now h rs,
-  )
+  overdue-from p now h rs =
+      every-any _ rs
+      (λ r e.
+      let g : p ≤ bucketOf (s .bucket) (r .time) = leb-true _ _ (and-parts _ _ e .0) in
+      le-leb c (bucketOf (s .bucket) (r .time)) (omega arith))
 
   entries-due : (p : ℕ) (now : ArrivalTick) (rs : List Reading) → someOf (entryDue s p (now .0)) (map entryOfReading rs) ≡ someOf (isOverdue s p now) rs
   unfolding entryDue isOverdue entryOfReading bucketOf isDue

@@ -81,7 +81,7 @@ step-down : (s : Settings) (y : DayBook) (now : ℕ) → stepsLeft s (bookAct y 
 unfolding bookRule stepsLeft bookAct stableBuckets
 step-down s y now =
     rule-cases _ _ _ _ (λ (q : Rule). stepsLeft s (bookAct y q) ≤ stepsLeft s y - 1) (λ a b. withdraw-down _ _ _ _ a b)
-    (λ a b. stable-down _ _ _ _ a b) (λ a m. mark-down _ _ _ _ a m) (λ a m. none-down _ _ _ _ _ a m)
+    (λ a b. stable-down _ _ _ _ a b) (λ a m. mark-down _ _ _ _ a m) (λ a m d. none-down _ _ _ _ _ a m)
     (λ a m. none-down _ _ _ _ _ a m)
 
 -- an accepted step is a step of the day book

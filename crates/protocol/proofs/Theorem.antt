@@ -14,6 +14,7 @@ use Rattle.record.specs.declared.Record.{Record}
 use Rattle.record.specs.Kinds.{isStable, isTentative}
 use Rattle.store.specs.declared.Reading.{Reading}
 use Rattle.store.specs.Lists.{allOf}
+use Rattle.store.proofs.Pairs.{every-to}
 use Rattle.operator.specs.Work.{Worked}
 use Rattle.protocol.specs.Node.{Line}
 use Rattle.protocol.specs.DayBook.{Page, leastBoundary, stableBuckets, leftToWork}
@@ -21,7 +22,6 @@ use Rattle.protocol.specs.FailureFree.{failureFree}
 use Rattle.protocol.specs.Undos.{applied, struck}
 use Rattle.protocol.specs.Runs.{Trace, start, after}
 use Rattle.protocol.specs.Demand.{stableResults, stableRecords, Clean, boundaries, sent, Demand3}
-use Rattle.protocol.proofs.Lists.{every-to}
 use Rattle.protocol.proofs.Places.{Each, done, more}
 use Rattle.protocol.proofs.Lines.{Agrees}
 use Rattle.protocol.proofs.Rules.{all-least}

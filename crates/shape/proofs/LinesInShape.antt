@@ -14,6 +14,7 @@ use Rattle.store.specs.declared.Reading.{Reading}
 use Rattle.store.specs.Sizes.{readingsPerLine}
 use Rattle.store.specs.Lists.{allOf}
 use Rattle.store.specs.Columns.{Columns, storeLength, rowsFrom, rows}
+use Rattle.store.proofs.Choices.{and-parts}
 use Rattle.columns.specs.Places.{isReadingKind}
 use Rattle.shares.proofs.Kept.{ids-rise, kinds-are-readings, meters-below}
 use Rattle.operator.specs.Meters.{meterCount}
@@ -21,7 +22,6 @@ use Rattle.protocol.specs.Node.{noLine}
 use Rattle.node.specs.declared.LineHead.{LineHead}
 use Rattle.node.specs.View.{viewLines, headOf}
 use Rattle.node.specs.Shape.{readingOk, idsRise, headOk, keptOk}
-use Rattle.node.proofs.Lists.{and-left}
 use Rattle.node.proofs.Lines.{line-rows}
 use Rattle.node.proofs.EachLine.{lineAt, lines-left, no-lines-left}
 use Rattle.shape.specs.Lent.{Lends, shareOk}
@@ -50,7 +50,7 @@ rows-ok x base n h =
 
 pub small-head : (h : LineHead) → headOk h ≡ true → h .kept ≤ readingsPerLine
 unfolding headOk
-small-head h e = leb-true _ _ (and-left (leb (h .kept) readingsPerLine) (leb (h .«last_stable_id») (h .«last_id»)) e)
+small-head h e = leb-true _ _ (and-parts (leb (h .kept) readingsPerLine) (leb (h .«last_stable_id») (h .«last_id»)) e .0)
 
 -- ---- the lines left
 

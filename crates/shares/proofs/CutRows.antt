@@ -12,11 +12,11 @@ use Rattle.store.specs.declared.Reading.{Reading}
 use Rattle.store.specs.Lists.{keep}
 use Rattle.store.specs.Columns.{Columns, storeLength, rowsFrom, zeroed, withRowsAt, withKept, share}
 use Rattle.store.proofs.Choices.{and-parts}
-use Rattle.store.proofs.Columns.{length-rowsFrom}
+use Rattle.store.proofs.Keeping.{keep-map, length-keep}
+use Rattle.store.proofs.Columns.{length-rowsFrom, take-rows}
 use Rattle.columns.specs.Places.{rises}
 use Rattle.columns.proofs.UpTo.{rises-behind}
-use Rattle.shares.proofs.Lists.{keep-field, length-keep}
-use Rattle.shares.proofs.Rows.{take-rows, ids-share, own-rows}
+use Rattle.shares.proofs.Rows.{ids-share, own-rows}
 
 module _ {A : Type 0} (number : A → ℕ) (last : ℕ) where
   -- behind one that is above the last nothing is kept
@@ -44,7 +44,7 @@ module _ (x : Columns) (base n id : ℕ) (h : base + n ≤ storeLength x) where
   pub ids-kept : {count : ℕ} → count ≡ length (keep (λ i. leb i id) (share base n (x .ids))) → count ≡ length (keep (λ (q : Reading). leb (q .id) id) (rowsFrom x base n))
   ids-kept e =
       let kept : List Reading = keep (λ (q : Reading). leb (q .id) id) (rowsFrom x base n) in
-      let same : length (keep (λ i. leb i id) (share base n (x .ids))) ≡ length kept = rw (← ids-share x base n h, keep-field (λ i. leb i id) (λ (q : Reading). q .id) (rowsFrom x base n)) (length-map kept (λ (q : Reading). q .id)) in
+      let same : length (keep (λ i. leb i id) (share base n (x .ids))) ≡ length kept = rw (← ids-share x base n h, keep-map (λ (q : Reading). q .id) (λ i. leb i id) (rowsFrom x base n)) (length-map kept (λ (q : Reading). q .id)) in
       e ∙ same
 
   -- zeroes behind the ids that are kept leave the share with the readings that are kept

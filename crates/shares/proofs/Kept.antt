@@ -15,6 +15,7 @@ use Rattle.store.specs.Sizes.{readingsPerLine}
 use Rattle.store.specs.Lists.{keep, someOf, allOf, Every}
 use Rattle.store.specs.Order.{Placed, isIn, gather}
 use Rattle.store.specs.Columns.{Columns, storeLength, rowAt, rowsFrom, share}
+use Rattle.store.proofs.Keeping.{some-map}
 use Rattle.store.proofs.Gathering.{place}
 use Rattle.columns.specs.Places.{isTimeOf, placesWhere, bucketPlaces, keptFrom, rises, isReadingKind, someOfBoth, isLateDue}
 use Rattle.shares.proofs.Rows.{ids-share, times-share, arrivals-share, kinds-share, meters-share}
@@ -27,11 +28,6 @@ module _ {A B : Type 0} (f : A → B) where
   unfolding allOf
   allOf-field test [] = refl
   allOf-field test (x ∷ xs) = ap (λ (b : Bool). test (f x) && b) (allOf-field test xs)
-
-  someOf-field : (test : B → Bool) (xs : List A) → someOf test (map f xs) ≡ someOf (λ x. test (f x)) xs
-  unfolding someOf
-  someOf-field test [] = refl
-  someOf-field test (x ∷ xs) = ap (λ (b : Bool). test (f x) || b) (someOf-field test xs)
 
 someOf-fields : {A B C : Type 0} (f : A → B) (g : A → C) (test : B → C → Bool) (xs : List A) → someOfBoth test (map f xs) (map g xs) ≡ someOf (λ x. test (f x) (g x)) xs
 unfolding someOf someOfBoth
@@ -57,7 +53,7 @@ module _ (x : Columns) (base n : ℕ) (h : base + n ≤ storeLength x) where
   pub some-of-kind : (letter : ℕ) → someOf (λ kind. eqb kind letter) (share base n (x .kinds)) ≡ someOf (λ (r : Reading). eqb (r .kind) letter) (rowsFrom x base n)
   some-of-kind letter =
       ap (someOf (λ kind. eqb kind letter)) (sym (kinds-share x base n h)) ∙
-      someOf-field (λ (r : Reading). r .kind) (λ kind. eqb kind letter) (rowsFrom x base n)
+      some-map (λ (r : Reading). r .kind) (λ kind. eqb kind letter) (rowsFrom x base n)
 
   pub some-late-due : (bucket p hold : ℕ) (now : ArrivalTick) → someOfBoth (isLateDue bucket p hold now) (share base n (x .times)) (share base n (x .arrivals)) ≡ someOf (λ (r : Reading). leb p (bucketOf bucket (r .time)) && isDue hold (r .arrival) now) (rowsFrom x base n)
   unfolding isLateDue

@@ -4,31 +4,14 @@ use Prim.Native.Nat.{ℕ, zero, suc, _+_, _-_, _≤_}
 use mathlib.Core.Path.{_≡_, refl}
 use mathlib.Core.List.{List, [], _∷_, _++_, map, map-append, append-nil}
 use native.Mathlib.Omega.{arith}
-use native.Mathlib.Nat.{zero-add, add-zero}
 use lib.IntN.{ℤ, pos}
-use lib.ListN.{length, getD, take, drop, replicate, length-append, length-map}
+use lib.ListN.{length, getD, replicate, length-append, length-map}
 use lib.Seq.{sets, set-getD, drop-cons}
 use Rattle.store.specs.declared.Reading.{Reading}
 use Rattle.store.specs.Columns.{Columns, columnsOf, storeLength, rowAt, rowsFrom, zeroed, withRowsAt, withKept, share}
 use Rattle.store.proofs.Columns.{room, length-rowsFrom}
-use Rattle.columns.proofs.Stores.{sets-sets}
+use Rattle.store.proofs.Runs.{sets-sets}
 use Rattle.shares.proofs.Lists.{map-replicate}
-
--- ---- fewer rows
-
-pub take-rows : (x : Columns) (base n k : ℕ) → k ≤ n → take k (rowsFrom x base n) ≡ rowsFrom x base k
-unfolding rowsFrom
-take-rows x base n zero h = refl
-take-rows x base zero (suc k) h = absurd (omega arith)
-take-rows x base (suc n) (suc k) h = rw (take-rows x (suc base) n k (omega arith))
-
-pub drop-rows : (x : Columns) (base n k : ℕ) → drop k (rowsFrom x base (k + n)) ≡ rowsFrom x (base + k) n
-unfolding rowsFrom
-drop-rows x base n zero = rw (zero-add n, add-zero base)
-drop-rows x base n (suc k) =
-    let more : suc k + n ≡ suc (k + n) = omega arith in
-    let at : base + suc k ≡ suc base + k = omega arith in
-    rw (more, at) (drop-rows x (suc base) n k)
 
 -- ---- a field of a store's rows, and its column
 

@@ -1,17 +1,15 @@
--- Runs of rows written into the store: one run behind another is one run, rows behind a run are as they were, the columns keep their
--- lengths, and a run from the first place on is a new front. Each column is one instance of a law over the field. Assumes nothing.
+-- Runs of rows written into the store: one run behind another is one run, rows behind a run are as they were, and the columns keep their
+-- lengths. Each column is one instance of a law over the field. Assumes nothing.
 use Prim.Native.Nat.{ℕ, zero, suc, _+_, _≤_}
 use mathlib.Core.Path.{_≡_, refl, _∙_}
-use mathlib.Core.List.{List, [], _∷_, _++_, map, map-append}
+use mathlib.Core.List.{List, _++_, map, map-append}
 use native.Mathlib.Omega.{arith}
-use native.Mathlib.Nat.{zero-add}
 use lib.IntN.{pos}
-use lib.ListN.{length, getD, drop, set, length-map}
-use lib.Seq.{sets, sets-eq, length-sets, getD-set-other}
+use lib.ListN.{length, getD, length-map}
+use lib.Seq.{sets, length-sets}
 use Rattle.store.specs.declared.Reading.{Reading}
-use Rattle.store.specs.Columns.{Columns, storeLength, rowAt, rowsFrom, withRows, withRowsAt}
-use Rattle.store.proofs.Columns.{Room, room}
-use Rattle.columns.proofs.Stores.{sets-sets}
+use Rattle.store.specs.Columns.{Columns, storeLength, rowAt, rowsFrom, withRowsAt}
+use Rattle.store.proofs.Runs.{sets-sets, getD-behind-sets}
 
 -- ---- one run behind another
 
@@ -34,13 +32,8 @@ rows-join x at next rs ss e =
 
 -- ---- rows behind a run
 
-sets-behind : {A : Type 0} (xs : List A) (at : ℕ) (vs : List A) (i : ℕ) (d : A) → at + length vs ≤ i → getD (sets xs at vs) i d ≡ getD xs i d
-sets-behind xs at [] i d h = refl
-sets-behind xs at (v ∷ vs) i d h =
-    sets-behind (set xs at v) (suc at) vs i d (omega arith) ∙ getD-set-other xs at i v d (λ e. omega arith)
-
 field-behind : {A : Type 0} (f : Reading → A) (column : List A) (at : ℕ) (rs : List Reading) (i : ℕ) (d : A) → at + length rs ≤ i → getD (sets column at (map f rs)) i d ≡ getD column i d
-field-behind f column at rs i d h = sets-behind column at (map f rs) i d (omega (arith, length-map rs f))
+field-behind f column at rs i d h = getD-behind-sets (map f rs) column at i d (omega (arith, length-map rs f))
 
 row-behind : (x : Columns) (at : ℕ) (rs : List Reading) (i : ℕ) → at + length rs ≤ i → rowAt (withRowsAt x at rs) i ≡ rowAt x i
 unfolding rowAt withRowsAt
@@ -100,24 +93,3 @@ lengths-then e g =
 pub storeLength-same : (x y : Columns) → SameLengths x y → storeLength x ≡ storeLength y
 unfolding storeLength
 storeLength-same x y e = rw (e .ids, e .times, e .values, e .arrivals, e .kinds, e .meters)
-
--- ---- a new front
-
-field-front : {A : Type 0} (f : Reading → A) (column : List A) (rs : List Reading) → length rs ≤ length column → sets column 0 (map f rs) ≡ map f rs ++ drop (length rs) column
-field-front f column rs h =
-    let e : length (map f rs) ≡ length rs = length-map rs f in
-    sets-eq (map f rs) column 0 (omega arith) ∙ rw (zero-add (length (map f rs)), e)
-
-pub rows-front : (x : Columns) (rs : List Reading) → length rs ≤ storeLength x → withRowsAt x 0 rs ≡ withRows x rs
-unfolding withRowsAt withRows
-rows-front x rs h =
-    let r : Room (length rs) x = room (length rs) x h in
-    λ t.
-    record {
-      ids = field-front (λ (r : Reading). r .id) (x .ids) rs (r .ids) t;
-      times = field-front (λ (r : Reading). r .time .0) (x .times) rs (r .times) t;
-      values = field-front (λ (r : Reading). r .value) (x .values) rs (r .values) t;
-      arrivals = field-front (λ (r : Reading). r .arrival .0) (x .arrivals) rs (r .arrivals) t;
-      kinds = field-front (λ (r : Reading). r .kind) (x .kinds) rs (r .kinds) t;
-      meters = field-front (λ (r : Reading). r .meter) (x .meters) rs (r .meters) t;
-    }

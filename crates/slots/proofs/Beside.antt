@@ -1,19 +1,19 @@
 -- The slots beside the columns: what the columns' functions write, read row by row, is what the slots' functions write. A run of rows is
 -- laid one row at a time, and one row laid is one slot set. Assumes nothing.
-use Prim.Native.Nat.{ℕ, zero, suc, _+_, _-_, _<_, _≤_}
+use Prim.Native.Nat.{ℕ, suc, _+_, _-_, _<_, _≤_}
 use mathlib.Core.Path.{_≡_, refl, sym, ap, _∙_}
 use mathlib.Core.Bool.{true, false}
 use mathlib.Core.List.{List, [], _∷_, _++_}
 use native.Mathlib.Omega.{arith}
 use lib.Dec.{eqb}
 use lib.IntN.{pos}
-use lib.ListN.{length, getD, set, take, drop, replicate, length-set, length-append, length-replicate}
+use lib.ListN.{length, getD, set, replicate, length-set, length-append, length-replicate}
 use lib.Seq.{sets, ext-getD, getD-set-same, getD-set-other}
 use borrow.Author.Tests.{eqb-true, eqb-false}
 use Rattle.store.specs.declared.Reading.{Reading}
 use Rattle.store.specs.Lists.{keep}
-use Rattle.store.specs.Columns.{Columns, storeLength, rowAt, rows, rowsFrom, withRowsAt, withKept, zeroed, share}
-use Rattle.store.proofs.Columns.{Room, room, length-rows, row-at}
+use Rattle.store.specs.Columns.{Columns, storeLength, rowAt, rows, rowsFrom, withRowsAt, withKept, zeroed}
+use Rattle.store.proofs.Columns.{Room, room, length-rows, row-at, share-of-rows}
 use Rattle.slots.specs.Slots.{zeroedFrom, staysOf, closedSlots}
 use Rattle.slots.proofs.Closing.{kept, kept-at-most}
 use Rattle.slots.proofs.Refusing.{isOther, has-share, stay-count, closed-share}
@@ -96,31 +96,6 @@ rows-placed x at n (r ∷ rs) inside enough =
     ∙ ap (λ (l : List Reading). sets l (suc at) rs) (row-placed x at n r (omega arith) enough)
 
 -- ---- a share
-
-take-rowsFrom : (x : Columns) (i n m : ℕ) → n ≤ m → take n (rowsFrom x i m) ≡ rowsFrom x i n
-unfolding rowsFrom
-take-rowsFrom x i zero m h = refl
-take-rowsFrom x i (suc n) zero h = absurd (omega arith)
-take-rowsFrom x i (suc n) (suc m) h = ap (λ (l : List Reading). rowAt x i ∷ l) (take-rowsFrom x (suc i) n m (omega arith))
-
-drop-rowsFrom : (x : Columns) (i k m : ℕ) → k ≤ m → drop k (rowsFrom x i m) ≡ rowsFrom x (i + k) (m - k)
-unfolding rowsFrom
-drop-rowsFrom x i zero m h =
-    let here : i ≡ i + 0 = omega arith in
-    let all : m ≡ m - 0 = omega arith in
-    ap (λ (p : ℕ). rowsFrom x p m) here ∙ ap (rowsFrom x (i + 0)) all
-drop-rowsFrom x i (suc k) zero h = absurd (omega arith)
-drop-rowsFrom x i (suc k) (suc m) h =
-    let there : suc i + k ≡ i + suc k = omega arith in
-    let rest : m - k ≡ suc m - suc k = omega arith in
-    drop-rowsFrom x (suc i) k m (omega arith) ∙ ap (λ (p : ℕ). rowsFrom x p (m - k)) there ∙ ap (rowsFrom x (i + suc k)) rest
-
--- a share of the rows is the rows of the share
-pub share-of-rows : (x : Columns) (base n m : ℕ) → base + n ≤ m → share base n (rows x m) ≡ rowsFrom x base n
-unfolding share rows
-share-of-rows x base n m h =
-    let from : 0 + base ≡ base = omega arith in
-    ap (take n) (drop-rowsFrom x 0 base m (omega arith)) ∙ ap (λ (p : ℕ). take n (rowsFrom x p (m - base))) from ∙ take-rowsFrom x base n (m - base) (omega arith)
 
 -- places zeroed
 pub rows-zeroed : (x : Columns) (from to n : ℕ) → from ≤ to → to ≤ n → n ≤ storeLength x → rows (withRowsAt x from (replicate (to - from) zeroed)) n ≡ zeroedFrom from to (rows x n)

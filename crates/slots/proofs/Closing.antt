@@ -4,21 +4,17 @@
 use mathlib.Core.Path.{_≡_, refl, sym, ap, _∙_}
 use mathlib.Core.Bool.{Bool, true, false, cond}
 use mathlib.Core.List.{List, [], _∷_, _++_, append-assoc, append-nil}
-use Prim.Native.Nat.{ℕ, zero, suc, _+_, _-_, _<_, _≤_}
+use Prim.Native.Nat.{ℕ, suc, _+_, _-_, _<_, _≤_}
 use native.Mathlib.Omega.{arith}
 use lib.ListN.{length, getD, set, take, drop, replicate, length-append, length-replicate, length-drop}
 use lib.Seq.{sets, length-sets, take-suc, getD-drop}
 use Rattle.store.specs.Lists.{keep}
 use Rattle.store.specs.Columns.{share}
-use Rattle.store.proofs.Keeping.{keep-append}
-use Rattle.slots.proofs.Runs.{sets-sets, getD-behind-sets, set-within-sets, replicate-more}
+use Rattle.store.proofs.Keeping.{keep-append, length-keep-share}
+use Rattle.store.proofs.Runs.{sets-sets, getD-behind-sets}
+use Rattle.slots.proofs.Runs.{set-within-sets, replicate-more}
 
 module _ {A : Type 0} (test : A → Bool) where
-  length-keep : (xs : List A) → length (keep test xs) ≤ length xs
-  unfolding keep
-  length-keep [] = omega arith
-  length-keep (x ∷ xs) = (elim (test x) as (λ b. length (cond b (x ∷ keep test xs) (keep test xs)) ≤ suc (length xs)) [ true ↦ omega (arith, length-keep xs) | false ↦ omega (arith, length-keep xs) ])
-
   keep-one : (x : A) → keep test (x ∷ []) ≡ cond (test x) (x ∷ []) []
   unfolding keep
   keep-one x = refl
@@ -33,13 +29,7 @@ module _ {A : Type 0} (test : A → Bool) where
     closedRun i = sets ys base (kept i ++ replicate (i - length (kept i)) blank)
 
     pub kept-at-most : (i : ℕ) → length (kept i) ≤ i
-    unfolding share
-    kept-at-most i = omega (arith, length-keep (take i (drop base ys)), length-take-at-most i (drop base ys))
-      where
-        length-take-at-most : (n : ℕ) (l : List A) → length (take n l) ≤ n
-        length-take-at-most zero l = omega arith
-        length-take-at-most (suc n) [] = omega arith
-        length-take-at-most (suc n) (x ∷ l) = omega (arith, length-take-at-most n l)
+    kept-at-most i = length-keep-share test base i ys
 
     length-run : (i : ℕ) → length (kept i ++ replicate (i - length (kept i)) blank) ≡ i
     length-run i = omega (arith, length-append (kept i) (replicate (i - length (kept i)) blank), length-replicate (i - length (kept i)) blank, kept-at-most i)

@@ -10,8 +10,9 @@ use lib.Seq.{sets}
 use borrow.Author.Tests.{le-leb, lt-leb}
 use Rattle.store.specs.declared.Reading.{Reading}
 use Rattle.store.specs.Columns.{zeroed}
+use Rattle.store.proofs.Runs.{sets-sets}
 use Rattle.slots.specs.Slots.{hasPlaces, zeroedFrom}
-use Rattle.slots.proofs.Runs.{sets-sets, replicate-more}
+use Rattle.slots.proofs.Runs.{replicate-more}
 
 -- j places zeroed from a place on
 abbrev pub zeroedRun : ℕ → ℕ → List Reading → List Reading

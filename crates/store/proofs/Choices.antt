@@ -1,15 +1,18 @@
 -- Laws of tests and of `cond`, by the test's two values. Assumes nothing.
-use mathlib.Core.Path.{_≡_, refl, sym}
-use mathlib.Core.Bool.{Bool, true, false, cond, _&&_, true≢false}
+use mathlib.Core.Path.{_≡_, refl, sym, _∙_}
+use mathlib.Core.Bool.{Bool, true, false, cond, _&&_, true≢false, and-eq-true-iff}
 
 -- a test that cannot be true
 pub false-unless : (b : Bool) → (b ≡ true → ⊥) → b ≡ false
 false-unless true f = absurd (f refl)
 false-unless false f = refl
 
+-- a test does not both hold and fail
+pub not-both : {X : Type 0} {b : Bool} → b ≡ true → b ≡ false → X
+not-both p q = absurd (true≢false (sym p ∙ q))
+
 pub and-parts : (b c : Bool) → b && c ≡ true → (b ≡ true) × (c ≡ true)
-and-parts true c e = (refl, e)
-and-parts false c e = absurd (true≢false (sym e))
+and-parts b c e = and-eq-true-iff b c .0 e
 
 -- a choice has a property where each side has it, under its value of the test
 pub cond-either : {A : Type 0} (P : A → Type 0) (b : Bool) {x y : A} → (b ≡ true → P x) → (b ≡ false → P y) → P (cond b x y)

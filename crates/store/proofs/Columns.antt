@@ -1,15 +1,15 @@
 -- The columns and their rows: rows laid into the store are read back from it, and the store's length stays. Each column is one instance of
 -- a law over the field. Assumes nothing.
-use Prim.Native.Nat.{ℕ, zero, suc, _+_, _≤_, _<_}
-use mathlib.Core.Path.{_≡_, refl, sym, _∙_, ap}
+use Prim.Native.Nat.{ℕ, zero, suc, _+_, _-_, _≤_, _<_}
+use mathlib.Core.Path.{_≡_, refl, sym, _∙_, ap, ap₂}
 use mathlib.Core.List.{List, [], _∷_, _++_, map}
 use native.Mathlib.Omega.{arith}
 use native.Mathlib.Nat.{zero-add, add-zero}
 use lib.IntN.{pos}
-use lib.ListN.{length, getD, drop, length-append, length-drop, length-map}
+use lib.ListN.{length, getD, take, drop, length-append, length-drop, length-map}
 use lib.Seq.{sets, sets-eq, ext-getD, getD-append-add, getD-drop, drop-cons, drop-at}
 use Rattle.store.specs.declared.Reading.{Reading}
-use Rattle.store.specs.Columns.{withRows, withRowsAt, rows, rowsFrom, rowAt, storeLength, Columns, zeroed}
+use Rattle.store.specs.Columns.{withRows, withRowsAt, rows, rowsFrom, rowAt, storeLength, Columns, zeroed, share}
 
 -- ---- how long
 
@@ -64,6 +64,32 @@ storeLength-withRows x rs h =
       length-column (λ (r : Reading). r .kind) rs (x .kinds) (r .kinds),
       length-column (λ (r : Reading). r .meter) rs (x .meters) (r .meters),
     )
+
+-- ---- fewer rows
+
+pub take-rows : (x : Columns) (base n k : ℕ) → k ≤ n → take k (rowsFrom x base n) ≡ rowsFrom x base k
+unfolding rowsFrom
+take-rows x base n zero h = refl
+take-rows x base zero (suc k) h = absurd (omega arith)
+take-rows x base (suc n) (suc k) h = rw (take-rows x (suc base) n k (omega arith))
+
+pub drop-rows : (x : Columns) (base n k : ℕ) → k ≤ n → drop k (rowsFrom x base n) ≡ rowsFrom x (base + k) (n - k)
+unfolding rowsFrom
+drop-rows x base n zero h =
+    let e : n - 0 ≡ n = omega arith in
+    rw (add-zero base, e)
+drop-rows x base zero (suc k) h = absurd (omega arith)
+drop-rows x base (suc n) (suc k) h =
+    let e : suc base + k ≡ base + suc k = omega arith in
+    let f : n - k ≡ suc n - suc k = omega arith in
+    drop-rows x (suc base) n k (omega arith) ∙ ap₂ (rowsFrom x) e f
+
+-- a share of the rows is the rows of the share
+pub share-of-rows : (x : Columns) (base n m : ℕ) → base + n ≤ m → share base n (rows x m) ≡ rowsFrom x base n
+unfolding share rows
+share-of-rows x base n m h =
+    ap (take n) (drop-rows x 0 m base (omega arith) ∙ ap (λ (from : ℕ). rowsFrom x from (m - base)) (zero-add base)) ∙
+    take-rows x base (m - base) n (omega arith)
 
 -- ---- a row
 

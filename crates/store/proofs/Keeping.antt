@@ -1,9 +1,13 @@
--- Laws of `keep`: what it holds, and how it goes through append and map. Each goes by the list and the test of its first element.
--- Assumes nothing.
-use mathlib.Core.Path.{_≡_, refl, sym, _∙_}
+-- Laws of `keep`: what it holds and how many, and how it goes through append and map, as `someOf` does. Each goes by the list and the
+-- test of its first element. Assumes nothing.
+use Prim.Native.Nat.{ℕ, suc, _≤_}
+use native.Mathlib.Omega.{arith}
+use mathlib.Core.Path.{_≡_, refl, sym, _∙_, ap}
 use mathlib.Core.Bool.{Bool, true, false, true≢false}
 use mathlib.Core.List.{List, [], _∷_, _++_, map, List·Memᴰ, List·Memᴰ·head, List·Memᴰ·tail}
-use Rattle.store.specs.Lists.{keep, Every}
+use lib.ListN.{length, take, drop, length-take}
+use Rattle.store.specs.Lists.{keep, someOf, Every}
+use Rattle.store.specs.Columns.{share}
 use Rattle.store.proofs.Choices.{cond-either, cond-map}
 use Rattle.store.proofs.Pairs.{every-to, every-of, every-keep, every-self}
 
@@ -46,8 +50,37 @@ module _ {A : Type 0} (test : A → Bool) where
   pub keep-within : (xs : List A) {z : A} → List·Memᴰ z (keep test xs) → List·Memᴰ z xs
   keep-within xs m = every-of (λ x. List·Memᴰ x xs) m (every-keep (λ x. List·Memᴰ x xs) test xs (every-self xs))
 
-  -- a map that does not change the test
-  pub keep-map : (f : A → A) → ((x : A) → test (f x) ≡ test x) → (xs : List A) → keep test (map f xs) ≡ map f (keep test xs)
+  pub length-keep : (xs : List A) → length (keep test xs) ≤ length xs
   unfolding keep
-  keep-map f h [] = refl
-  keep-map f h (x ∷ xs) = rw (h x, keep-map f h xs) (cond-map (map f) (test x) (x ∷ keep test xs) (keep test xs))
+  length-keep [] = omega arith
+  length-keep (x ∷ xs) =
+      cond-either (λ (l : List A). length l ≤ suc (length xs)) (test x)
+      (λ e. omega (arith, length-keep xs)) (λ e. omega (arith, length-keep xs))
+
+  -- a share has no more to keep than its places
+  pub length-keep-share : (base n : ℕ) (xs : List A) → length (keep test (share base n xs)) ≤ n
+  unfolding share
+  length-keep-share base n xs = omega (arith, length-keep (take n (drop base xs)), length-take n (drop base xs))
+
+-- tests that agree keep the same
+pub keep-same : {A : Type 0} (p q : A → Bool) (xs : List A) → Every (λ x. p x ≡ q x) xs → keep p xs ≡ keep q xs
+unfolding keep
+keep-same p q [] h = refl
+keep-same p q (x ∷ xs) h = rw (h .0, keep-same p q xs (h .1))
+
+-- a test of mapped elements is a test of the elements
+module _ {A B : Type 0} (f : A → B) (test : B → Bool) where
+  pub keep-map : (xs : List A) → keep test (map f xs) ≡ map f (keep (λ x. test (f x)) xs)
+  unfolding keep
+  keep-map [] = refl
+  keep-map (x ∷ xs) =
+      rw (keep-map xs) (cond-map (map f) (test (f x)) (x ∷ keep (λ y. test (f y)) xs) (keep (λ y. test (f y)) xs))
+
+  pub some-map : (xs : List A) → someOf test (map f xs) ≡ someOf (λ x. test (f x)) xs
+  unfolding someOf
+  some-map [] = refl
+  some-map (x ∷ xs) = rw (some-map xs)
+
+-- a map after which a test finds what another found before it
+pub keep-through : {A B : Type 0} (f : A → B) (old : A → Bool) (new : B → Bool) (xs : List A) → Every (λ x. new (f x) ≡ old x) xs → keep new (map f xs) ≡ map f (keep old xs)
+keep-through f old new xs h = keep-map f new xs ∙ ap (map f) (keep-same (λ x. new (f x)) old xs h)

@@ -1,4 +1,4 @@
--- Laws on the order of readings inside a bucket.
+-- Laws on lists and tests, on the order of readings inside a bucket, and on the columns.
 pub mod Choices
 pub mod Pairs
 pub mod Permutations
@@ -11,3 +11,4 @@ pub mod Apart
 pub mod Bucket
 pub mod Maps
 pub mod Columns
+pub mod Runs

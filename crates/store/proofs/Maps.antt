@@ -6,7 +6,8 @@ use mathlib.Core.List.{List, [], _∷_, map, map-map, map-append}
 use Rattle.store.specs.declared.Reading.{Reading}
 use Rattle.store.specs.Order.{Placed, before, insert, sort, isIn, gather, inBucket}
 use Rattle.store.proofs.Choices.{cond-map}
-use Rattle.store.proofs.Keeping.{keep-map}
+use Rattle.store.proofs.Pairs.{every-any}
+use Rattle.store.proofs.Keeping.{keep-through}
 
 -- a reading changed, its line kept
 abbrev pub onReading : (Reading → Reading) → Placed → Placed
@@ -36,7 +37,10 @@ module _ (f : Reading → Reading) (same-time : (r : Reading) → f r .time ≡ 
   unfolding gather
   gather-map length j n [] = refl
   gather-map length j n (kept ∷ lines) =
-      rw (keep-map (isIn length j) f (isIn-map length j) kept, gather-map length j (suc n) lines) (simp (map-map, map-append))
+      rw (
+        keep-through f (isIn length j) (isIn length j) kept (every-any _ kept (isIn-map length j)),
+        gather-map length j (suc n) lines,
+      ) (simp (map-map, map-append))
 
   pub inBucket-map : (length j : ℕ) (lines : List (List Reading)) → inBucket length j (map (map f) lines) ≡ map (onReading f) (inBucket length j lines)
   unfolding inBucket

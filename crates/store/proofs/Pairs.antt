@@ -1,12 +1,12 @@
--- Laws of `Every` and `Pairwise` under append, map and keep. Each goes by the list. Assumes nothing.
+-- Laws of `Every` and `Pairwise` under append, map and keep, and of `Every` where all pass a test. Each goes by the list. Assumes nothing.
 use Prim.Native.Nat.{ℕ, zero, suc, _<_}
 use native.Mathlib.Omega.{arith}
-use mathlib.Core.Path.{refl, subst⁻¹}
-use mathlib.Core.Bool.{Bool}
+use mathlib.Core.Path.{_≡_, refl, subst⁻¹}
+use mathlib.Core.Bool.{Bool, true}
 use lib.ListN.{length, getD, set}
 use mathlib.Core.List.{List, [], _∷_, _++_, map, List·Memᴰ, List·Memᴰ·head, List·Memᴰ·tail}
-use Rattle.store.specs.Lists.{keep, Every, Pairwise}
-use Rattle.store.proofs.Choices.{cond-either}
+use Rattle.store.specs.Lists.{keep, allOf, Every, Pairwise}
+use Rattle.store.proofs.Choices.{and-parts, cond-either}
 
 module _ {A : Type 0} where
   pub every-to : {P Q : A → Type 0} (xs : List A) → ((x : A) → P x → Q x) → Every P xs → Every Q xs
@@ -60,6 +60,12 @@ module _ {A : Type 0} where
   every-keep P test [] h = tt
   every-keep P test (x ∷ xs) h =
       cond-either (Every P) (test x) (λ e. (h .0, every-keep P test xs (h .1))) (λ e. every-keep P test xs (h .1))
+
+  -- a list whose elements all pass a test
+  pub every-passes : (test : A → Bool) (xs : List A) → allOf test xs ≡ true → Every (λ x. test x ≡ true) xs
+  unfolding allOf
+  every-passes test [] e = tt
+  every-passes test (x ∷ xs) e = let h = and-parts (test x) (allOf test xs) e in (h .0, every-passes test xs (h .1))
 
   pub pairwise-to : {R S : A → A → Type 0} (xs : List A) → ((x y : A) → R x y → S x y) → Pairwise R xs → Pairwise S xs
   pairwise-to [] f h = tt

@@ -5,10 +5,10 @@ use borrow.Author.Needs.{needs}
 use lib.ListN.{length, take}
 use Rattle.settings.specs.Limits.{maxLines}
 use Rattle.store.specs.Columns.{Columns, columnsOf}
+use Rattle.store.proofs.Pairs.{every-to}
 use Rattle.operator.proofs.FromPlace.{length-mapped}
 use Rattle.node.specs.declared.LineHead.{LineHead}
 use Rattle.node.specs.View.{places, view}
-use Rattle.node.proofs.Lists.{every-to}
 use Rattle.node.proofs.Limits.{limits-hold}
 use Rattle.node.proofs.Shape.{HeadShape, inShape-facts}
 use Rattle.acts.proofs.Acts.{work-stable-acts}

@@ -4,7 +4,8 @@ use Prim.Native.Nat.{_-_, _<_, _≤_}
 use native.Mathlib.Omega.{arith}
 use lib.ListN.{length, getD, drop, length-take, length-drop}
 use Rattle.store.specs.Sizes.{readingsPerLine}
-use Rattle.columns.proofs.BucketPlaces.{Gathering, every-at, few-places, gathering-start, gathering-turn, gathering-end}
+use Rattle.store.proofs.Pairs.{every-index}
+use Rattle.columns.proofs.BucketPlaces.{Gathering, few-places, gathering-start, gathering-turn, gathering-end}
 use Rattle.columns.proofs.bucket_places.Statement.{statement}
 use Rattle.columns.proofs.bucket_places.Tie as tie
 
@@ -48,7 +49,7 @@ select-requires c κs =
     let s = c .before .before .before .before .before .before .before in
     let l = c .before .before .before .loop in
     let h : l .i < length (s .args .kept .now) = omega arith in
-    let few : getD (s .args .kept .now) (l .i) 0 ≤ readingsPerLine = every-at (λ n. n ≤ readingsPerLine) 0 (s .args .kept .now) (l .i) h (s .pre .2) in
+    let few : getD (s .args .kept .now) (l .i) 0 ≤ readingsPerLine = every-index (λ n. n ≤ readingsPerLine) (s .args .kept .now) (l .i) 0 h (s .pre .2) in
     (omega arith, omega arith, omega arith, omega (arith, length-take (length (l .places) - l .at) (drop (l .at) (l .places)), length-drop (l .at) (l .places)))
 
 add-at : tie.Need-add-at Inv-loop μ-loop

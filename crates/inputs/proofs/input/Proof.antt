@@ -7,7 +7,7 @@ use Rattle.store.specs.declared.Reading.{Reading}
 use Rattle.store.specs.Sizes.{readingsPerLine}
 use Rattle.store.specs.Columns.{Columns, columnsOf, storeLength, rowsFrom}
 use Rattle.store.proofs.Columns.{length-rowsFrom}
-use Rattle.shares.proofs.Lists.{length-keep}
+use Rattle.store.proofs.Keeping.{length-keep}
 use Rattle.inputs.proofs.OneInput.{place-free, stable-done, tentative-done, undo-done, boundary-done, other-done}
 use Rattle.inputs.proofs.input.Statement.{statement}
 use Rattle.inputs.proofs.input.Tie as tie

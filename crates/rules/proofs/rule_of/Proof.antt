@@ -5,9 +5,9 @@ use borrow.Author.Needs.{needs}
 use lib.ListN.{take}
 use Rattle.store.specs.Columns.{columnsOf}
 use Rattle.store.proofs.Columns.{room}
+use Rattle.store.proofs.Pairs.{every-to}
 use Rattle.node.specs.declared.LineHead.{LineHead}
 use Rattle.node.specs.View.{places, view}
-use Rattle.node.proofs.Lists.{every-to}
 use Rattle.node.proofs.Limits.{limits-hold}
 use Rattle.node.proofs.Shape.{HeadShape, inShape-facts}
 use Rattle.rules.proofs.InOrder.{withdraws, works-stable, ends-correction, works-tentative, idles}

@@ -8,7 +8,7 @@ use lib.ListN.{length}
 use Rattle.store.specs.declared.Reading.{Reading}
 use Rattle.store.specs.Lists.{keep}
 use Rattle.store.specs.Columns.{Columns, columnsOf, storeLength, rowsFrom}
-use Rattle.shares.proofs.Lists.{length-keep-share}
+use Rattle.store.proofs.Keeping.{length-keep-share}
 use Rattle.shares.proofs.CutRows.{ids-kept, cut-rows}
 use Rattle.shares.proofs.cut.Statement.{statement}
 use Rattle.shares.proofs.cut.Tie as tie
