@@ -24,6 +24,7 @@ use Rattle.protocol.specs.Rules.{without}
 use Rattle.node.specs.declared.LineHead.{LineHead}
 use Rattle.node.specs.View.{viewLine, viewLines, headOf, headsWith, shareWith, sharesWith}
 use Rattle.node.proofs.Shares.{SmallHead, SmallLine, Shares, length-sharesWith, length-viewLines, small-viewLines}
+use Rattle.node.proofs.Outcomes.{without-small}
 
 -- the readings of the other buckets, of so many from a place on
 abbrev pub others : Settings → ℕ → Columns → ℕ → ℕ → List Reading
@@ -122,10 +123,6 @@ module _ (s : Settings) (j : ℕ) (x : Columns) (base n : ℕ) (h : LineHead) (h
   pub store-turn : storeLeft s j x base (suc n) (h ∷ hs) ≡ storeLeft s j next (base + readingsPerLine) n hs
   unfolding sharesWith
   store-turn = rw (lines-turn, first-rows, later-rows) (share-turn (sharesWith hs (rowsFrom next (base + readingsPerLine) (n * readingsPerLine)) (linesLeft s j next (base + readingsPerLine) n hs)))
-
-without-small : (s : Settings) (j : ℕ) (l : Line) → SmallLine l → SmallLine (without s j l)
-unfolding without
-without-small s j l h = omega (arith, length-keep (λ (q : Reading). not (isIn (s .bucket) j q)) (l .kept))
 
 -- ---- all lines
 

@@ -65,7 +65,7 @@ act-lines s n Rule.EndCorrection = refl
 act-lines s n Rule.WorkTentative = refl
 act-lines s n Rule.Idle = refl
 
-without-small : (s : Settings) (j : ℕ) (l : Line) → SmallLine l → SmallLine (without s j l)
+pub without-small : (s : Settings) (j : ℕ) (l : Line) → SmallLine l → SmallLine (without s j l)
 unfolding without
 without-small s j l h = omega (arith, length-keep (λ (r : Reading). not (isIn (s .bucket) j r)) (l .kept))
 
