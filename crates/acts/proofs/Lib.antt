@@ -1,4 +1,4 @@
--- Laws on the acts: readings removed line by line, the records of a bucket's work, and what each rule leaves.
+-- Laws on rule 2: readings removed line by line, the boundary behind the results, and what the rule leaves.
 pub mod Removed
-pub mod Given
+pub mod Boundary
 pub mod Acts

@@ -11,8 +11,8 @@ ghost use Rattle.protocol.specs.Refusals.{firstFailed};
 ghost use Rattle.node.specs.View.{places, view, putState, putColumns};
 ghost use Rattle.node.specs.Shape.{inShape};
 ghost use Rattle.node.specs.Calls.{hostTests};
-use acts::Stepped;
 use clock::ArrivalTick;
+use corrections::Stepped;
 use node::State;
 use protocol::Rule;
 
@@ -36,7 +36,7 @@ pub fn step(
 {
     let rule = rules::rule_of(state, ids, times, values, arrivals, kinds, meters, tick);
     match rule {
-        Rule::Withdraw => acts::withdraw(state, area),
+        Rule::Withdraw => corrections::withdraw(state, area),
         Rule::WorkStable => acts::work_stable(
             state,
             ids,
@@ -47,9 +47,9 @@ pub fn step(
             meters,
             area,
         ),
-        Rule::EndCorrection => acts::end_correction(state, area),
+        Rule::EndCorrection => corrections::end_correction(state, area),
         Rule::WorkTentative => {
-            acts::work_tentative(state, ids, times, values, arrivals, kinds, meters, area)
+            tentative::work_tentative(state, ids, times, values, arrivals, kinds, meters, area)
         },
         Rule::Idle => Stepped {
             state: state,

@@ -20,7 +20,8 @@ use Rattle.node.specs.View.{view}
 use Rattle.node.proofs.Limits.{limits-hold}
 use Rattle.node.proofs.Shape.{inShape-facts}
 use Rattle.node.proofs.Times.{start-fits, stable-start-fits}
-use Rattle.acts.proofs.Given.{Given, work-given, no-boundary, with-boundary, one-more, record-behind}
+use Rattle.tentative.proofs.Given.{Given, work-given}
+use Rattle.acts.proofs.Boundary.{no-boundary, with-boundary, one-more, record-behind}
 use Rattle.acts.proofs.stable_records.Statement.{statement}
 use Rattle.acts.proofs.stable_records.Tie as tie
 

@@ -1,12 +1,9 @@
 -- `acts::work_stable` meets its contract: the bucket's records, and its readings removed from every line. Assumes nothing.
-use mathlib.Core.Path.{_≡_}
 use native.Mathlib.Omega.{arith}
 use borrow.Author.Needs.{needs}
-use lib.ListN.{length, take}
-use Rattle.settings.specs.Limits.{maxLines}
+use lib.ListN.{take}
 use Rattle.store.specs.Columns.{Columns, columnsOf}
 use Rattle.store.proofs.Pairs.{every-to}
-use Rattle.operator.proofs.FromPlace.{length-mapped}
 use Rattle.node.specs.declared.LineHead.{LineHead}
 use Rattle.node.specs.View.{places, view}
 use Rattle.node.proofs.Limits.{limits-hold}
@@ -14,10 +11,6 @@ use Rattle.node.proofs.Shape.{HeadShape, inShape-facts}
 use Rattle.acts.proofs.Acts.{work-stable-acts}
 use Rattle.acts.proofs.work_stable.Statement.{statement}
 use Rattle.acts.proofs.work_stable.Tie as tie
-
--- the state's array of heads has its length
-all-heads : (c : tie.Start) → length (c .args .state .heads) ≡ maxLines
-all-heads c = let owned = c .good .0 .1 .1 .1 .1 .0 in search (needs, length-mapped)
 
 stable-records-requires : tie.Need-stable-records-requires
 stable-records-requires c κs = search needs
@@ -76,7 +69,7 @@ returns c =
     let x : Columns = columnsOf (a .ids .now) (a .times .now) (a .values .now) (a .arrivals .now) (a .kinds .now) (a .meters .now) in
     let given = c .before .before .before .before .before .before .before .before .before .before .before .before .before .before .before .before .before .before .before .before .before .before .stable-records in
     let removed = c .before .before .before .before .before .before .before .before .before .before .before .before .remove in
-    work-stable-acts (a .state) x (all-heads start) (start .pre .0) (start .pre .1) (a .area .now) _ (given .result .operator) (removed .result) _ (given .result .records)
+    work-stable-acts (a .state) x (a .area .now) _ (given .result .operator) (removed .result) _ (given .result .records)
     (given .ensures .0) (removed .ensures .0) (removed .ensures .1) (given .ensures .1 .1) (given .ensures .1 .0)
 
 pub work-stable-spec : {M : Type 1} → statement M

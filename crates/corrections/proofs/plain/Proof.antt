@@ -1,8 +1,8 @@
--- `acts::plain` meets its contract. Assumes nothing.
+-- `corrections::plain` meets its contract. Assumes nothing.
 use mathlib.Core.Path.{refl}
 use Rattle.operator.specs.Results.{plain}
-use Rattle.acts.proofs.plain.Statement.{statement}
-use Rattle.acts.proofs.plain.Tie as tie
+use Rattle.corrections.proofs.plain.Statement.{statement}
+use Rattle.corrections.proofs.plain.Tie as tie
 
 returns : tie.Need-returns
 unfolding plain

@@ -1,13 +1,16 @@
--- `acts::end_correction` meets its contract: one record, and no line changed. Assumes nothing.
+-- `corrections::withdraw` meets its contract: one record, the checkpoint back, and no line changed. Assumes nothing.
 use mathlib.Core.Path.{_∙_, ap}
 use borrow.Author.Needs.{needs}
 use Rattle.area.specs.Laid.{inFront}
 use Rattle.record.specs.declared.Record.{Record}
 use Rattle.record.specs.Layout.{bytesOf}
 use Rattle.operator.proofs.FromPlace.{length-mapped}
-use Rattle.acts.proofs.Acts.{end-correction-acts}
-use Rattle.acts.proofs.end_correction.Statement.{statement}
-use Rattle.acts.proofs.end_correction.Tie as tie
+use Rattle.corrections.proofs.LinesStay.{withdraw-acts}
+use Rattle.corrections.proofs.withdraw.Statement.{statement}
+use Rattle.corrections.proofs.withdraw.Tie as tie
+
+cast-plain : tie.Need-cast-plain
+cast-plain c = search needs
 
 plain-requires : tie.Need-plain-requires
 plain-requires c κs = search needs
@@ -22,8 +25,10 @@ returns : tie.Need-returns
 returns c x room shape =
     let start = c .before .before .before .before .before .before .before .before .before .before .before in
     let a = start .args in
-    end-correction-acts (a .state) x (search (needs, length-mapped)) room shape (a .area .now) _
+    withdraw-acts (a .state) x (search (needs, length-mapped)) room shape (a .area .now) _
     (c .before .before .put-record .ensures ∙ ap (λ (r : Record). inFront (bytesOf r) (a .area .now)) (c .before .before .before .before .plain .ensures))
 
-pub end-correction-spec : {M : Type 1} → statement M
-end-correction-spec = tie.close (tie.spec plain-requires put-record-requires same-length returns)
+pub withdraw-spec : {M : Type 1} → statement M
+withdraw-spec =
+    tie.close
+    (tie.spec cast-plain plain-requires put-record-requires same-length returns)

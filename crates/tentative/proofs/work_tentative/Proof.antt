@@ -1,4 +1,4 @@
--- `acts::work_tentative` meets its contract: the bucket's results, and no line changed. Assumes nothing.
+-- `tentative::work_tentative` meets its contract: the bucket's results, and no line changed. Assumes nothing.
 use mathlib.Core.Path.{_≡_}
 use native.Mathlib.Omega.{arith}
 use borrow.Author.Needs.{needs}
@@ -11,10 +11,10 @@ use Rattle.operator.proofs.FromPlace.{length-mapped}
 use Rattle.protocol.specs.Rules.{worked}
 use Rattle.node.specs.View.{view}
 use Rattle.node.proofs.Shape.{inShape-facts}
-use Rattle.acts.proofs.Given.{Given, work-given}
-use Rattle.acts.proofs.Acts.{work-tentative-acts}
-use Rattle.acts.proofs.work_tentative.Statement.{statement}
-use Rattle.acts.proofs.work_tentative.Tie as tie
+use Rattle.tentative.proofs.Given.{Given, work-given}
+use Rattle.tentative.proofs.Tentative.{work-tentative-acts}
+use Rattle.tentative.proofs.work_tentative.Statement.{statement}
+use Rattle.tentative.proofs.work_tentative.Tie as tie
 
 -- the state's array of heads has its length
 all-heads : (c : tie.Start) → length (c .args .state .heads) ≡ maxLines

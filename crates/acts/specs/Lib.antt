@@ -1,2 +1,0 @@
--- What the acts of the rules do.
-pub mod Acted

@@ -1,0 +1,2 @@
+-- Laws on the rules that change no line.
+pub mod LinesStay

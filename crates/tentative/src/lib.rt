@@ -1,0 +1,64 @@
+// Rule 4, which works a bucket tentatively and leaves the store as it is. The host's tests have passed.
+ghost use mathlib.Core.Path.{_≡_};
+ghost use mathlib.Core.Bool.{true};
+ghost use Prim.Native.Nat.{_≤_, _<_, _^_};
+ghost use lib.ListN.{length};
+ghost use Rattle.clock.specs.Windows.{windowStart};
+ghost use Rattle.store.specs.Columns.{columnsOf, storeLength};
+ghost use Rattle.protocol.specs.declared.Rule.the-variants as Rules;
+ghost use Rattle.node.specs.Sizes.{areaBytes};
+ghost use Rattle.node.specs.View.{places};
+ghost use Rattle.node.specs.Shape.{inShape};
+ghost use Rattle.corrections.specs.Acted.{Acted};
+use corrections::Stepped;
+use node::State;
+use protocol::Phase;
+
+// Rule 4: bucket p is worked tentatively.
+pub fn work_tentative(
+    state: State,
+    ids: &[u32],
+    times: &[u32],
+    values: &[i32],
+    arrivals: &[u32],
+    kinds: &[u8],
+    meters: &[u8],
+    area: &mut [u8],
+) -> Stepped
+    requires { ⌜ (places state ≤ storeLength (columnsOf (now ids) (now times) (now values) (now arrivals) (now kinds) (now meters))) × (inShape state (columnsOf (now ids) (now times) (now values) (now arrivals) (now kinds) (now meters)) ≡ true) × (areaBytes ≤ length (now area)) × (windowStart (state .settings .bucket) (state .settings .window) (state .p) < 2 ^ 32) ⌝ }
+    ensures { λ r. ⌜ Acted Rules.WorkTentative state (columnsOf (now (ids .entry)) (now (times .entry)) (now (values .entry)) (now (arrivals .entry)) (now (kinds .entry)) (now (meters .entry))) (now (area .entry)) (r .state) (columnsOf (now (ids .entry)) (now (times .entry)) (now (values .entry)) (now (arrivals .entry)) (now (kinds .entry)) (now (meters .entry))) (now (area .exit)) (r .records) ⌝ }
+{
+    let operator = state.operator;
+    let stable = state.checkpoint;
+    let heads = state.heads;
+    let settings = state.settings;
+    let clock = state.clock;
+    let p = state.p;
+    let next = work::work(
+        state,
+        ids,
+        times,
+        values,
+        arrivals,
+        kinds,
+        meters,
+        record::TENTATIVE,
+        p,
+        area,
+    );
+    let records = (next.number - operator.number) as u32;
+    let after = State {
+        operator: next,
+        checkpoint: stable,
+        heads: heads,
+        settings: settings,
+        clock: clock,
+        c: state.c,
+        p: p + 1,
+        phase: Phase::Failure,
+    };
+    Stepped {
+        state: after,
+        records: records,
+    }
+}
