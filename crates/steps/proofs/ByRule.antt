@@ -23,7 +23,7 @@ use Rattle.node.specs.Shape.{inShape}
 use Rattle.node.proofs.View.{Fits, putState-view, putColumns-view}
 use Rattle.node.proofs.AfterCalls.{shape-fits}
 use Rattle.corrections.specs.Acted.{Acted}
-use Rattle.acts.proofs.Boundary.{no-boundary, with-boundary, one-more}
+use Rattle.stable.proofs.Boundary.{no-boundary, with-boundary, one-more}
 
 -- nothing to do
 pub idle-acts : (st : State) (x : Columns) → length (st .heads) ≡ maxLines → places st ≤ storeLength x → inShape st x ≡ true → (area : List ℕ) → Acted Rule.Idle st x area st x area 0

@@ -37,7 +37,7 @@ pub fn step(
     let rule = rules::rule_of(state, ids, times, values, arrivals, kinds, meters, tick);
     match rule {
         Rule::Withdraw => corrections::withdraw(state, area),
-        Rule::WorkStable => acts::work_stable(
+        Rule::WorkStable => stable::work_stable(
             state,
             ids,
             times,

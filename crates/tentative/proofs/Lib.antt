@@ -1,3 +1,2 @@
--- Laws on rule 4: the results of a bucket's work, and what the rule leaves.
-pub mod Given
+-- Laws on rule 4: what it leaves.
 pub mod Tentative

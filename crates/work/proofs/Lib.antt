@@ -3,3 +3,4 @@ pub mod Fields
 pub mod Places
 pub mod BucketReadings
 pub mod Closing
+pub mod Given

@@ -12,7 +12,7 @@ use Rattle.protocol.specs.Rules.{act}
 use Rattle.node.specs.View.{view}
 use Rattle.node.proofs.Limits.{limits-hold}
 use Rattle.node.proofs.Shape.{inShape-facts}
-use Rattle.tentative.proofs.Given.{few-results}
+use Rattle.work.proofs.Given.{few-results}
 use Rattle.steps.proofs.ByRule.{Found, count-by-rule, stable-count-closing, stable-count}
 use Rattle.steps.proofs.records_ahead.Statement.{statement}
 use Rattle.steps.proofs.records_ahead.Tie as tie

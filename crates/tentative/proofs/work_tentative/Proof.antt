@@ -11,7 +11,7 @@ use Rattle.operator.proofs.FromPlace.{length-mapped}
 use Rattle.protocol.specs.Rules.{worked}
 use Rattle.node.specs.View.{view}
 use Rattle.node.proofs.Shape.{inShape-facts}
-use Rattle.tentative.proofs.Given.{Given, work-given}
+use Rattle.work.proofs.Given.{Given, work-given}
 use Rattle.tentative.proofs.Tentative.{work-tentative-acts}
 use Rattle.tentative.proofs.work_tentative.Statement.{statement}
 use Rattle.tentative.proofs.work_tentative.Tie as tie

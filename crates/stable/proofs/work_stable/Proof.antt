@@ -1,4 +1,4 @@
--- `acts::work_stable` meets its contract: the bucket's records, and its readings removed from every line. Assumes nothing.
+-- `stable::work_stable` meets its contract: the bucket's records, and its readings removed from every line. Assumes nothing.
 use native.Mathlib.Omega.{arith}
 use borrow.Author.Needs.{needs}
 use lib.ListN.{take}
@@ -8,9 +8,9 @@ use Rattle.node.specs.declared.LineHead.{LineHead}
 use Rattle.node.specs.View.{places, view}
 use Rattle.node.proofs.Limits.{limits-hold}
 use Rattle.node.proofs.Shape.{HeadShape, inShape-facts}
-use Rattle.acts.proofs.Acts.{work-stable-acts}
-use Rattle.acts.proofs.work_stable.Statement.{statement}
-use Rattle.acts.proofs.work_stable.Tie as tie
+use Rattle.stable.proofs.Stable.{work-stable-acts}
+use Rattle.stable.proofs.work_stable.Statement.{statement}
+use Rattle.stable.proofs.work_stable.Tie as tie
 
 stable-records-requires : tie.Need-stable-records-requires
 stable-records-requires c κs = search needs

@@ -2,12 +2,10 @@
 -- behind them. By the laws on the operator's work and on bytes laid in front of an area. Assumes nothing.
 use Prim.Native.Nat.{ℕ, _+_, _*_, _-_, _≤_}
 use mathlib.Core.Path.{_≡_, _∙_, ap}
-use mathlib.Core.Bool.{true, false, cond}
-use mathlib.Core.List.{List, []}
+use mathlib.Core.List.{List}
 use native.Mathlib.Omega.{arith}
 use lib.ListN.{length, length-append, length-drop}
 use Rattle.area.specs.Laid.{inFront}
-use Rattle.clock.specs.Windows.{closesWindow}
 use Rattle.record.specs.declared.Record.{Record}
 use Rattle.record.specs.Sizes.{recordBytes}
 use Rattle.record.specs.Layout.{allBytes}
@@ -15,16 +13,14 @@ use Rattle.record.proofs.AllBytes.{length-allBytes}
 use Rattle.store.specs.Order.{inBucket}
 use Rattle.store.specs.Columns.{Columns}
 use Rattle.operator.specs.declared.Operator.{Operator}
-use Rattle.operator.specs.Meters.{meterCount, addAll}
-use Rattle.operator.specs.Work.{close, work}
-use Rattle.operator.proofs.Adding.{addAll-length}
-use Rattle.operator.proofs.Results.{givers-most}
-use Rattle.operator.proofs.Closing.{window-results-length, close-records, work-number}
+use Rattle.operator.specs.Meters.{meterCount}
+use Rattle.operator.proofs.Closing.{work-number}
 use Rattle.protocol.specs.Node.{keptOf}
 use Rattle.protocol.specs.Rules.{worked}
 use Rattle.node.specs.declared.State.{State}
 use Rattle.node.specs.Sizes.{areaBytes}
 use Rattle.node.specs.View.{view}
+use Rattle.node.proofs.Results.{length-work}
 
 module _ (st : State) (x : Columns) (kind j : ℕ) where
   number-moves : worked (st .settings) kind j (view st x) .operator .number ≡ st .operator .number + length (worked (st .settings) kind j (view st x) .records)
@@ -32,16 +28,8 @@ module _ (st : State) (x : Columns) (kind j : ℕ) where
   number-moves = work-number (st .settings) kind j (inBucket (st .settings .bucket) j (keptOf (view st x .lines))) (st .operator)
 
   pub few-results : length (st .operator .meters) ≡ meterCount → length (worked (st .settings) kind j (view st x) .records) ≤ meterCount
-  unfolding worked view work
-  few-results h =
-      let o : Operator = addAll (st .settings) (st .operator) (inBucket (st .settings .bucket) j (keptOf (view st x .lines))) in
-      elim (closesWindow (st .settings .window) j) as
-      (λ b. length (cond b (close (st .settings) kind j o) (record { operator = o; records = [] }) .records) ≤ meterCount) [
-        | true ↦
-            rw (close-records (st .settings) kind j o)
-            (omega (arith, window-results-length (st .settings) kind j o, givers-most (o .meters), addAll-length (st .settings) (st .operator) (inBucket (st .settings .bucket) j (keptOf (view st x .lines)))))
-        | false ↦ omega arith
-      ]
+  unfolding worked view
+  few-results h = length-work (st .settings) kind j (inBucket (st .settings .bucket) j (keptOf (view st x .lines))) (st .operator) h
 
 pub length-inFront : (bytes area : List ℕ) → length bytes ≤ length area → length (inFront bytes area) ≡ length area
 unfolding inFront

@@ -1,4 +1,4 @@
--- `acts::remove` meets its contract: the loop takes the lines one by one, and what is left comes to the same. Assumes nothing.
+-- `stable::remove` meets its contract: the loop takes the lines one by one, and what is left comes to the same. Assumes nothing.
 use Prim.Native.Nat.{_*_, _-_, _≤_, _<_}
 use mathlib.Core.Path.{_∙_}
 use mathlib.Core.List.{[]}
@@ -11,9 +11,9 @@ use Rattle.shares.proofs.Written.{storeLength-same}
 use Rattle.operator.proofs.FromPlace.{length-mapped}
 use Rattle.protocol.specs.Node.{noLine}
 use Rattle.node.specs.View.{headOf}
-use Rattle.acts.proofs.Removed.{Removing, length-others, removing-start, own-small, removing-turn, removing-heads, removing-store, store-front}
-use Rattle.acts.proofs.remove.Statement.{statement}
-use Rattle.acts.proofs.remove.Tie as tie
+use Rattle.stable.proofs.Removed.{Removing, length-others, removing-start, own-small, removing-turn, removing-heads, removing-store, store-front}
+use Rattle.stable.proofs.remove.Statement.{statement}
+use Rattle.stable.proofs.remove.Tie as tie
 
 abbrev Inv-loop : tie.InvT-loop
 Inv-loop s ids₀ times₀ values₀ arrivals₀ kinds₀ meters₀ j next₀ i₀ ids times values arrivals kinds meters next i =

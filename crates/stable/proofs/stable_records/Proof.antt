@@ -1,4 +1,4 @@
--- `acts::stable_records` meets its contract: the results, and the boundary behind them where bucket c closes a window. Assumes nothing.
+-- `stable::stable_records` meets its contract: the results, and the boundary behind them where bucket c closes a window. Assumes nothing.
 use Prim.Native.Nat.{ℕ, _*_, _-_, _≤_}
 use mathlib.Core.Path.{_≡_, sym, _∙_, ap}
 use mathlib.Core.List.{List}
@@ -20,10 +20,10 @@ use Rattle.node.specs.View.{view}
 use Rattle.node.proofs.Limits.{limits-hold}
 use Rattle.node.proofs.Shape.{inShape-facts}
 use Rattle.node.proofs.Times.{start-fits, stable-start-fits}
-use Rattle.tentative.proofs.Given.{Given, work-given}
-use Rattle.acts.proofs.Boundary.{no-boundary, with-boundary, one-more, record-behind}
-use Rattle.acts.proofs.stable_records.Statement.{statement}
-use Rattle.acts.proofs.stable_records.Tie as tie
+use Rattle.work.proofs.Given.{Given, work-given}
+use Rattle.stable.proofs.Boundary.{no-boundary, with-boundary, one-more, record-behind}
+use Rattle.stable.proofs.stable_records.Statement.{statement}
+use Rattle.stable.proofs.stable_records.Tie as tie
 
 -- the operator's array has its length
 all-meters : (c : tie.Start) → length (c .args .state .operator .meters) ≡ meterCount
