@@ -1,15 +1,22 @@
 -- `calls::call` meets its contract: a call that is judged refused changes nothing, and what an accepted one leaves is what `accept` ensures.
 -- Assumes nothing.
-use mathlib.Core.Path.{_≡_, subst, _∙_}
+use Prim.Native.Nat.{ℕ}
+use mathlib.Core.Path.{_≡_, refl, subst, _∙_}
+use mathlib.Core.List.{List}
 use native.Mathlib.Omega.{arith}
 use borrow.Author.Needs.{needs}
 use Rattle.store.specs.Columns.{Columns, columnsOf}
+use Rattle.node.specs.declared.State.{State}
 use Rattle.node.specs.Calls.{refusedWith, calledOn}
-use Rattle.calls.specs.declared.Judged.{Judged}
-use Rattle.calls.specs.Judging.{JudgedAs, Passed}
-use Rattle.calls.proofs.Answers.{refused-same}
+use Rattle.judging.specs.declared.Judged.{Judged}
+use Rattle.judging.specs.Judging.{JudgedAs, Passed}
 use Rattle.calls.proofs.call.Statement.{statement}
 use Rattle.calls.proofs.call.Tie as tie
+
+-- what a refused call answers and leaves
+refused-same : (x : Columns) (area : List ℕ) {st next : State} {n answer records : ℕ} → next ≡ st → records ≡ 0 → answer ≡ n → record { answer = answer; records = records; state = next; columns = x; area = area } ≡ refusedWith n st x area
+unfolding refusedWith
+refused-same x area e f g = λ t. record { answer = g t; records = f t; state = e t; columns = x; area = area }
 
 -- ---- what is known at the places on the way; each place names the one that it goes back to
 
@@ -64,22 +71,22 @@ accept-requires c κs =
     (passed a .host, passed a .call)
 
 same-length : tie.Need-same-length
-same-length c = search needs
+same-length c = refl
 
 same-length-2 : tie.Need-same-length-2
-same-length-2 c = search needs
+same-length-2 c = refl
 
 same-length-3 : tie.Need-same-length-3
-same-length-3 c = search needs
+same-length-3 c = refl
 
 same-length-4 : tie.Need-same-length-4
-same-length-4 c = search needs
+same-length-4 c = refl
 
 same-length-5 : tie.Need-same-length-5
-same-length-5 c = search needs
+same-length-5 c = refl
 
 same-length-6 : tie.Need-same-length-6
-same-length-6 c = search needs
+same-length-6 c = refl
 
 returns : tie.Need-returns
 returns c =
@@ -87,31 +94,34 @@ returns c =
     let s = refusal r in
     refused-same (store s) (s .args .area .now) (c .refused .ensures .0) (c .refused .ensures .1 .0) (c .refused .ensures .1 .1) ∙ refused r
 
+-- the accepted call, once it is done
+abbrev done : tie.After-slice-known12 → tie.After-accept
+done c = c .before .before .before .before .before .before .before .before .before .before .before .before .before
+
 same-length-7 : tie.Need-same-length-7
-same-length-7 c = search needs
+same-length-7 c = done c .accept .kept .1 .0
 
 same-length-8 : tie.Need-same-length-8
-same-length-8 c = search needs
+same-length-8 c = done c .accept .kept .1 .1 .0
 
 same-length-9 : tie.Need-same-length-9
-same-length-9 c = search needs
+same-length-9 c = done c .accept .kept .1 .1 .1 .0
 
 same-length-10 : tie.Need-same-length-10
-same-length-10 c = search needs
+same-length-10 c = done c .accept .kept .1 .1 .1 .1 .0
 
 same-length-11 : tie.Need-same-length-11
-same-length-11 c = search needs
+same-length-11 c = done c .accept .kept .1 .1 .1 .1 .1 .0
 
 same-length-12 : tie.Need-same-length-12
-same-length-12 c = search needs
+same-length-12 c = done c .accept .kept .1 .1 .1 .1 .1 .1 .0
 
 same-length-13 : tie.Need-same-length-13
-same-length-13 c = search needs
+same-length-13 c = done c .accept .kept .1 .1 .1 .1 .1 .1 .1 .0
 
 returns-2 : tie.Need-returns-2
 returns-2 c =
-    let done = c .before .before .before .before .before .before .before .before .before .before .before .before .before in
-    done .accept .ensures ∙ passed (done .before .before .before .before .before .before .before .before .before) .done
+    done c .accept .ensures ∙ passed (done c .before .before .before .before .before .before .before .before .before) .done
 
 pub call-spec : {M : Type 1} → statement M
 call-spec =

@@ -9,8 +9,8 @@ use Rattle.protocol.specs.Refusals.{firstFailed, answerTo}
 use Rattle.node.specs.declared.State.{State}
 use Rattle.node.specs.View.{view}
 use Rattle.node.specs.Calls.{hostTests, refusedWith, calledWith, calledOn}
-use Rattle.calls.specs.declared.Judged.{Judged}
-use Rattle.calls.specs.declared.Judged.the-variants as Judged
+use Rattle.judging.specs.declared.Judged.{Judged}
+use Rattle.judging.specs.declared.Judged.the-variants as Judged
 
 -- no test of the host or of the call fails, and this call is the one that the text asks for
 pub record Passed (st : State) (x : Columns) (text area : List ℕ) (k : Call) : Type 0 where

@@ -22,11 +22,6 @@ use Rattle.node.proofs.Limits.{limits-hold}
 use Rattle.node.proofs.Shape.{HeadShape, InShape, inShape-facts}
 use Rattle.node.proofs.Calls.{HostPassed, host-passed, called-past-host}
 
--- what a refused call answers and leaves
-pub refused-same : (x : Columns) (area : List ℕ) {st next : State} {n answer records : ℕ} → next ≡ st → records ≡ 0 → answer ≡ n → record { answer = answer; records = records; state = next; columns = x; area = area } ≡ refusedWith n st x area
-unfolding refusedWith
-refused-same x area e f g = λ t. record { answer = g t; records = f t; state = e t; columns = x; area = area }
-
 -- what the call's tests ask of state and store
 pub record RefusalReady (st : State) (x : Columns) : Type 0 where
   pub lines : st .settings .lines ≤ 8

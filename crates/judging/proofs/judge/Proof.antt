@@ -1,4 +1,4 @@
--- `calls::judge` meets its contract: each way out is the law of what was refused first, or all tests passed. Assumes nothing.
+-- `judging::judge` meets its contract: each way out is the law of what was refused first, or all tests passed. Assumes nothing.
 use Prim.Native.Nat.{ℕ}
 use mathlib.Core.Path.{_≡_, refl, sym, _∙_}
 use mathlib.Core.List.{List}
@@ -12,10 +12,10 @@ use Rattle.store.specs.Columns.{Columns, columnsOf}
 use Rattle.protocol.specs.Refusals.{firstFailed, answerTo}
 use Rattle.node.specs.View.{view}
 use Rattle.node.specs.Calls.{hostTests}
-use Rattle.calls.specs.Judging.{JudgedAs}
-use Rattle.calls.proofs.Answers.{host-refused, text-refused, call-refused, call-done, RefusalReady, refusal-ready}
-use Rattle.calls.proofs.judge.Statement.{statement}
-use Rattle.calls.proofs.judge.Tie as tie
+use Rattle.judging.specs.Judging.{JudgedAs}
+use Rattle.judging.proofs.Answers.{host-refused, text-refused, call-refused, call-done, RefusalReady, refusal-ready}
+use Rattle.judging.proofs.judge.Statement.{statement}
+use Rattle.judging.proofs.judge.Tie as tie
 
 -- ---- what is known at the places on the way; each place names the one that it goes back to
 
