@@ -38,30 +38,34 @@ below e =
 step-requires : tie.Need-step-requires
 step-requires c κs = search needs
 
+-- the step, once it is done
+abbrev stepped : tie.After-next → tie.After-step
+stepped c = c .before .before .before .before .before .before .before .before .before .before .before .before .before .before
+
 same-length : tie.Need-same-length
-same-length c = search needs
+same-length c = stepped c .step .kept .1 .0
 
 same-length-2 : tie.Need-same-length-2
-same-length-2 c = search needs
+same-length-2 c = stepped c .step .kept .1 .1 .0
 
 same-length-3 : tie.Need-same-length-3
-same-length-3 c = search needs
+same-length-3 c = stepped c .step .kept .1 .1 .1 .0
 
 same-length-4 : tie.Need-same-length-4
-same-length-4 c = search needs
+same-length-4 c = stepped c .step .kept .1 .1 .1 .1 .0
 
 same-length-5 : tie.Need-same-length-5
-same-length-5 c = search needs
+same-length-5 c = stepped c .step .kept .1 .1 .1 .1 .1 .0
 
 same-length-6 : tie.Need-same-length-6
-same-length-6 c = search needs
+same-length-6 c = stepped c .step .kept .1 .1 .1 .1 .1 .1 .0
 
 same-length-7 : tie.Need-same-length-7
-same-length-7 c = search needs
+same-length-7 c = stepped c .step .kept .1 .1 .1 .1 .1 .1 .1 .1 .0
 
 returns : tie.Need-returns
 returns c =
-    let done = c .before .before .before .before .before .before .before .before .before .before .before .before .before .before in
+    let done = stepped c in
     let t = done .before .before .before .before .before .before .before .before in
     let s = entry (t .before) in
     step-laid (s .args .state) (store s) (s .args .area .now) (s .args .k) (s .pre .1) (t .if1 .taken) (done .step .ensures .0) (done .step .ensures .1 .0) (done .step .ensures .1 .1 .0) (done .step .ensures .1 .1 .1)
@@ -94,28 +98,32 @@ mul-after c = search needs
 element-set-from-after : tie.Need-element-set-from-after
 element-set-from-after c = below (c .before .before .before .before .before .before .before .before .before .before .before .before .before .before .before .before .before .before .before .before)
 
+-- the input, once it is taken in
+abbrev taken : tie.After-slice-known17 → tie.After-input
+taken c = c .before .before .before .before .before .before .before .before .before .before .before
+
 same-length-8 : tie.Need-same-length-8
-same-length-8 c = search needs
+same-length-8 c = taken c .input .kept .1 .0
 
 same-length-9 : tie.Need-same-length-9
-same-length-9 c = search needs
+same-length-9 c = taken c .input .kept .1 .1 .0
 
 same-length-10 : tie.Need-same-length-10
-same-length-10 c = search needs
+same-length-10 c = taken c .input .kept .1 .1 .1 .0
 
 same-length-11 : tie.Need-same-length-11
-same-length-11 c = search needs
+same-length-11 c = taken c .input .kept .1 .1 .1 .1 .0
 
 same-length-12 : tie.Need-same-length-12
-same-length-12 c = search needs
+same-length-12 c = taken c .input .kept .1 .1 .1 .1 .1 .0
 
 same-length-13 : tie.Need-same-length-13
-same-length-13 c = search needs
+same-length-13 c = taken c .input .kept .1 .1 .1 .1 .1 .1 .0
 
 returns-2 : tie.Need-returns-2
 unfolding headOf noLine
 returns-2 c =
-    let done = c .before .before .before .before .before .before .before .before .before .before .before in
+    let done = taken c in
     let e = done .before .before .before .before .before .before .before .before .before in
     let s = entry (e .before) in
     input-laid (s .args .state) (store s) (s .args .area .now) (s .args .k) (s .pre .1) (s .pre .0) (e .if1 .left) (eight s) (done .input .ensures .0) (done .input .ensures .1)
