@@ -11,7 +11,3 @@ pub mod Sums
 pub mod Meters
 pub mod Bounds
 pub mod FromPlace
-pub mod NextResults
-pub mod Laying
-pub mod Pass
-pub mod Turns

@@ -2,5 +2,4 @@
 pub mod Meters
 pub mod Results
 pub mod Work
-pub mod Pass
 pub mod Bounds

@@ -19,7 +19,7 @@ use Rattle.columns.specs.Places.{bucketPlaces}
 use Rattle.shares.proofs.Kept.{bucket-readings}
 use Rattle.operator.specs.declared.Operator.{Operator}
 use Rattle.operator.specs.Meters.{meterCount, addAll}
-use Rattle.operator.specs.Pass.{Workable, Passed}
+use Rattle.pass.specs.Pass.{Workable, Passed}
 use Rattle.protocol.specs.Node.{Line, keptOf}
 use Rattle.node.specs.declared.LineHead.{LineHead}
 use Rattle.node.specs.declared.State.{State}

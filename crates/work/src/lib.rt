@@ -61,7 +61,7 @@ fn added(
     let places: &mut [u16] = &mut space;
     let n = columns::bucket_places(times, &counts[0..lines], settings.bucket, j, places);
     let all = &places[..];
-    operator.add_places(settings, times, values, meters, &all[0..n])
+    pass::add_places(operator, settings, times, values, meters, &all[0..n])
 }
 
 // Works bucket j with all that is kept of it, results of this kind; they are laid down from the area's first byte on, and how many there
@@ -85,7 +85,7 @@ pub fn work(
     let settings = state.settings;
     let next = added(state, ids, times, values, arrivals, kinds, meters, j);
     if clock::closes_window(settings.window, j) {
-        return next.close(settings, kind, j, area);
+        return closing::close(next, settings, kind, j, area);
     }
     next
 }
@@ -109,5 +109,5 @@ pub fn results_ahead(
         return 0;
     }
     let next = added(state, ids, times, values, arrivals, kinds, meters, j);
-    next.results_ahead() as u32
+    closing::results_ahead(next) as u32
 }

@@ -16,13 +16,13 @@ use Rattle.signed.specs.Mean.{InRange}
 use Rattle.store.specs.Lists.{Every}
 use Rattle.store.proofs.Choices.{cond-either}
 use Rattle.store.proofs.Pairs.{every-to, every-set, every-at}
 use Rattle.operator.specs.declared.Meter.{Meter}
 use Rattle.operator.specs.declared.Operator.{Operator}
 use Rattle.operator.specs.Bounds.{countLimit}
 use Rattle.operator.specs.Meters.{noMeter, isCounted}
 use Rattle.operator.proofs.Sums.{add-range}
 use Rattle.operator.proofs.Meters.{Counted, no-counted}
-use Rattle.operator.proofs.Pass.{Passing, started, valued, valued-count, valued-sum, entered, meet, meetPlaces}
+use Rattle.pass.proofs.Pass.{Passing, started, valued, valued-count, valued-sum, entered, meet, meetPlaces}
 
 -- ---- how much a pass counts
 

@@ -1,5 +1,5 @@
--- `operator::Operator::add_places` meets its contract. The loop's invariant: the operator and the newest times are those of the pass over
--- the first k places, so what is left of it leads to the same end; each meter has room for one value more a place. Assumes nothing.
+-- `pass::add_places` meets its contract. The loop's invariant: the operator and the newest times are those of the pass over the first k
+-- places, so what is left of it leads to the same end; each meter has room for one value more a place. Assumes nothing.
 use Prim.Native.Nat.{_+_, _-_}
 use mathlib.Core.Path.{_≡_, sym, _∙_}
 use mathlib.Core.Logic.{⊎-elim}
@@ -11,22 +11,22 @@ use mir.Syntax.{w32}
 use mir.Val.{SFits}
 use mir.Facts.{toZ-ofZ}
 use Rattle.store.proofs.Pairs.{every-at, every-index}
 use Rattle.operator.specs.Bounds.{countLimit}
 use Rattle.operator.specs.Meters.{meterCount, noMeter, isCounted}
-use Rattle.operator.specs.Pass.{Workable}
 use Rattle.operator.proofs.Meters.{Counted, no-counted}
 use Rattle.operator.proofs.Bounds.{meters-ok}
 use Rattle.operator.proofs.FromPlace.{length-mapped}
-use Rattle.operator.proofs.Pass.{Passing, started, meet, meet-counts, meet-dropped, places-passed}
-use Rattle.operator.proofs.Turns.{Turn, turn-start, turn-more, turn-end, turn-in-range}
-use Rattle.operator.proofs.Operator.add_places.Statement.{statement}
-use Rattle.operator.proofs.Operator.add_places.Tie as tie
+use Rattle.pass.specs.Pass.{Workable}
+use Rattle.pass.proofs.Pass.{Passing, started, meet, meet-counts, meet-dropped, places-passed}
+use Rattle.pass.proofs.Turns.{Turn, turn-start, turn-more, turn-end, turn-in-range}
+use Rattle.pass.proofs.add_places.Statement.{statement}
+use Rattle.pass.proofs.add_places.Tie as tie
 
 abbrev Inv-loop : tie.InvT-loop
-Inv-loop s times values meters places self₀ newest₀ k₀ self newest k = Turn s times values meters places self₀ (record { operator = self; newest = newest }) k
+Inv-loop s times values meters places o₀ newest₀ k₀ o newest k = Turn s times values meters places o₀ (record { operator = o; newest = newest }) k
 
 abbrev μ-loop : tie.MeasureT-loop
-μ-loop s times values meters places self₀ newest₀ k₀ self newest k = length places - k
+μ-loop s times values meters places o₀ newest₀ k₀ o newest k = length places - k
 
 -- the place that a turn works
 place-works : (c : tie.In-loop Inv-loop μ-loop) → Workable (c .before .before .before .before .before .args .times .now) (c .before .before .before .before .before .args .values .now) (c .before .before .before .before .before .args .meters .now) (getD (c .before .before .before .before .before .args .places .now) (c .before .loop .k) 0)
@@ -90,8 +90,8 @@ with-value-requires c κs =
     let a = c .before .before .before .before .before .before .before in
     let l = a .before .loop in
     let m = getD (a .before .before .before .before .before .args .meters .now) (getD (a .before .before .before .before .before .args .places .now) (l .k) 0) 0 in
-    let h : Counted (countLimit + l .k) (getD (l .self .meters) m noMeter) =
-    every-at (Counted (countLimit + l .k)) (l .self .meters) m noMeter (no-counted (countLimit + l .k)) (l .inv .counted) in
+    let h : Counted (countLimit + l .k) (getD (l .o .meters) m noMeter) =
+    every-at (Counted (countLimit + l .k)) (l .o .meters) m noMeter (no-counted (countLimit + l .k)) (l .inv .counted) in
     (omega (arith, h .count, a .before .before .before .before .before .pre .0), h .range)
 
 mul-next : tie.Need-mul-next Inv-loop μ-loop
@@ -121,10 +121,10 @@ loop-again c =
     let t = getD (b .args .times .now) at 0 in
     let v = getD (b .args .values .now) at (pos 0) in
     let m = getD (b .args .meters .now) at 0 in
-    let p : Passing = record { operator = l .self; newest = l .newest } in
+    let p : Passing = record { operator = l .o; newest = l .newest } in
     let fits : SFits w32 v = search needs in
     let told : c .before .is-counted .result ≡ isCounted (b .args .s) v = rw (toZ-ofZ fits) at (c .before .is-counted .ensures) in
-    let same : record { operator = c .if1 .self; newest = c .if1 .newest } ≡ meet (b .args .s) p t v m =
+    let same : record { operator = c .if1 .o; newest = c .if1 .newest } ≡ meet (b .args .s) p t v m =
     ⊎-elim
     (λ w.
     (λ j. record { operator = w .6 j; newest = w .7 j }) ∙
@@ -148,7 +148,7 @@ returns c =
     let b = c .before .before .before .before .before in
     let l = c .before .loop in
     let long : length (b .args .t1 .meters) ≡ meterCount = search (needs, length-mapped) in
-    let p : Passing = record { operator = l .self; newest = l .newest } in (
+    let p : Passing = record { operator = l .o; newest = l .newest } in (
       λ x t v m rs e h.
           turn-end (b .args .s) (b .args .times .now) (b .args .values .now) (b .args .meters .now) (b .args .places .now) (b .args .t1) p (l .k)
           (l .inv) (omega arith) ∙

@@ -1,0 +1,4 @@
+-- Laws on a closing window.
+pub mod FromPlace
+pub mod NextResults
+pub mod Laying

@@ -1,0 +1,2 @@
+-- Definitions on a closing window.
+pub mod Next

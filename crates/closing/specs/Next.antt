@@ -1,0 +1,18 @@
+-- The next meter with a result, as a closing window asks for it. Assumes nothing.
+use Prim.Native.Nat.{ℕ, suc}
+use mathlib.Core.Bool.{cond}
+use mathlib.Core.List.{List, [], _∷_}
+use lib.ListN.{drop}
+use Rattle.operator.specs.declared.Meter.{Meter}
+use Rattle.operator.specs.Results.{hasResult}
+use Rattle.closing.specs.declared.NextResult.{NextResult}
+use Rattle.closing.specs.declared.NextResult.the-variants as NextResult
+
+-- the first meter with a result, the list's first one having number i
+unfoldable pub firstResult : ℕ → List Meter → NextResult
+firstResult i [] = NextResult.Nothing
+firstResult i (m ∷ ms) = cond (hasResult m) (NextResult.At i) (firstResult (suc i) ms)
+
+-- the first meter at or above `from` with a result
+unfoldable pub nextResult : ℕ → List Meter → NextResult
+nextResult from ms = firstResult from (drop from ms)

@@ -1,0 +1,3 @@
+-- Laws on readings added in one pass.
+pub mod Pass
+pub mod Turns

@@ -1,0 +1,2 @@
+-- Definitions on readings added in one pass.
+pub mod Pass
