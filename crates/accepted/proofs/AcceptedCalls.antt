@@ -21,7 +21,7 @@ use Rattle.store.specs.Sizes.{readingsPerLine}
 use Rattle.store.specs.Columns.{Columns, storeLength, rowsFrom, withKept, share}
 use Rattle.store.proofs.Pairs.{every-index}
 use Rattle.store.proofs.Columns.{length-rowsFrom, take-rows}
-use Rattle.columns.specs.Places.{rises}
+use Rattle.columns.specs.Tests.{rises}
 use Rattle.shares.proofs.Rows.{ids-share}
 use Rattle.protocol.specs.Kinds.{Kind, kindOf}
 use Rattle.protocol.specs.Node.{Line, Node, noLine, onLine}

@@ -14,8 +14,8 @@ use Rattle.clock.specs.Buckets.{bucketOf}
 use Rattle.clock.specs.Hold.{isDue}
 use Rattle.store.specs.Lists.{Every}
 use Rattle.store.specs.Columns.{share}
-use Rattle.columns.specs.Places.{someOfBoth, isLateDue}
-use Rattle.columns.proofs.Shares.{share-none, share-cons}
+use Rattle.columns.specs.Tests.{someOfBoth, isLateDue}
+use Rattle.store.proofs.Shares.{share-none, share-cons}
 
 -- ---- pairs
 

@@ -9,8 +9,8 @@ use lib.Dec.{ltb}
 use lib.ListN.{length, getD}
 use Rattle.store.specs.Lists.{someOf, allOf}
 use Rattle.store.specs.Columns.{share}
-use Rattle.columns.specs.Places.{rises, someOfBoth}
-use Rattle.columns.proofs.Shares.{length-share-le, left, left-all, left-cons, left-none}
+use Rattle.columns.specs.Tests.{rises, someOfBoth}
+use Rattle.store.proofs.Shares.{length-share-le, left, left-all, left-cons, left-none}
 
 -- ---- whether all pass
 

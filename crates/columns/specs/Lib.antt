@@ -1,2 +1,2 @@
--- Definitions on single columns of the store: places of readings, a column closed up, tests.
-pub mod Places
+-- Definitions on single columns of the store: tests.
+pub mod Tests

@@ -4,7 +4,7 @@ ghost use mathlib.Core.Bool.{true, false};
 ghost use Prim.Native.Nat.{_+_, _≤_};
 ghost use Rattle.store.specs.Sizes.{readingsPerLine};
 ghost use Rattle.store.specs.Columns.{columnsOf, storeLength, rowsFrom, withKept, share};
-ghost use Rattle.columns.specs.Places.{rises};
+ghost use Rattle.columns.specs.Tests.{rises};
 ghost use Rattle.protocol.specs.Kinds.{kindOf};
 ghost use Rattle.protocol.specs.Node.{onLine, readingOf};
 ghost use Rattle.protocol.specs.Refusals.{isFull};
@@ -63,7 +63,7 @@ pub fn input(
         return next;
     }
     if k.kind == journal::UNDO {
-        let left = shares::cut(
+        let left = truncation::cut(
             ids,
             times,
             values,

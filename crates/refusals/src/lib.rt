@@ -7,7 +7,7 @@ ghost use Rattle.journal.specs.Kinds.{letterT};
 ghost use Rattle.store.specs.Lists.{Every, someOf};
 ghost use Rattle.store.specs.Sizes.{readingsPerLine};
 ghost use Rattle.store.specs.Columns.{Columns, storeLength, share};
-ghost use Rattle.columns.specs.Places.{isReadingKind};
+ghost use Rattle.columns.specs.Tests.{isReadingKind};
 ghost use Rattle.protocol.specs.Kinds.{kindOf};
 ghost use Rattle.protocol.specs.Node.{Line, keepsTentative};
 ghost use Rattle.protocol.specs.Refusals.{firstFailed, wrongLine, unusedField, wrongMeter, wrongId, tooEarly, isHeldBack, isFull, answerTo};

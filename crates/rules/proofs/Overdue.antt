@@ -11,7 +11,7 @@ use Rattle.settings.specs.declared.Settings.{Settings}
 use Rattle.store.specs.Sizes.{readingsPerLine}
 use Rattle.store.specs.Lists.{someOf}
 use Rattle.store.specs.Columns.{Columns, storeLength, rows, share}
-use Rattle.columns.specs.Places.{someOfBoth, isLateDue}
+use Rattle.columns.specs.Tests.{someOfBoth, isLateDue}
 use Rattle.shares.proofs.Kept.{some-late-due}
 use Rattle.protocol.specs.Node.{Line, noLine}
 use Rattle.protocol.specs.Rules.{isOverdue}

@@ -16,10 +16,12 @@ use Rattle.store.specs.Lists.{keep, someOf, allOf, Every}
 use Rattle.store.specs.Order.{Placed, isIn, gather}
 use Rattle.store.specs.Columns.{Columns, storeLength, rowAt, rowsFrom, share}
 use Rattle.store.proofs.Keeping.{some-map}
+use Rattle.store.proofs.Columns.{room}
 use Rattle.store.proofs.Gathering.{place}
-use Rattle.columns.specs.Places.{isTimeOf, placesWhere, bucketPlaces, keptFrom, rises, isReadingKind, someOfBoth, isLateDue}
-use Rattle.shares.proofs.Rows.{ids-share, times-share, arrivals-share, kinds-share, meters-share}
-use Rattle.shares.proofs.Closed.{rows-inside}
+use Rattle.columns.specs.Tests.{rises, isReadingKind, someOfBoth, isLateDue}
+use Rattle.places.specs.Places.{isTimeOf, placesWhere}
+use Rattle.shares.specs.Shares.{bucketPlaces, keptFrom}
+use Rattle.shares.proofs.Rows.{rows-where, ids-share, times-share, arrivals-share, kinds-share, meters-share}
 
 -- ---- a test on a field
 
@@ -62,6 +64,11 @@ module _ (x : Columns) (base n : ℕ) (h : base + n ≤ storeLength x) where
       someOf-fields (λ (r : Reading). r .time .0) (λ (r : Reading). r .arrival .0) (isLateDue bucket p hold now) (rowsFrom x base n)
 
 -- ---- a bucket's readings
+
+-- the rows at the places of bucket j's times
+rows-inside : (x : Columns) (base n bucket j : ℕ) → base + n ≤ storeLength x → map (λ (i : ℕ). rowAt x i) (placesWhere (isTimeOf true bucket j) base (share base n (x .times))) ≡ keep (isIn bucket j) (rowsFrom x base n)
+unfolding isTimeOf isIn rowAt
+rows-inside x base n bucket j h = rows-where x (λ (r : Reading). r .time .0) 0 (x .times) (λ i. refl) (isTimeOf true bucket j) base n (room (base + n) x h .times)
 
 -- what was placed on a line, without the line's number
 readings-placed : (line : ℕ) (rs : List Reading) → map (λ (q : Placed). q .reading) (map (place line) rs) ≡ rs

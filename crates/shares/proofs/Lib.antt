@@ -1,7 +1,6 @@
--- Laws on the store's shares: rows and their columns, a share cut, a share closed up.
-pub mod Lists
+-- Laws on the store's shares: rows and their columns, what is kept, rows written, and a bucket's places gathered.
 pub mod Rows
-pub mod CutRows
-pub mod Closed
 pub mod Kept
 pub mod Written
+pub mod Stores
+pub mod BucketPlaces

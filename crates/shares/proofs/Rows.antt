@@ -1,17 +1,20 @@
--- The rows of a share and its columns: a field of the rows is a share of the field's column, and rows written over themselves change
--- nothing. One law over the field, by induction on the number of rows; each column is an instance. Assumes nothing.
+-- The rows of a share and its columns: a field of the rows is a share of the field's column, the rows at the places where a column
+-- passes a test are the rows whose field passes it, and rows written over themselves change nothing. One law over the field, by induction on the number of rows; each column is an instance. Assumes nothing.
 use Prim.Native.Nat.{ℕ, zero, suc, _+_, _-_, _≤_}
-use mathlib.Core.Path.{_≡_, refl}
+use mathlib.Core.Path.{_≡_, refl, sym, ap}
+use mathlib.Core.Bool.{Bool}
 use mathlib.Core.List.{List, [], _∷_, _++_, map, map-append, append-nil}
 use native.Mathlib.Omega.{arith}
 use lib.IntN.{ℤ, pos}
 use lib.ListN.{length, getD, replicate, length-append, length-map}
 use lib.Seq.{sets, set-getD, drop-cons}
 use Rattle.store.specs.declared.Reading.{Reading}
+use Rattle.store.specs.Lists.{keep}
 use Rattle.store.specs.Columns.{Columns, columnsOf, storeLength, rowAt, rowsFrom, zeroed, withRowsAt, withKept, share}
+use Rattle.store.proofs.Choices.{cond-map}
 use Rattle.store.proofs.Columns.{room, length-rowsFrom}
 use Rattle.store.proofs.Runs.{sets-sets}
-use Rattle.shares.proofs.Lists.{map-replicate}
+use Rattle.places.specs.Places.{placesWhere}
 
 -- ---- a field of a store's rows, and its column
 
@@ -30,6 +33,15 @@ module _ {A : Type 0} (x : Columns) (f : Reading → A) (blank : A) (column : Li
   unfolding rowsFrom
   field-own base zero = refl
   field-own base (suc n) = rw (e base, set-getD column base blank) (field-own (suc base) n)
+
+  -- the rows at the places where a column passes a test are the rows whose field passes it
+  pub rows-where : (test : A → Bool) (base n : ℕ) → base + n ≤ length column → map (λ (i : ℕ). rowAt x i) (placesWhere test base (share base n column)) ≡ keep (λ (q : Reading). test (f q)) (rowsFrom x base n)
+  unfolding placesWhere share keep rowsFrom
+  rows-where test base zero h = refl
+  rows-where test base (suc n) h =
+      let found : List ℕ = placesWhere test (suc base) (share (suc base) n column) in
+      rw (drop-cons column base blank (omega arith), e base, ← rows-where test (suc base) n (omega arith))
+      (sym (cond-map (map (λ (i : ℕ). rowAt x i)) (test (getD column base blank)) (base ∷ found) found))
 
 -- the six
 module _ (x : Columns) (base n : ℕ) (h : base + n ≤ storeLength x) where
@@ -96,6 +108,10 @@ kept-more x base n r =
     rw (none, append-nil (rowsFrom x base n ++ r ∷ [])) (own-rows x base n (r ∷ []))
 
 -- ---- places zeroed
+
+pub map-replicate : {A B : Type 0} (f : A → B) (n : ℕ) (a : A) → map f (replicate n a) ≡ replicate n (f a)
+map-replicate f zero a = refl
+map-replicate f (suc n) a = ap (λ (l : List _). f a ∷ l) (map-replicate f n a)
 
 pub zeroed-columns : (x : Columns) (from n : ℕ) → withRowsAt x from (replicate n zeroed) ≡ columnsOf (sets (x .ids) from (replicate n 0)) (sets (x .times) from (replicate n 0)) (sets (x .values) from (replicate n (pos 0))) (sets (x .arrivals) from (replicate n 0)) (sets (x .kinds) from (replicate n 0)) (sets (x .meters) from (replicate n 0))
 unfolding withRowsAt zeroed

@@ -129,7 +129,7 @@ fn columns_closed(c: Columns, base: usize, n: usize, bucket: u32, j: u32) -> Col
     let mut arrivals = c.arrivals;
     let mut kinds = c.kinds;
     let mut meters = c.meters;
-    shares::remove_bucket(
+    removal::remove_bucket(
         &mut ids,
         &mut times,
         &mut values,

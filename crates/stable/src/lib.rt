@@ -46,7 +46,7 @@ fn remove(
         let mut h = next[i];
         let n = h.kept as usize;
         let base = i * store::READINGS_PER_LINE;
-        let left = shares::remove_bucket(
+        let left = removal::remove_bucket(
             ids,
             times,
             values,

@@ -12,3 +12,4 @@ pub mod Bucket
 pub mod Maps
 pub mod Columns
 pub mod Runs
+pub mod Shares

@@ -15,7 +15,7 @@ use Rattle.store.specs.Columns.{Columns, storeLength, rowAt}
 use Rattle.store.proofs.Pairs.{every-to, every-map, every-mapped, every-both}
 use Rattle.store.proofs.Columns.{Room, room}
 use Rattle.store.proofs.Apart.{gather-ties}
-use Rattle.columns.specs.Places.{bucketPlaces}
+use Rattle.shares.specs.Shares.{bucketPlaces}
 use Rattle.shares.proofs.Kept.{bucket-readings}
 use Rattle.operator.specs.declared.Operator.{Operator}
 use Rattle.operator.specs.Meters.{meterCount, addAll}

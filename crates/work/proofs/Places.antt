@@ -11,9 +11,10 @@ use Rattle.store.specs.Sizes.{readingsPerLine}
 use Rattle.store.specs.Lists.{Every}
 use Rattle.store.specs.Columns.{share}
 use Rattle.store.proofs.Pairs.{every-append}
-use Rattle.columns.specs.Places.{PlacesRise, isTimeOf, placesWhere, bucketPlaces}
-use Rattle.columns.proofs.Shares.{length-share-le}
-use Rattle.columns.proofs.PlacesLaws.{places-rise, length-places-le}
+use Rattle.store.proofs.Shares.{length-share-le}
+use Rattle.places.specs.Places.{PlacesRise, isTimeOf, placesWhere}
+use Rattle.places.proofs.PlacesLaws.{places-rise, length-places-le}
+use Rattle.shares.specs.Shares.{bucketPlaces}
 
 -- places that rise up to an end lie below everything from it on
 rise-below : (top from to : ℕ) (places : List ℕ) → to ≤ top → PlacesRise from to places → Every (λ p. p < top) places

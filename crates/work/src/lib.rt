@@ -59,7 +59,7 @@ fn added(
     let lines = settings.lines as usize;
     let mut space = [0u16; 2048];
     let places: &mut [u16] = &mut space;
-    let n = columns::bucket_places(times, &counts[0..lines], settings.bucket, j, places);
+    let n = shares::bucket_places(times, &counts[0..lines], settings.bucket, j, places);
     let all = &places[..];
     pass::add_places(operator, settings, times, values, meters, &all[0..n])
 }

@@ -1,0 +1,2 @@
+-- Laws on a column closed up over the places that stay.
+pub mod ClosedUp

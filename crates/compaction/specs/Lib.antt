@@ -1,0 +1,2 @@
+-- Definitions on a column closed up over the places that stay.
+pub mod ClosedUp

@@ -1,0 +1,2 @@
+-- Definitions on places of readings.
+pub mod Places

@@ -1,0 +1,2 @@
+-- Laws on a share closed up.
+pub mod Closed

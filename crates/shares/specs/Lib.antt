@@ -1,0 +1,2 @@
+-- Definitions on the shares of all lines.
+pub mod Shares
