@@ -11,3 +11,5 @@ pub mod Sums
 pub mod Meters
 pub mod Bounds
 pub mod FromPlace
+pub mod NextResults
+pub mod Laying

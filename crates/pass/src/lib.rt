@@ -1,31 +1,15 @@
-// Readings added to the operator: one, or those of a bucket in one pass over their places in the store.
+// A bucket's readings added to the operator in one pass over their places in the store.
 ghost use mathlib.Core.Path.{_≡_};
 ghost use mathlib.Core.Bool.{true};
 ghost use Prim.Native.Nat.{_<_, _≤_, _^_};
 ghost use lib.ListN.{length};
 ghost use Rattle.signed.specs.Mean.{InRange};
 ghost use Rattle.store.specs.Lists.{allOf, Every};
-ghost use Rattle.operator.specs.Meters.{meterCount, add};
+ghost use Rattle.operator.specs.Meters.{meterCount};
 ghost use Rattle.operator.specs.Bounds.{meterOk};
 ghost use Rattle.pass.specs.Pass.{Workable, Passed};
 use operator::Operator;
 use settings::Settings;
-use store::Reading;
-
-// Adds a reading; a value outside low to high is dropped.
-pub fn add(mut o: Operator, s: Settings, r: Reading) -> Operator
-    requires { ⌜ (r .meter < meterCount) × (allOf meterOk (o .meters) ≡ true) ⌝ }
-    ensures { λ q. ⌜ q ≡ add s o r ⌝ }
-{
-    let value = r.value;
-    if operator::is_counted(s, value) {
-        let i = r.meter as usize;
-        let m = o.meters[i];
-        let next = m.with_value(value, true);
-        o.meters[i] = next;
-    }
-    o
-}
 
 // Adds the readings that stand at these places of the store, in one pass: a value is the last one of its meter unless a reading that the
 // pass met earlier is newer.

@@ -85,7 +85,7 @@ pub fn work(
     let settings = state.settings;
     let next = added(state, ids, times, values, arrivals, kinds, meters, j);
     if clock::closes_window(settings.window, j) {
-        return closing::close(next, settings, kind, j, area);
+        return next.close(settings, kind, j, area);
     }
     next
 }
@@ -109,5 +109,5 @@ pub fn results_ahead(
         return 0;
     }
     let next = added(state, ids, times, values, arrivals, kinds, meters, j);
-    closing::results_ahead(next) as u32
+    next.results_ahead() as u32
 }

@@ -12,13 +12,12 @@ use lib.Dec.{ltb}
 use lib.ListN.{length, getD, drop}
 use Rattle.clock.specs.declared.ReadingTime.{ReadingTime}
 use Rattle.store.proofs.Choices.{not-both}
 use Rattle.operator.specs.declared.Meter.{Meter}
+use Rattle.operator.specs.declared.NextResult.{NextResult}
+use Rattle.operator.specs.declared.NextResult.the-variants as NextResult
 use Rattle.operator.specs.Meters.{noMeter}
-use Rattle.operator.specs.Results.{hasResult, result, results}
-use Rattle.closing.specs.declared.NextResult.{NextResult}
-use Rattle.closing.specs.declared.NextResult.the-variants as NextResult
-use Rattle.closing.specs.Next.{nextResult}
-use Rattle.closing.proofs.FromPlace.{next-from-giver, next-from-other, next-from-end, results-from-giver, results-from-other, results-from-end}
+use Rattle.operator.specs.Results.{hasResult, nextResult, result, results}
+use Rattle.operator.proofs.FromPlace.{next-from-giver, next-from-other, next-from-end, results-from-giver, results-from-other, results-from-end}
 
 -- meter number i is the first at or above `from` with a result
 pub record FirstGiver (from : ℕ) (ms : List Meter) (i : ℕ) : Type 0 where

@@ -1,22 +1,22 @@
--- `closing::next_result` meets its contract. The loop's invariant: the next result from place i on is the one asked for. Assumes nothing.
+-- `operator::Operator::next_result` meets its contract. The loop's invariant: the next result from place i on is the one asked for.
+-- Assumes nothing.
 use mathlib.Core.Path.{_≡_, refl, sym, _∙_}
 use Prim.Native.Nat.{_-_, _<_}
 use native.Mathlib.Numerals.{add-one}
 use native.Mathlib.Omega.{arith}
 use borrow.Author.Needs.{needs}
 use lib.ListN.{length}
 use Rattle.operator.specs.Meters.{meterCount, noMeter}
-use Rattle.operator.proofs.FromPlace.{length-mapped}
-use Rattle.closing.specs.Next.{nextResult}
-use Rattle.closing.proofs.FromPlace.{next-from-giver, next-from-other, next-from-end}
-use Rattle.closing.proofs.next_result.Statement.{statement}
-use Rattle.closing.proofs.next_result.Tie as tie
+use Rattle.operator.specs.Results.{nextResult}
+use Rattle.operator.proofs.FromPlace.{length-mapped, next-from-giver, next-from-other, next-from-end}
+use Rattle.operator.proofs.Operator.next_result.Statement.{statement}
+use Rattle.operator.proofs.Operator.next_result.Tie as tie
 
 abbrev Inv-loop : tie.InvT-loop
-Inv-loop from o i₀ i = (length (o .meters) ≡ meterCount) × (nextResult i (o .meters) ≡ nextResult from (o .meters))
+Inv-loop from self i₀ i = (length (self .meters) ≡ meterCount) × (nextResult i (self .meters) ≡ nextResult from (self .meters))
 
 abbrev μ-loop : tie.MeasureT-loop
-μ-loop from o i₀ i = meterCount - i
+μ-loop from self i₀ i = meterCount - i
 
 loop-holds : tie.Need-loop-holds Inv-loop μ-loop
 loop-holds c = (search (needs, length-mapped), refl)

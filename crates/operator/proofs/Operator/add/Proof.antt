@@ -1,4 +1,5 @@
--- `pass::add` meets its contract: the meter that takes the value is within its bounds, so there is room for one more. Assumes nothing.
+-- `operator::Operator::add` meets its contract: the meter that takes the value is within its bounds, so there is room for one more.
+-- Assumes nothing.
 use mathlib.Core.Path.{_≡_, sym, _∙_}
 use mathlib.Core.Bool.{true, false}
 use native.Mathlib.Omega.{arith}
@@ -8,12 +9,12 @@ use mir.Syntax.{w32}
 use mir.Val.{SFits}
 use mir.Facts.{toZ-ofZ}
 use Rattle.store.proofs.Pairs.{every-at}
 use Rattle.operator.specs.Bounds.{countLimit}
 use Rattle.operator.specs.Meters.{noMeter, withValue, isCounted, add}
 use Rattle.operator.proofs.Meters.{Counted, no-counted}
 use Rattle.operator.proofs.Bounds.{meters-ok}
-use Rattle.pass.proofs.add.Statement.{statement}
-use Rattle.pass.proofs.add.Tie as tie
+use Rattle.operator.proofs.Operator.add.Statement.{statement}
+use Rattle.operator.proofs.Operator.add.Tie as tie
 
 is-counted-requires : tie.Need-is-counted-requires
 is-counted-requires c κs = search needs

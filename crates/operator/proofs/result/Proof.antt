@@ -1,4 +1,4 @@
--- `closing::result` meets its contract: each field is the definition's, and the mean is what `mean_of` ensures. Assumes nothing.
+-- `operator::result` meets its contract: each field is the definition's, and the mean is what `mean_of` ensures. Assumes nothing.
 use mathlib.Core.Path.{_≡_}
 use borrow.Author.Needs.{needs}
 use mir.Syntax.{w32, w64}
@@ -6,9 +6,9 @@ use mir.Val.{SFits}
 use mir.Facts.{toZ-ofZ}
 use Rattle.signed.specs.Mean.{mean}
 use Rattle.signed.proofs.Mean.{mean-fits}
 use Rattle.operator.specs.Results.{result}
-use Rattle.closing.proofs.result.Statement.{statement}
-use Rattle.closing.proofs.result.Tie as tie
+use Rattle.operator.proofs.result.Statement.{statement}
+use Rattle.operator.proofs.result.Tie as tie
 
 mean-of-requires : tie.Need-mean-of-requires
 mean-of-requires c κs = search needs

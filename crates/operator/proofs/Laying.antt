@@ -17,16 +17,15 @@ use Rattle.record.specs.Sizes.{recordBytes}
 use Rattle.record.specs.Layout.{bytesOf, allBytes}
 use Rattle.record.proofs.BytesOf.{length-bytesOf}
 use Rattle.record.proofs.AllBytes.{length-allBytes}
 use Rattle.operator.specs.declared.Meter.{Meter}
+use Rattle.operator.specs.declared.NextResult.the-variants as NextResult
 use Rattle.operator.specs.declared.Operator.{Operator}
 use Rattle.operator.specs.Meters.{meterCount, noMeter, clear}
-use Rattle.operator.specs.Results.{result, results}
+use Rattle.operator.specs.Results.{nextResult, result, results}
 use Rattle.operator.specs.Work.{windowResults, close}
 use Rattle.operator.proofs.Results.{givers, givers-most, results-length}
 use Rattle.operator.proofs.Closing.{window-results-length}
-use Rattle.closing.specs.declared.NextResult.the-variants as NextResult
-use Rattle.closing.specs.Next.{nextResult}
-use Rattle.closing.proofs.NextResults.{next-at, results-next, results-nothing}
+use Rattle.operator.proofs.NextResults.{next-at, results-next, results-nothing}
 
 -- bytes written over an area are laid there
 written : (area bytes : List ℕ) (at : ℕ) → at + length bytes ≤ length area → take at area ++ bytes ++ drop (at + length bytes) area ≡ laid area at bytes

@@ -1,5 +1,5 @@
--- `closing::results_ahead` meets its contract. The loop's invariant: the results counted, and those of the meters from place i on,
--- are as many as meters give one. Assumes nothing.
+-- `operator::Operator::results_ahead` meets its contract. The loop's invariant: the results counted, and those of the meters from place i
+-- on, are as many as meters give one. Assumes nothing.
 use mathlib.Core.Path.{_≡_, sym, _∙_}
 use mathlib.Core.Logic.{⊎-elim}
 use Prim.Native.Nat.{_+_, _-_, _<_, _≤_}
@@ -7,24 +7,23 @@ use native.Mathlib.Numerals.{add-one}
 use native.Mathlib.Omega.{arith}
 use borrow.Author.Needs.{needs}
 use lib.ListN.{length, drop}
 use Rattle.operator.specs.Meters.{meterCount, noMeter}
 use Rattle.operator.specs.Work.{close}
 use Rattle.operator.proofs.Results.{givers}
 use Rattle.operator.proofs.Closing.{window-results-length}
-use Rattle.operator.proofs.FromPlace.{length-mapped}
-use Rattle.closing.proofs.FromPlace.{givers-from-giver, givers-from-other, givers-from-end}
-use Rattle.closing.proofs.results_ahead.Statement.{statement}
-use Rattle.closing.proofs.results_ahead.Tie as tie
+use Rattle.operator.proofs.FromPlace.{length-mapped, givers-from-giver, givers-from-other, givers-from-end}
+use Rattle.operator.proofs.Operator.results_ahead.Statement.{statement}
+use Rattle.operator.proofs.Operator.results_ahead.Tie as tie
 
 abbrev Inv-loop : tie.InvT-loop
-Inv-loop o n₀ i₀ n i =
+Inv-loop self n₀ i₀ n i =
     (i ≤ meterCount) ×
-    (length (o .meters) ≡ meterCount) ×
+    (length (self .meters) ≡ meterCount) ×
     (n ≤ i) ×
-    (n + givers (drop i (o .meters)) ≡ givers (o .meters))
+    (n + givers (drop i (self .meters)) ≡ givers (self .meters))
 
 abbrev μ-loop : tie.MeasureT-loop
-μ-loop o n₀ i₀ n i = meterCount - i
+μ-loop self n₀ i₀ n i = meterCount - i
 
 loop-holds : tie.Need-loop-holds Inv-loop μ-loop
 loop-holds c = (omega arith, search (needs, length-mapped), omega arith, omega arith)

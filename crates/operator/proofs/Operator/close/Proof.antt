@@ -1,5 +1,5 @@
--- `closing::close` meets its contract. The loop's invariant: what is laid down and what the meters from number `from` on still give are
--- together the window's results, in numbers, in places and in bytes. The measure is how many meters are left. Assumes nothing.
+-- `operator::Operator::close` meets its contract. The loop's invariant: what is laid down and what the meters from number `from` on still
+-- give are together the window's results, in numbers, in places and in bytes. The measure is how many meters are left. Assumes nothing.
 use mathlib.Core.Path.{_≡_, sym, ap, _∙_}
 use Prim.Native.Nat.{ℕ, _-_}
 use native.Mathlib.Omega.{arith}
@@ -10,20 +10,20 @@ use Rattle.area.specs.Laid.{inFront}
 use Rattle.signed.specs.Mean.{InRange}
 use Rattle.record.proofs.Stores.{record-lent}
 use Rattle.store.proofs.Pairs.{every-at}
 use Rattle.operator.specs.declared.Meter.{Meter}
+use Rattle.operator.specs.declared.NextResult.the-variants as NextResult
 use Rattle.operator.specs.Meters.{meterCount, noMeter}
+use Rattle.operator.specs.Results.{nextResult}
 use Rattle.operator.proofs.FromPlace.{length-mapped}
-use Rattle.closing.specs.declared.NextResult.the-variants as NextResult
-use Rattle.closing.specs.Next.{nextResult}
-use Rattle.closing.proofs.Laying.{Laying, RoomFor, laying-begins, room-next, laying-next, laying-ends, rest-of-window, close-cleared}
-use Rattle.closing.proofs.close.Statement.{statement}
-use Rattle.closing.proofs.close.Tie as tie
+use Rattle.operator.proofs.Laying.{Laying, RoomFor, laying-begins, room-next, laying-next, laying-ends, rest-of-window, close-cleared}
+use Rattle.operator.proofs.Operator.close.Statement.{statement}
+use Rattle.operator.proofs.Operator.close.Tie as tie
 
 abbrev Inv-loop : tie.InvT-loop
-Inv-loop kind j area₀ o start number₀ at₀ from₀ area number at from = Laying kind start (o .meters) area₀ (o .number) area number at from
+Inv-loop kind j area₀ self start number₀ at₀ from₀ area number at from = Laying kind start (self .meters) area₀ (self .number) area number at from
 
 abbrev μ-loop : tie.MeasureT-loop
-μ-loop kind j area₀ o start number₀ at₀ from₀ area number at from = meterCount - from
+μ-loop kind j area₀ self start number₀ at₀ from₀ area number at from = meterCount - from
 
 -- a meter with a result was found, and there is room for its result
 found : (c : tie.After-i Inv-loop μ-loop) → nextResult (c .before .before .before .loop .from) (c .before .before .before .before .before .before .args .t1 .meters) ≡ NextResult.At (c .i .given .0 .0)

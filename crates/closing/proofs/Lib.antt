@@ -1,4 +1,0 @@
--- Laws on a closing window.
-pub mod FromPlace
-pub mod NextResults
-pub mod Laying

@@ -1,2 +1,0 @@
--- Definitions on a closing window.
-pub mod Next

@@ -1,0 +1,12 @@
+-- `operator::Meter::has_result` meets its contract: the code is the definition. Assumes nothing.
+use mathlib.Core.Path.{refl}
+use Rattle.operator.specs.Results.{hasResult}
+use Rattle.operator.proofs.Meter.has_result.Statement.{statement}
+use Rattle.operator.proofs.Meter.has_result.Tie as tie
+
+returns : tie.Need-returns
+unfolding hasResult
+returns c = refl
+
+pub has-result-spec : {M : Type 1} → statement M
+has-result-spec = tie.close (tie.spec returns)
