@@ -124,3 +124,7 @@ zeroed-columns x from n =
       map-replicate (λ (r : Reading). r .kind) n zeroed,
       map-replicate (λ (r : Reading). r .meter) n zeroed,
     )
+
+-- columns that are zeroed hold zeroed readings
+pub zeroed-rows : (x : Columns) (from n : ℕ) {ids times arrivals kinds meters : List ℕ} {values : List ℤ} → ids ≡ sets (x .ids) from (replicate n 0) → times ≡ sets (x .times) from (replicate n 0) → values ≡ sets (x .values) from (replicate n (pos 0)) → arrivals ≡ sets (x .arrivals) from (replicate n 0) → kinds ≡ sets (x .kinds) from (replicate n 0) → meters ≡ sets (x .meters) from (replicate n 0) → columnsOf ids times values arrivals kinds meters ≡ withRowsAt x from (replicate n zeroed)
+zeroed-rows x from n i t v a k m = rw (i, t, v, a, k, m) (sym (zeroed-columns x from n))

@@ -2,7 +2,6 @@
 use Prim.Native.Nat.{ℕ, _+_, _-_}
 use mathlib.Core.Path.{_≡_}
 use native.Mathlib.Omega.{arith}
-use borrow.Author.Needs.{needs}
 use lib.Dec.{leb}
 use lib.ListN.{length}
 use Rattle.store.specs.declared.Reading.{Reading}
@@ -32,34 +31,38 @@ zero-requires c κs =
     let a = c .before .before .before .before .before .before .before .before .before .before .before .before .before .args in
     (omega (arith, length-keep-share (λ i. leb i (a .id)) (a .base) (a .n) (a .ids .now), c .before .before .before .before .before .before .count-up-to .ensures), c .before .before .before .before .before .before .before .before .before .before .before .before .before .pre .0)
 
+-- the call that zeroes, from the end
+abbrev zeroed : tie.After-slice-known10 → tie.After-zero
+zeroed c = c .before .before .before .before .before .before .before .before .before .before .before
+
 same-length : tie.Need-same-length
-same-length c = search needs
+same-length c = zeroed c .zero .kept .0
 
 same-length-2 : tie.Need-same-length-2
-same-length-2 c = search needs
+same-length-2 c = zeroed c .zero .kept .1 .0
 
 same-length-3 : tie.Need-same-length-3
-same-length-3 c = search needs
+same-length-3 c = zeroed c .zero .kept .1 .1 .0
 
 same-length-4 : tie.Need-same-length-4
-same-length-4 c = search needs
+same-length-4 c = zeroed c .zero .kept .1 .1 .1 .0
 
 same-length-5 : tie.Need-same-length-5
-same-length-5 c = search needs
+same-length-5 c = zeroed c .zero .kept .1 .1 .1 .1 .0
 
 same-length-6 : tie.Need-same-length-6
-same-length-6 c = search needs
+same-length-6 c = zeroed c .zero .kept .1 .1 .1 .1 .1 .0
 
 returns : tie.Need-returns
 returns c =
-    let start = c .before .before .before .before .before .before .before .before .before .before .before .before .before .before .before .before .before .before .before .before .before .before .before .before .before in
+    let start = zeroed c .before .before .before .before .before .before .before .before .before .before .before .before .before .before in
     let a = start .args in
-    let counted = c .before .before .before .before .before .before .before .before .before .before .before .before .before .before .before .before .before .before .count-up-to in
+    let counted = zeroed c .before .before .before .before .before .before .before .count-up-to in
     let x : Columns = columnsOf (a .ids .now) (a .times .now) (a .values .now) (a .arrivals .now) (a .kinds .now) (a .meters .now) in
     let k : ℕ = counted .result in
     let e : k ≡ length (keep (λ (q : Reading). leb (q .id) (a .id)) (rowsFrom x (a .base) (a .n))) = ids-kept x (a .base) (a .n) (a .id) (start .pre .0) (counted .ensures) in
     let m : a .base + a .n - (a .base + k) ≡ a .n - k = omega arith in
-    (e, rw (cut-rows x (a .base) (a .n) (a .id) (start .pre .0) (start .pre .1) k (a .base + a .n - (a .base + k)) e m) at (c .before .before .before .before .before .before .before .before .before .before .before .zero .ensures))
+    (e, rw (cut-rows x (a .base) (a .n) (a .id) (start .pre .0) (start .pre .1) k (a .base + a .n - (a .base + k)) e m) at (zeroed c .zero .ensures))
 
 pub cut-spec : {M : Type 1} → statement M
 cut-spec =
