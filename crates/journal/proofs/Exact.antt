@@ -1,14 +1,11 @@
--- The reader is exact: a text is read as a call exactly if it is the call's line, whole. A line that is written is read back. Assumes
--- nothing.
+-- The reader is exact: a text is read as a call exactly if it is the call's line, whole. Assumes nothing.
 use mathlib.Core.Path.{_≡_, refl, ap, subst}
-use mathlib.Core.List.{List, [], _++_}
+use mathlib.Core.List.{List, []}
 use Prim.Native.Nat.{ℕ, _+_}
 use native.Mathlib.Omega.{arith}
 use borrow.Author.Tests.{eq-eqb, eqb-true}
 use lib.Dec.{eqb}
-use lib.ListN.{length, take, drop}
-use lib.Seq.{take-at}
-use Rattle.area.specs.Laid.{inFront}
+use lib.ListN.{length}
 use Rattle.fields.proofs.Spells.{spells-whole, whole-spelled}
 use Rattle.fields.proofs.Fields.{picked}
 use Rattle.journal.specs.JournalLine.{lineText, callAt, whole, callOf, CallFits, ExactCall}
@@ -42,8 +39,3 @@ call-only text CallAt.Malformed q c r = absurd (none c r)
 pub exact-call : (text : List ℕ) → ExactCall text (callOf text)
 unfolding callOf
 exact-call text = record { line = call-line text; only = call-only text (callAt text 0) refl }
-
--- a call that is written is read back as written: the line in front of the area
-pub reads-back : (c : Call) (area : List ℕ) → CallFits c → callOf (take (length (lineText c)) (inFront (lineText c) area)) ≡ CallRead.Accepted c
-unfolding inFront
-reads-back c area fit = call-line (take (length (lineText c)) (lineText c ++ drop (length (lineText c)) area)) c fit (take-at (lineText c) (drop (length (lineText c)) area) (length (lineText c)) refl)

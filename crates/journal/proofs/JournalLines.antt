@@ -16,32 +16,23 @@ use Rattle.fields.specs.Field.{endsLine, numberField, integerField, withNumber,
 use Rattle.fields.proofs.Spells.{Spells, spells-append}
 use Rattle.fields.proofs.Fields.{picked, number-field-sound, number-field-complete, integer-field-sound, integer-field-complete, with-number, with-integer, end-sound, end-complete}
 use Rattle.fields.specs.Keys.{nowKey, lineKey, kindKey, idKey, timeKey, meterKey, valueKey, first, later}
-use Rattle.journal.specs.JournalLine.{lineText, callAt, letterField, CallFits}
+use Rattle.journal.specs.JournalLine.{lineText, tailAt, callAt, CallFits}
 use Rattle.journal.specs.JournalParts.{callHead, callTail}
 use Rattle.journal.specs.declared.Call.{Call}
 use Rattle.journal.specs.declared.CallAt.{CallAt}
 use Rattle.journal.specs.declared.CallAt.the-variants as CallAt
 use Rattle.journal.proofs.Letters.{letter-field-sound, letter-field-complete}
 
--- the line as the stretches that its fields are read from
-stretches : Call → List ℕ
-stretches c =
-    (first nowKey ++ digits (c .now .0)) ++
-    ((later lineKey ++ digits (c .line)) ++ ((later kindKey ++ (c .kind ∷ [])) ++ callTail c))
-
-text-stretches : (c : Call) → lineText c ≡ stretches c
-unfolding lineText stretches callTail lineOf field decimal
-text-stretches c = simp append-assoc
-
--- the line as the parts that it is written in
+-- the line as its two parts
 pub text-parts : (c : Call) → lineText c ≡ callHead c ++ callTail c
-unfolding stretches callHead decimal
+unfolding lineText callHead callTail lineOf field
 text-parts c =
-    let a = first nowKey ++ digits (c .now .0) in
-    let b = later lineKey ++ digits (c .line) in
-    let k = later kindKey ++ (c .kind ∷ []) in
-    text-stretches c
-    ∙ sym (append-assoc a (b ++ k) (callTail c) ∙ ap (λ (t : List ℕ). a ++ t) (append-assoc b k (callTail c)))
+    let line = later lineKey ++ decimal (pos (c .line)) in
+    let kind = later kindKey ++ (c .kind ∷ []) in
+    rw (
+      append-assoc (decimal (pos (c .now .0))) (line ++ kind) (callTail c),
+      append-assoc (decimal (pos (c .line))) kind (callTail c),
+    )
 
 none : (c : Call) (e : ℕ) → CallAt.Malformed ≡ CallAt.Line c e → ⊥
 none c e q = let z : _≡_ {A = ℕ} 0 1 = cc in omega arith
@@ -53,7 +44,7 @@ Claim s at CallAt.Malformed = Unit {0}
 
 -- what is read is what the text spells
 pub call-sound : (s : List ℕ) (at f : ℕ) (c : Call) → callAt s at ≡ CallAt.Line c f → Spells s at (lineText c) f × CallFits c
-unfolding callAt stretches callTail decimal
+unfolding callAt tailAt callHead callTail decimal
 call-sound s at f c q =
     let z = CallAt.Malformed in
     let y = CallAt.Line c f in
@@ -84,8 +75,8 @@ call-sound s at f c q =
     let f6 = number-field-sound (later meterKey) s 255 e5 meter (omega arith) e6 q6 in
     let f7 = integer-field-sound (later valueKey) s e6 value e7 q7 in
     let spelled : Spells s at (lineText read) (e7 + 1) =
-    rw (text-stretches read)
-    (spells-append (f1 .0) (spells-append (f2 .0) (spells-append (f3 .0) (spells-append (f4 .0) (spells-append (f5 .0) (spells-append (f6 .0) (spells-append (f7 .0) (end-sound s e7 (p .0))))))))) in
+    rw (text-parts read)
+    (spells-append (spells-append (f1 .0) (spells-append (f2 .0) (f3 .0))) (spells-append (f4 .0) (spells-append (f5 .0) (spells-append (f6 .0) (spells-append (f7 .0) (end-sound s e7 (p .0))))))) in
     subst (Claim s at) (p .1) (
       spelled,
       record {
@@ -101,19 +92,20 @@ call-sound s at f c q =
 
 -- what the text spells is read
 pub call-complete : (s r : List ℕ) (at : ℕ) (c : Call) → CallFits c → drop at s ≡ lineText c ++ r → callAt s at ≡ CallAt.Line c (at + length (lineText c))
-unfolding callAt stretches callTail decimal withNumber withInteger isDigit
+unfolding callAt tailAt callHead callTail decimal withNumber withInteger isDigit
 call-complete s r at c fit p =
     let most : 2 ^ 32 - 1 < 2 ^ 32 = omega arith in
     let byte : 255 < 2 ^ 32 = omega arith in
-    let p0 : drop at s ≡ stretches c ++ r = p ∙ ap (λ (t : List ℕ). t ++ r) (text-stretches c) in
-    number-field-complete (first nowKey) s (2 ^ 32 - 1) at (c .now .0) most _ (omega (arith, fit .now)) refl (p0 ∙ append-assoc (first nowKey ++ digits (c .now .0)) _ r) λ e1 n1 q1 p1.
-    number-field-complete (later lineKey) s 255 e1 (c .line) byte _ (omega (arith, fit .line)) refl (p1 ∙ append-assoc (later lineKey ++ digits (c .line)) _ r) λ e2 n2 q2 p2.
-    letter-field-complete (later kindKey) s e2 (c .kind) (callTail c ++ r) (fit .kind) (p2 ∙ append-assoc (later kindKey ++ (c .kind ∷ [])) (callTail c) r) λ e3 n3 q3 p3.
+    let tail = callTail c ++ r in
+    let p0 : drop at s ≡ callHead c ++ tail = p ∙ ap (λ (t : List ℕ). t ++ r) (text-parts c) ∙ append-assoc (callHead c) (callTail c) r in
+    number-field-complete (first nowKey) s (2 ^ 32 - 1) at (c .now .0) most _ (omega (arith, fit .now)) refl (p0 ∙ append-assoc (first nowKey ++ digits (c .now .0)) _ tail) λ e1 n1 q1 p1.
+    number-field-complete (later lineKey) s 255 e1 (c .line) byte _ (omega (arith, fit .line)) refl (p1 ∙ append-assoc (later lineKey ++ digits (c .line)) _ tail) λ e2 n2 q2 p2.
+    letter-field-complete (later kindKey) s e2 (c .kind) tail (fit .kind) p2 λ e3 n3 q3 p3.
     number-field-complete (later idKey) s (2 ^ 32 - 1) e3 (c .id) most _ (omega (arith, fit .id)) refl (p3 ∙ append-assoc (later idKey ++ digits (c .id)) _ r) λ e4 n4 q4 p4.
     number-field-complete (later timeKey) s (2 ^ 32 - 1) e4 (c .time .0) most _ (omega (arith, fit .time)) refl (p4 ∙ append-assoc (later timeKey ++ digits (c .time .0)) _ r) λ e5 n5 q5 p5.
     number-field-complete (later meterKey) s 255 e5 (c .meter) byte _ (omega (arith, fit .meter)) refl (p5 ∙ append-assoc (later meterKey ++ digits (c .meter)) _ r) λ e6 n6 q6 p6.
     integer-field-complete (later valueKey) s e6 (c .value) _ (fit .value) refl (p6 ∙ append-assoc (later valueKey ++ decimal (c .value)) _ r) λ e7 n7 q7 p7.
-    let size : length (lineText c) ≡ length (stretches c) = ap length (text-stretches c) in
+    let size : length (lineText c) ≡ length (callHead c ++ callTail c) = ap length (text-parts c) in
     let end : e7 + 1 ≡ at + length (lineText c) = omega (arith, simp length-append at size) in
     let ended : endsLine s e7 ≡ true = end-complete s r e7 p7 in
     rw (q1, q2, q3, q4, q5, q6, q7, ended) (ap (CallAt.Line c) end)

@@ -4,7 +4,7 @@ use mathlib.Core.Path.{_≡_}
 use Prim.Native.Nat.{ℕ, _+_, _-_, _<_, _^_}
 use mathlib.Core.Bool.{Bool, true, cond}
 use mathlib.Core.List.{List, [], _∷_}
-use lib.Dec.{eqb, ltb}
+use lib.Dec.{eqb}
 use lib.IntN.{pos}
 use lib.ListN.{length, getD, drop}
 use mir.Syntax.{w32}
@@ -14,11 +14,8 @@ use Rattle.decimal.specs.declared.Number.{Number}
 use Rattle.decimal.specs.declared.Number.the-variants as Number
 use Rattle.fields.specs.Line.{field, lineOf}
 use Rattle.fields.specs.Field.{startsWith, endsLine, numberField, integerField, withNumber, withInteger}
-use Rattle.fields.specs.declared.Written.{Written}
-use Rattle.fields.specs.declared.Written.the-variants as Written
 use Rattle.fields.specs.Keys.{nowKey, lineKey, kindKey, idKey, timeKey, meterKey, valueKey, first, later}
 use Rattle.journal.specs.Kinds.{isLetter}
-use Rattle.journal.specs.Sizes.{longestJournalLine}
 use Rattle.journal.specs.declared.Call.{Call}
 use Rattle.journal.specs.declared.CallAt.{CallAt}
 use Rattle.journal.specs.declared.CallAt.the-variants as CallAt
@@ -54,17 +51,14 @@ letterAt s at = cond (isLetter (getD s at 0)) (Number.Value (getD s at 0) (at + 
 unfoldable pub letterField : List ℕ → List ℕ → ℕ → Number
 letterField key s at = cond (startsWith key (drop at s)) (letterAt s (at + length key)) Number.Malformed
 
--- what the text s has from `at` on: a journal line, with the place behind it, or none
-unfoldable pub callAt : List ℕ → ℕ → CallAt
-callAt s at =
-    withNumber (numberField (first nowKey) (2 ^ 32 - 1) s at) CallAt.Malformed λ now e1.
-    withNumber (numberField (later lineKey) 255 s e1) CallAt.Malformed λ line e2.
-    withNumber (letterField (later kindKey) s e2) CallAt.Malformed λ kind e3.
-    withNumber (numberField (later idKey) (2 ^ 32 - 1) s e3) CallAt.Malformed λ id e4.
-    withNumber (numberField (later timeKey) (2 ^ 32 - 1) s e4) CallAt.Malformed λ time e5.
-    withNumber (numberField (later meterKey) 255 s e5) CallAt.Malformed λ meter e6.
-    withInteger (integerField (later valueKey) s e6) CallAt.Malformed λ value e7.
-    cond (endsLine s e7)
+-- what the text s has from `at` on, with the place behind it, or none: a journal line from its id on, behind the three fields that are given
+unfoldable pub tailAt : List ℕ → ℕ → ℕ → ℕ → ℕ → CallAt
+tailAt s now line kind at =
+    withNumber (numberField (later idKey) (2 ^ 32 - 1) s at) CallAt.Malformed λ id e1.
+    withNumber (numberField (later timeKey) (2 ^ 32 - 1) s e1) CallAt.Malformed λ time e2.
+    withNumber (numberField (later meterKey) 255 s e2) CallAt.Malformed λ meter e3.
+    withInteger (integerField (later valueKey) s e3) CallAt.Malformed λ value e4.
+    cond (endsLine s e4)
     (CallAt.Line
     (record {
       now = record { 0 = now };
@@ -75,8 +69,15 @@ callAt s at =
       kind = kind;
       meter = meter;
     })
-    (e7 + 1))
+    (e4 + 1))
     CallAt.Malformed
+
+-- a whole journal line
+unfoldable pub callAt : List ℕ → ℕ → CallAt
+callAt s at =
+    withNumber (numberField (first nowKey) (2 ^ 32 - 1) s at) CallAt.Malformed λ now e1.
+    withNumber (numberField (later lineKey) 255 s e1) CallAt.Malformed λ line e2.
+    withNumber (letterField (later kindKey) s e2) CallAt.Malformed λ kind e3. tailAt s now line kind e3
 
 -- the line must be the whole text
 unfoldable pub whole : List ℕ → CallAt → CallRead
@@ -100,10 +101,3 @@ hasForm text = eqb (callAnswer (callOf text)) 0
 pub record ExactCall (text : List ℕ) (answer : CallRead) : Type 0 where
   pub line : (c : Call) → CallFits c → text ≡ lineText c → answer ≡ CallRead.Accepted c
   pub only : (c : Call) → answer ≡ CallRead.Accepted c → CallFits c × (text ≡ lineText c)
-
--- what the writer of a journal line answers: 6 for a kind without a letter, then 5 for an area under the longest line
-unfoldable pub writtenCall : Call → List ℕ → Written
-writtenCall c area =
-    cond (isLetter (c .kind))
-    (cond (ltb (length area) longestJournalLine) Written.ShortArea (Written.Text (length (lineText c))))
-    Written.Malformed

@@ -1,20 +1,11 @@
-// The journal line: one call.
+// The journal line: one call, and the reader of its text.
 ghost use mathlib.Core.Path.{_≡_};
-ghost use Prim.Native.Nat.{_+_, _≤_};
-ghost use lib.ListN.{length};
-ghost use Rattle.area.specs.Laid.{laid};
-ghost use Rattle.fields.specs.Written.{leaves};
 ghost use Rattle.journal.specs.Kinds.{isLetter};
-ghost use Rattle.journal.specs.JournalLine.{lineText, letterAt, letterField, callAt, callOf, hasForm, ExactCall, writtenCall};
-ghost use Rattle.journal.specs.JournalParts.{callHead, callTail};
+ghost use Rattle.journal.specs.JournalLine.{letterAt, letterField, tailAt, callAt, callOf, hasForm, ExactCall};
 use clock::ArrivalTick;
 use clock::ReadingTime;
 use decimal::Integer;
 use decimal::Number;
-use fields::Written;
-
-// Bytes of the longest journal line.
-pub const LONGEST_JOURNAL_LINE: usize = 89;
 
 // The kinds of calls, by their letter's byte.
 pub const STABLE: u8 = b'S';
@@ -58,7 +49,7 @@ pub enum CallRead {
 }
 
 // Whether a byte is the letter of a kind.
-fn is_letter(kind: u8) -> bool
+pub fn is_letter(kind: u8) -> bool
     ensures { λ r. ⌜ r ≡ isLetter kind ⌝ }
 {
     (kind == STABLE)
@@ -92,6 +83,40 @@ fn letter_field(s: &[u8], at: usize, key: &[u8]) -> Number
     }
 }
 
+// The journal line whose first three fields are given and whose others the text has from `at` on.
+fn tail_at(s: &[u8], tick: u32, line: u8, kind: u8, at: usize) -> CallAt
+    ensures { λ r. ⌜ r ≡ tailAt (now (s .entry)) tick line kind at ⌝ }
+{
+    let Number::Value(id, e1) = fields::number_field(s, at, b" id=", WORD) else {
+        return CallAt::Malformed;
+    };
+    let Number::Value(time, e2) = fields::number_field(s, e1, b" time=", WORD) else {
+        return CallAt::Malformed;
+    };
+    let Number::Value(meter, e3) = fields::number_field(s, e2, b" meter=", BYTE) else {
+        return CallAt::Malformed;
+    };
+    let Integer::Value(value, e4) = fields::integer_field(s, e3, b" value=") else {
+        return CallAt::Malformed;
+    };
+    if fields::ends_line(s, e4) {
+        CallAt::Line(
+            Call {
+                now: ArrivalTick(tick),
+                id: id,
+                time: ReadingTime(time),
+                value: value,
+                line: line,
+                kind: kind,
+                meter: meter as u8,
+            },
+            e4 + 1,
+        )
+    } else {
+        CallAt::Malformed
+    }
+}
+
 // The journal line that the text has from `at` on.
 fn call_at(s: &[u8], at: usize) -> CallAt
     ensures { λ r. ⌜ r ≡ callAt (now (s .entry)) at ⌝ }
@@ -105,34 +130,7 @@ fn call_at(s: &[u8], at: usize) -> CallAt
     let Number::Value(kind, e3) = letter_field(s, e2, b" kind=") else {
         return CallAt::Malformed;
     };
-    let Number::Value(id, e4) = fields::number_field(s, e3, b" id=", WORD) else {
-        return CallAt::Malformed;
-    };
-    let Number::Value(time, e5) = fields::number_field(s, e4, b" time=", WORD) else {
-        return CallAt::Malformed;
-    };
-    let Number::Value(meter, e6) = fields::number_field(s, e5, b" meter=", BYTE) else {
-        return CallAt::Malformed;
-    };
-    let Integer::Value(value, e7) = fields::integer_field(s, e6, b" value=") else {
-        return CallAt::Malformed;
-    };
-    if fields::ends_line(s, e7) {
-        CallAt::Line(
-            Call {
-                now: ArrivalTick(now),
-                id: id,
-                time: ReadingTime(time),
-                value: value,
-                line: line as u8,
-                kind: kind as u8,
-                meter: meter as u8,
-            },
-            e7 + 1,
-        )
-    } else {
-        CallAt::Malformed
-    }
+    tail_at(s, now, line as u8, kind as u8, e3)
 }
 
 // What a call's text is read as: the call whose line it is, or refusal 6.
@@ -157,44 +155,5 @@ pub fn has_form(text: &[u8]) -> bool
     match read_call(text) {
         CallRead::Accepted(_) => true,
         CallRead::Malformed => false,
-    }
-}
-
-// Lays a line's first part over the area; answers the place behind it.
-fn put_head(out: &mut [u8], c: Call) -> usize
-    requires { ⌜ length (callHead c) ≤ length (now out) ⌝ }
-    ensures { λ r. ⌜ r ≡ length (callHead c) ⌝ }
-    ensures { λ _. ⌜ now (out .exit) ≡ laid (now (out .entry)) 0 (callHead c) ⌝ }
-{
-    let e1 = fields::put_u32(out, 0, b"now=", c.now.0);
-    let e2 = fields::put_u32(out, e1, b" line=", c.line as u32);
-    fields::put_letter(out, e2, b" kind=", c.kind)
-}
-
-// Lays a line's last part over the area from `at` on; answers the place behind it.
-fn put_tail(out: &mut [u8], at: usize, c: Call) -> usize
-    requires { ⌜ at + length (callTail c) ≤ length (now out) ⌝ }
-    ensures { λ r. ⌜ r ≡ at + length (callTail c) ⌝ }
-    ensures { λ _. ⌜ now (out .exit) ≡ laid (now (out .entry)) at (callTail c) ⌝ }
-{
-    let e1 = fields::put_u32(out, at, b" id=", c.id);
-    let e2 = fields::put_u32(out, e1, b" time=", c.time.0);
-    let e3 = fields::put_u32(out, e2, b" meter=", c.meter as u32);
-    fields::put_last(out, e3, b" value=", c.value)
-}
-
-// Writes a call's line into the area: its length, or refusal 6 for a kind without a letter, then 5 for an area under the longest line.
-pub fn write_call(c: Call, out: &mut [u8]) -> Written
-    ensures { λ r. ⌜ r ≡ writtenCall c (now (out .entry)) ⌝ }
-    ensures { λ r. ⌜ now (out .exit) ≡ leaves r (lineText c) (now (out .entry)) ⌝ }
-{
-    if is_letter(c.kind) {
-        if out.len() < LONGEST_JOURNAL_LINE {
-            return Written::ShortArea;
-        }
-        let at = put_head(out, c);
-        Written::Text(put_tail(out, at, c))
-    } else {
-        Written::Malformed
     }
 }

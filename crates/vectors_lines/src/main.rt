@@ -54,8 +54,8 @@ fn print_text(area: &[u8], n: usize) {
 
 // The line that the writer makes of a call.
 fn print_call(call: Call) {
-    let mut area = [0u8; journal::LONGEST_JOURNAL_LINE];
-    match journal::write_call(call, &mut area) {
+    let mut area = [0u8; journal_text::LONGEST_JOURNAL_LINE];
+    match journal_text::write_call(call, &mut area) {
         Written::Text(n) => print_text(&area, n),
         Written::ShortArea => print_text(b"5\n", 2),
         Written::Malformed => print_text(b"6\n", 2),

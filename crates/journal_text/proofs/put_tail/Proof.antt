@@ -1,14 +1,14 @@
--- `journal::put_tail` meets its contract: four stretches, each behind the one before. Assumes nothing.
+-- `journal_text::put_tail` meets its contract: four stretches, each behind the one before. Assumes nothing.
 use native.Mathlib.Omega.{arith}
 use borrow.Author.Needs.{needs}
 use mir.Syntax.{w32}
 use mir.Val.{SFits}
 use mir.Facts.{toZ-ofZ}
 use Rattle.area.proofs.Laid.{laid-four}
 use Rattle.journal.specs.JournalParts.{callTail}
-use Rattle.journal.proofs.CallParts.{idPart, timePart, meterPart, valuePart, length-tail}
-use Rattle.journal.proofs.put_tail.Statement.{statement}
-use Rattle.journal.proofs.put_tail.Tie as tie
+use Rattle.journal_text.proofs.CallParts.{idPart, timePart, meterPart, valuePart, length-tail}
+use Rattle.journal_text.proofs.put_tail.Statement.{statement}
+use Rattle.journal_text.proofs.put_tail.Tie as tie
 
 slice-aggregate-put-u32 : tie.Need-slice-aggregate-put-u32
 slice-aggregate-put-u32 c = search needs

@@ -8,12 +8,12 @@ use lib.ListN.{length, length-append}
 use Rattle.decimal.specs.Decimal.{digitsWithin, digits, decimal}
 use Rattle.decimal.proofs.Decimals.{unsigned32-short, unsigned8-short, decimal32-short}
 use Rattle.fields.specs.Line.{field, lineOf}
-use Rattle.journal.specs.Sizes.{longestJournalLine}
+use Rattle.journal_text.specs.Sizes.{longestJournalLine}
 use Rattle.journal.specs.JournalLine.{lineText, CallFits}
 use Rattle.journal.specs.JournalParts.{callHead, callTail}
 use Rattle.journal.specs.declared.Call.{Call}
-use Rattle.journal.proofs.CallParts.{length-head, length-tail}
+use Rattle.journal_text.proofs.CallParts.{length-head, length-tail}
 use Rattle.journal.proofs.JournalLines.{text-parts}
 
 pub journal-line-short : (c : Call) → CallFits c → length (lineText c) ≤ longestJournalLine
 journal-line-short c fit =

@@ -1,4 +1,4 @@
--- `journal::write_call` meets its contract: the longest line has room, and its two parts behind each other are the line.
+-- `journal_text::write_call` meets its contract: the longest line has room, and its two parts behind each other are the line.
 -- Assumes nothing.
 use native.Mathlib.Omega.{arith}
 use borrow.Author.Needs.{needs}
@@ -12,14 +12,15 @@ use Rattle.area.specs.Laid.{laid, inFront}
 use Rattle.area.proofs.Laid.{laid-laid, laid-front}
 use Rattle.fields.specs.Written.{leaves}
 use Rattle.fields.specs.declared.Written.the-variants as Written
-use Rattle.journal.specs.Sizes.{longestJournalLine}
-use Rattle.journal.specs.JournalLine.{lineText, writtenCall, CallFits}
+use Rattle.journal_text.specs.Sizes.{longestJournalLine}
+use Rattle.journal_text.specs.JournalText.{writtenCall}
+use Rattle.journal.specs.JournalLine.{lineText, CallFits}
 use Rattle.journal.specs.JournalParts.{callHead, callTail}
 use Rattle.journal.specs.declared.Call.{Call}
 use Rattle.journal.proofs.JournalLines.{text-parts}
-use Rattle.journal.proofs.Lengths.{journal-line-short}
-use Rattle.journal.proofs.write_call.Statement.{statement}
-use Rattle.journal.proofs.write_call.Tie as tie
+use Rattle.journal_text.proofs.Lengths.{journal-line-short}
+use Rattle.journal_text.proofs.write_call.Statement.{statement}
+use Rattle.journal_text.proofs.write_call.Tie as tie
 
 is-letter-requires : tie.Need-is-letter-requires
 is-letter-requires c κs = search needs

@@ -1,11 +1,11 @@
--- `journal::put_head` meets its contract: three stretches, each behind the one before. Assumes nothing.
+-- `journal_text::put_head` meets its contract: three stretches, each behind the one before. Assumes nothing.
 use native.Mathlib.Omega.{arith}
 use borrow.Author.Needs.{needs}
 use Rattle.area.proofs.Laid.{laid-three}
 use Rattle.journal.specs.JournalParts.{callHead}
-use Rattle.journal.proofs.CallParts.{nowPart, linePart, kindPart, length-head}
-use Rattle.journal.proofs.put_head.Statement.{statement}
-use Rattle.journal.proofs.put_head.Tie as tie
+use Rattle.journal_text.proofs.CallParts.{nowPart, linePart, kindPart, length-head}
+use Rattle.journal_text.proofs.put_head.Statement.{statement}
+use Rattle.journal_text.proofs.put_head.Tie as tie
 
 slice-aggregate-put-u32 : tie.Need-slice-aggregate-put-u32
 slice-aggregate-put-u32 c = search needs
