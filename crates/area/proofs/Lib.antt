@@ -1,3 +1,6 @@
 -- Laws on areas.
 pub mod Laid
+pub mod Runs
+pub mod ThreeRuns
+pub mod FourRuns
 pub mod Lent

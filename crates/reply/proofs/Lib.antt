@@ -1,5 +1,4 @@
 -- Laws on replies.
-pub mod Runs
 pub mod Words
 pub mod Records
 pub mod Texts

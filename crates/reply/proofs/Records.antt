@@ -7,6 +7,7 @@ use native.Mathlib.Omega.{arith}
 use lib.ListN.{length, take, drop, length-append}
 use lib.Seq.{drop-drop}
 use Rattle.area.proofs.Laid.{laid-laid}
+use Rattle.area.proofs.Runs.{LaidTo}
 use Rattle.endian.specs.LittleEndian.{AreBytes}
 use Rattle.endian.proofs.LittleEndian.{areBytes-take, areBytes-drop}
 use Rattle.record.specs.Sizes.{recordBytes}
@@ -17,7 +18,6 @@ use Rattle.record.proofs.Decoding.{decoded-only}
 use Rattle.record_text.specs.Sizes.{longestRecordText}
 use Rattle.record_text.specs.RecordText.{textOf}
 use Rattle.record_text.proofs.Longest.{text-short}
-use Rattle.record_text.proofs.Runs.{LaidTo}
 use Rattle.reply.specs.Reply.{recordLines}
 
 -- the text of a record's bytes is no longer than the longest

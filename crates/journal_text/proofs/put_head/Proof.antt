@@ -1,56 +1,64 @@
 -- `journal_text::put_head` meets its contract: three stretches, each behind the one before. Assumes nothing.
-use native.Mathlib.Omega.{arith}
 use borrow.Author.Needs.{needs}
-use Rattle.area.proofs.Laid.{laid-three}
+use Prim.Native.Nat.{_+_, _≤_}
+use native.Mathlib.Nat.{zero-add}
+use mathlib.Core.Path.{refl, _∙_}
+use lib.ListN.{length}
+use Rattle.area.proofs.Runs.{laidTo-front}
+use Rattle.area.proofs.ThreeRuns.{room-first, room-second, room-third, runs-three}
 use Rattle.journal.specs.JournalParts.{callHead}
-use Rattle.journal_text.proofs.CallParts.{nowPart, linePart, kindPart, length-head}
+use Rattle.journal_text.proofs.CallParts.{nowPart, linePart, kindPart}
 use Rattle.journal_text.proofs.put_head.Statement.{statement}
 use Rattle.journal_text.proofs.put_head.Tie as tie
 
+room : (s : tie.Start) → 0 + length (callHead (s .args .c)) ≤ length (s .args .out .now)
+room s = rw zero-add (s .pre)
+
 slice-aggregate-put-u32 : tie.Need-slice-aggregate-put-u32
-slice-aggregate-put-u32 c = search needs
+slice-aggregate-put-u32 c = refl
 
 put-u32-requires : tie.Need-put-u32-requires
+unfolding callHead
 put-u32-requires c κs =
-    let b = c .before .before .before in
-    omega (arith, length-head (b .args .c), b .pre)
+    let s = c .before .before .before in
+    let k = s .args .c in
+    room-first (s .args .out .now) 0 (nowPart k) (linePart k) (kindPart k) (room s)
 
 slice-aggregate-put-u32-2 : tie.Need-slice-aggregate-put-u32-2
-slice-aggregate-put-u32-2 c = search needs
+slice-aggregate-put-u32-2 c = refl
 
 cast-put-u32 : tie.Need-cast-put-u32
 cast-put-u32 c = search needs
 
 put-u32-requires-2 : tie.Need-put-u32-requires-2
+unfolding callHead
 put-u32-requires-2 c κs =
-    let b = c .before .before .before .before .before .before .before .before .before in
-    let p1 = c .before .before .before .before .before .put-u32 in
-    omega (arith, length-head (b .args .c), b .pre, p1 .ensures .0, p1 .kept .0)
+    let s = c .before .before .before .before .before .before .before .before .before in
+    let k = s .args .c in
+    room-second (s .args .out .now) 0 (nowPart k) (linePart k) (kindPart k) (room s) (c .before .before .before .before .before .put-u32 .ensures)
 
 slice-aggregate-put-letter : tie.Need-slice-aggregate-put-letter
-slice-aggregate-put-letter c = search needs
+slice-aggregate-put-letter c = refl
 
 put-letter-requires : tie.Need-put-letter-requires
+unfolding callHead
 put-letter-requires c κs =
-    let b = c .before .before .before .before .before .before .before .before .before .before .before .before .before .before in
-    let p1 = c .before .before .before .before .before .before .before .before .before .before .put-u32 in
-    let p2 = c .before .before .before .before .put-u322 in
-    omega (arith, length-head (b .args .c), b .pre, p1 .ensures .0, p1 .kept .0, p2 .ensures .0, p2 .kept .0)
+    let s = c .before .before .before .before .before .before .before .before .before .before .before .before .before .before in
+    let k = s .args .c in
+    room-third (s .args .out .now) 0 (nowPart k) (linePart k) (kindPart k) (room s)
+    (c .before .before .before .before .before .before .before .before .before .before .put-u32 .ensures) (c .before .before .before .before .put-u322 .ensures)
 
 same-length : tie.Need-same-length
-same-length c = search needs
+same-length c = c .before .before .put-letter .kept .0 ∙ c .before .before .before .before .before .before .before .put-u322 .kept .0 ∙ c .before .before .before .before .before .before .before .before .before .before .before .before .before .put-u32 .kept .0
 
 returns : tie.Need-returns
 unfolding callHead
 returns c =
-    let b = c .before .before .before .before .before .before .before .before .before .before .before .before .before .before .before .before .before in
-    let p1 = c .before .before .before .before .before .before .before .before .before .before .before .before .before .put-u32 in
-    let p2 = c .before .before .before .before .before .before .before .put-u322 in
+    let s = c .before .before .before .before .before .before .before .before .before .before .before .before .before .before .before .before .before in
+    let k = s .args .c in
     let p3 = c .before .before .put-letter in
-    let k = b .args .c in (
-      omega (arith, length-head k, p1 .ensures .0, p2 .ensures .0, p3 .ensures .0),
-      cc (laid-three (b .args .out .now) 0 (nowPart k) (linePart k) (kindPart k) (p1 .result) (p2 .result) (p1 .ensures .0) (p2 .ensures .0)),
-    )
+    laidTo-front (s .args .out .now) (callHead k) (p3 .last .0) (p3 .result)
+    (runs-three (s .args .out .now) 0 (nowPart k) (linePart k) (kindPart k) (c .before .before .before .before .before .before .before .before .before .before .before .before .before .put-u32 .ensures) (c .before .before .before .before .before .before .before .put-u322 .ensures) (p3 .ensures))
 
 pub put-head-spec : {M : Type 1} → statement M
 put-head-spec =

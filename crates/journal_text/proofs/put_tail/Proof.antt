@@ -1,76 +1,104 @@
 -- `journal_text::put_tail` meets its contract: four stretches, each behind the one before. Assumes nothing.
-use native.Mathlib.Omega.{arith}
 use borrow.Author.Needs.{needs}
+use mathlib.Core.Path.{refl, _∙_}
 use mir.Syntax.{w32}
 use mir.Val.{SFits}
 use mir.Facts.{toZ-ofZ}
-use Rattle.area.proofs.Laid.{laid-four}
+use Rattle.area.proofs.FourRuns.{room-first, room-second, room-third, room-fourth, runs-four}
 use Rattle.journal.specs.JournalParts.{callTail}
-use Rattle.journal_text.proofs.CallParts.{idPart, timePart, meterPart, valuePart, length-tail}
+use Rattle.journal_text.proofs.CallParts.{idPart, timePart, meterPart, valuePart}
 use Rattle.journal_text.proofs.put_tail.Statement.{statement}
 use Rattle.journal_text.proofs.put_tail.Tie as tie
 
+-- ---- the places on the way, and what is known there
+
+abbrev first : tie.After-put-u32 → tie.Start
+first c = c .before .before .before .before
+
+abbrev second : tie.After-put-u322 → tie.After-put-u32
+second c = c .before .before .before .before .before
+
+abbrev third : tie.After-put-u323 → tie.After-put-u322
+third c = c .before .before .before .before .before .before
+
+abbrev told : tie.After-struct-told → tie.After-put-u323
+told c = c .before .before .before .before .before
+
+-- the signed number is within its width
+value-fits : (c : tie.After-struct-told) → SFits w32 (first (second (third (told c))) .args .c .value)
+value-fits c = search needs
+
+-- ---- the needs
+
 slice-aggregate-put-u32 : tie.Need-slice-aggregate-put-u32
-slice-aggregate-put-u32 c = search needs
+slice-aggregate-put-u32 c = refl
 
 put-u32-requires : tie.Need-put-u32-requires
+unfolding callTail
 put-u32-requires c κs =
-    let b = c .before .before .before in
-    omega (arith, length-tail (b .args .c), b .pre)
+    let s = c .before .before .before in
+    let k = s .args .c in
+    room-first (s .args .out .now) (s .args .at) (idPart k) (timePart k) (meterPart k) (valuePart k) (s .pre)
 
 slice-aggregate-put-u32-2 : tie.Need-slice-aggregate-put-u32-2
-slice-aggregate-put-u32-2 c = search needs
+slice-aggregate-put-u32-2 c = refl
 
 put-u32-requires-2 : tie.Need-put-u32-requires-2
+unfolding callTail
 put-u32-requires-2 c κs =
-    let b = c .before .before .before .before .before .before .before .before in
-    let p1 = c .before .before .before .before .put-u32 in
-    omega (arith, length-tail (b .args .c), b .pre, p1 .ensures .0, p1 .kept .0)
+    let p = c .before .before .before .before in
+    let s = first p in
+    let k = s .args .c in
+    room-second (s .args .out .now) (s .args .at) (idPart k) (timePart k) (meterPart k) (valuePart k) (s .pre) (p .put-u32 .ensures)
 
 slice-aggregate-put-u32-3 : tie.Need-slice-aggregate-put-u32-3
-slice-aggregate-put-u32-3 c = search needs
+slice-aggregate-put-u32-3 c = refl
 
 cast-put-u32 : tie.Need-cast-put-u32
 cast-put-u32 c = search needs
 
 put-u32-requires-3 : tie.Need-put-u32-requires-3
+unfolding callTail
 put-u32-requires-3 c κs =
-    let b = c .before .before .before .before .before .before .before .before .before .before .before .before .before .before in
-    let p1 = c .before .before .before .before .before .before .before .before .before .before .put-u32 in
-    let p2 = c .before .before .before .before .before .put-u322 in
-    omega (arith, length-tail (b .args .c), b .pre, p1 .ensures .0, p1 .kept .0, p2 .ensures .0, p2 .kept .0)
+    let q = c .before .before .before .before .before in
+    let p = second q in
+    let s = first p in
+    let k = s .args .c in
+    room-third (s .args .out .now) (s .args .at) (idPart k) (timePart k) (meterPart k) (valuePart k) (s .pre) (p .put-u32 .ensures)
+    (q .put-u322 .ensures)
 
 slice-aggregate-put-last : tie.Need-slice-aggregate-put-last
-slice-aggregate-put-last c = search needs
+slice-aggregate-put-last c = refl
 
 put-last-requires : tie.Need-put-last-requires
+unfolding callTail
 put-last-requires c κs =
-    let b = c .before .before .before .before .before .before .before .before .before .before .before .before .before .before .before .before .before .before .before .before in
-    let p1 = c .before .before .before .before .before .before .before .before .before .before .before .before .before .before .before .before .put-u32 in
-    let p2 = c .before .before .before .before .before .before .before .before .before .before .before .put-u322 in
-    let p3 = c .before .before .before .before .before .put-u323 in
-    let told = c .struct-told .given in
-    let fits : SFits w32 (b .args .c .value) = search needs in
-    rw (toZ-ofZ fits) (omega (arith, length-tail (b .args .c), b .pre, p1 .ensures .0, p1 .kept .0, p2 .ensures .0, p2 .kept .0, p3 .ensures .0, p3 .kept .0))
+    let r = told c in
+    let q = third r in
+    let p = second q in
+    let s = first p in
+    let k = s .args .c in
+    rw (toZ-ofZ (value-fits c))
+    (room-fourth (s .args .out .now) (s .args .at) (idPart k) (timePart k) (meterPart k) (valuePart k) (s .pre) (p .put-u32 .ensures)
+    (q .put-u322 .ensures) (r .put-u323 .ensures))
 
 same-length : tie.Need-same-length
-same-length c = search needs
+same-length c =
+    let r = told (c .before .before .before) in
+    let q = third r in
+    c .before .before .put-last .kept .0 ∙ r .put-u323 .kept .0 ∙ q .put-u322 .kept .0 ∙ second q .put-u32 .kept .0
 
 returns : tie.Need-returns
 unfolding callTail
 returns c =
-    let b = c .before .before .before .before .before .before .before .before .before .before .before .before .before .before .before .before .before .before .before .before .before .before .before in
-    let p1 = c .before .before .before .before .before .before .before .before .before .before .before .before .before .before .before .before .before .before .before .put-u32 in
-    let p2 = c .before .before .before .before .before .before .before .before .before .before .before .before .before .before .put-u322 in
-    let p3 = c .before .before .before .before .before .before .before .before .put-u323 in
-    let p4 = c .before .before .put-last in
-    let told = c .before .before .before .struct-told .given in
-    let k = b .args .c in
-    let fits : SFits w32 (k .value) = search needs in
-    let last = rw (toZ-ofZ fits) at (p4 .ensures) in (
-      omega (arith, length-tail k, p1 .ensures .0, p2 .ensures .0, p3 .ensures .0, last .0),
-      cc (laid-four (b .args .out .now) (b .args .at) (idPart k) (timePart k) (meterPart k) (p1 .result) (p2 .result) (p1 .ensures .0) (p2 .ensures .0) (valuePart k) (p3 .result) (p3 .ensures .0)),
-    )
+    let t = c .before .before .before in
+    let r = told t in
+    let q = third r in
+    let p = second q in
+    let s = first p in
+    let k = s .args .c in
+    runs-four (s .args .out .now) (s .args .at) (idPart k) (timePart k) (meterPart k) (valuePart k) (p .put-u32 .ensures)
+    (q .put-u322 .ensures) (r .put-u323 .ensures) (rw (toZ-ofZ (value-fits t)) at (c .before .before .put-last .ensures))
 
 pub put-tail-spec : {M : Type 1} → statement M
 put-tail-spec =

@@ -1,55 +1,82 @@
 -- `record::fields_of` meets its contract: each field is the number of its bytes, signed numbers by two's complement. Assumes nothing.
-use mir.Syntax.{w32, w64}
-use mir.Val.{SFits}
-use mir.Facts.{toZ-ofZ}
-use Rattle.record.specs.Decoded.{wordAt, fieldsOf}
+use mathlib.Core.Path.{_≡_, refl, ap, _∙_}
 use borrow.Author.Needs.{needs}
+use lib.ListN.{getD}
+use mir.Syntax.{w32, w64}
+use mir.Val.{SFits, toZ, ofZ}
+use mir.Facts.{toZ-ofZ}
+use Rattle.signed.specs.Twos.{signedOf}
+use Rattle.record.specs.Decoded.{wordAt, fieldsOf}
+use Rattle.record.proofs.Stores.{room-within}
 use Rattle.record.proofs.fields_of.Statement.{statement}
 use Rattle.record.proofs.fields_of.Tie as tie
 
+-- the signed numbers
+sum-read : (c : tie.After-signed64) → toZ w64 (ofZ w64 (c .signed64 .result)) ≡ signedOf 64 (wordAt 16 8 (c .before .before .before .args .bytes .now))
+unfolding wordAt
+sum-read c =
+    let fits : SFits w64 (c .signed64 .result) = search needs in
+    toZ-ofZ fits ∙ c .signed64 .ensures ∙ ap (signedOf 64) (c .before .get8 .ensures)
+
+mean-read : (c : tie.After-signed32) → toZ w32 (ofZ w32 (c .signed32 .result)) ≡ signedOf 32 (wordAt 24 4 (c .before .before .before .before .before .before .before .before .args .bytes .now))
+unfolding wordAt
+mean-read c =
+    let fits : SFits w32 (c .signed32 .result) = search needs in
+    toZ-ofZ fits ∙ c .signed32 .ensures ∙ ap (signedOf 32) (c .before .get44 .ensures)
+
+last-read : (c : tie.After-signed322) → toZ w32 (ofZ w32 (c .signed322 .result)) ≡ signedOf 32 (wordAt 28 4 (c .before .before .before .before .before .before .before .before .before .before .args .bytes .now))
+unfolding wordAt
+last-read c =
+    let fits : SFits w32 (c .signed322 .result) = search needs in
+    toZ-ofZ fits ∙ c .signed322 .ensures ∙ ap (signedOf 32) (c .before .get45 .ensures)
+
 get8-requires : tie.Need-get8-requires
-get8-requires c κs = search needs
+get8-requires c κs = room-within 24 8 refl refl (c .before .pre)
 
 signed64-requires : tie.Need-signed64-requires
-signed64-requires c κs = search needs
+signed64-requires c κs = tt
 
 get4-requires : tie.Need-get4-requires
-get4-requires c κs = search needs
+get4-requires c κs = room-within 8 24 refl refl (c .before .before .before .pre)
 
 get4-requires-2 : tie.Need-get4-requires-2
-get4-requires-2 c κs = search needs
+get4-requires-2 c κs = room-within 12 20 refl refl (c .before .before .before .before .pre)
 
 get4-requires-3 : tie.Need-get4-requires-3
-get4-requires-3 c κs = search needs
+get4-requires-3 c κs = room-within 16 16 refl refl (c .before .before .before .before .before .pre)
 
 get4-requires-4 : tie.Need-get4-requires-4
-get4-requires-4 c κs = search needs
+get4-requires-4 c κs = room-within 28 4 refl refl (c .before .before .before .before .before .before .pre)
 
 signed32-requires : tie.Need-signed32-requires
-signed32-requires c κs = search needs
+signed32-requires c κs = tt
 
 get4-requires-5 : tie.Need-get4-requires-5
-get4-requires-5 c κs = search needs
+get4-requires-5 c κs = room-within 32 0 refl refl (c .before .before .before .before .before .before .before .before .pre)
 
 signed32-requires-2 : tie.Need-signed32-requires-2
-signed32-requires-2 c κs = search needs
+signed32-requires-2 c κs = tt
 
 shared-slice-read-t13 : tie.Need-shared-slice-read-t13
-shared-slice-read-t13 c = search needs
+shared-slice-read-t13 c = room-within 1 31 refl refl (c .before .before .before .before .before .before .before .before .before .before .before .pre)
 
 shared-slice-read-t15 : tie.Need-shared-slice-read-t15
-shared-slice-read-t15 c = search needs
+shared-slice-read-t15 c = room-within 2 30 refl refl (c .before .before .before .before .before .before .before .before .before .before .before .before .pre)
 
 returns : tie.Need-returns
 unfolding fieldsOf wordAt
 returns c =
-    let sum = c .before .before .before .before .before .before .before .before .before .signed64 .result in
-    let mean = c .before .before .before .before .signed32 .result in
-    let last = c .before .before .signed322 .result in
-    let s : SFits w64 sum = search needs in
-    let m : SFits w32 mean = search needs in
-    let l : SFits w32 last = search needs in
-    cc (toZ-ofZ s, toZ-ofZ m, toZ-ofZ l)
+    let bytes = c .before .before .before .before .before .before .before .before .before .before .before .before .args .bytes .now in
+    λ i. record {
+      sum = sum-read (c .before .before .before .before .before .before .before .before .before) i;
+      id = c .before .before .before .before .before .before .before .before .get4 .ensures i;
+      time = record { 0 = c .before .before .before .before .before .before .before .get42 .ensures i };
+      count = c .before .before .before .before .before .before .get43 .ensures i;
+      mean = mean-read (c .before .before .before .before) i;
+      last = last-read (c .before .before) i;
+      kind = getD bytes 0 0;
+      meter = getD bytes 1 0;
+    }
 
 pub fields-of-spec : {M : Type 1} → statement M
 fields-of-spec =

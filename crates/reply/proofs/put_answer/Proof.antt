@@ -8,11 +8,11 @@ use native.Mathlib.Omega.{arith}
 use lib.IntN.{pos}
 use lib.ListN.{length}
 use Rattle.area.proofs.Laid.{laid-front}
+use Rattle.area.proofs.Runs.{laidTo-front}
+use Rattle.area.proofs.ThreeRuns.{room-first, room-second, room-third, runs-three}
 use Rattle.decimal.specs.Decimal.{decimal}
-use Rattle.record_text.proofs.Runs.{laidTo-front}
 use Rattle.reply.specs.Reply.{keyAnswer, keyRecords, stateField, answerLine}
 use Rattle.reply.proofs.Longest.{answer-short}
-use Rattle.reply.proofs.Runs.{room-first, room-second, room-third, runs-three}
 use Rattle.reply.proofs.put_answer.Statement.{statement}
 use Rattle.reply.proofs.put_answer.Tie as tie
 

@@ -6,9 +6,9 @@ use mathlib.Core.Path.{_≡_, refl, sym}
 use Prim.Native.Nat.{_+_, _*_, _-_, _≤_}
 use lib.ListN.{length}
 use Rattle.area.proofs.Laid.{laid-none}
+use Rattle.area.proofs.Runs.{LaidTo}
 use Rattle.record.specs.Sizes.{recordBytes}
 use Rattle.record_text.specs.Sizes.{longestRecordText}
-use Rattle.record_text.proofs.Runs.{LaidTo}
 use Rattle.reply.specs.Reply.{recordLines}
 use Rattle.reply.proofs.Records.{recordLines-short, laid-more}
 use Rattle.reply.proofs.put_records.Statement.{statement}

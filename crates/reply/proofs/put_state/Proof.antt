@@ -2,8 +2,8 @@
 use borrow.Author.Needs.{needs}
 use mathlib.Core.Path.{refl}
 use mathlib.Core.List.{[], _∷_}
+use Rattle.area.proofs.ThreeRuns.{room-first, room-second, room-third, runs-three}
 use Rattle.reply.specs.Reply.{wordOf, keyState, stateField}
-use Rattle.reply.proofs.Runs.{room-first, room-second, room-third, runs-three}
 use Rattle.reply.proofs.put_state.Statement.{statement}
 use Rattle.reply.proofs.put_state.Tie as tie
 

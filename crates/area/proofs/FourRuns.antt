@@ -1,25 +1,11 @@
 -- Four runs of bytes laid over an area, each behind the one before. Room for the four together is room for each in its turn, by their lengths;
 -- laid down they are one run, by the law on joined runs. Assumes nothing.
-use mathlib.Core.Path.{_≡_, ap, _∙_}
 use mathlib.Core.List.{List, _++_}
 use Prim.Native.Nat.{ℕ, _+_, _≤_}
 use native.Mathlib.Omega.{arith}
-use native.Mathlib.Nat.{zero-add}
 use lib.ListN.{length}
-use Rattle.area.specs.Laid.{laid}
-use Rattle.area.proofs.Laid.{length-laid, laid-four, length-four}
-
--- a run t laid over an area from a place on: the place e behind it, and the area m with it
-abbrev pub LaidTo : List ℕ → ℕ → List ℕ → ℕ → List ℕ → Type 0
-LaidTo l at t e m = (e ≡ at + length t) × (m ≡ laid l at t)
-
--- the area is as long as before
-length-laidTo : (l t m : List ℕ) (at e : ℕ) → LaidTo l at t e m → length m ≡ length l
-length-laidTo l t m at e p = ap length (p .1) ∙ length-laid l at t
-
--- from the first place on
-pub laidTo-front : (l t m : List ℕ) (e : ℕ) → LaidTo l 0 t e m → (e ≡ length t) × (m ≡ laid l 0 t)
-laidTo-front l t m e p = (p .0 ∙ zero-add (length t), p .1)
+use Rattle.area.proofs.Laid.{laid-four, length-four}
+use Rattle.area.proofs.Runs.{LaidTo, length-laidTo}
 
 module _ (l : List ℕ) (at : ℕ) (a b c d : List ℕ) where
   module _ (room : at + length (a ++ (b ++ (c ++ d))) ≤ length l) where
