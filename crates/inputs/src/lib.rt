@@ -1,7 +1,9 @@
 // What an accepted input does: to its line's head, and to the line's share of the store.
 ghost use mathlib.Core.Path.{_≡_};
-ghost use mathlib.Core.Bool.{true, false};
-ghost use Prim.Native.Nat.{_+_, _≤_};
+ghost use mathlib.Core.Bool.{true, false, cond};
+ghost use Prim.Native.Nat.{_+_, _≤_, _<_};
+ghost use lib.Dec.{eqb};
+ghost use Rattle.journal.specs.Kinds.{letterS, letterB};
 ghost use Rattle.store.specs.Sizes.{readingsPerLine};
 ghost use Rattle.store.specs.Columns.{columnsOf, storeLength, rowsFrom, withKept, share};
 ghost use Rattle.columns.specs.Tests.{rises};
@@ -29,6 +31,43 @@ fn reading_of(k: Call) -> Reading
     }
 }
 
+// The head of a line that keeps one reading more, this call's.
+fn head_with(head: LineHead, k: Call) -> LineHead
+    requires { ⌜ head .kept < readingsPerLine ⌝ }
+    ensures { λ r. ⌜ r ≡ record { boundary = head .boundary; «last_id» = k .id; «last_stable_id» = cond (eqb (k .kind) letterS) (k .id) (head .«last_stable_id»); kept = head .kept + 1 } ⌝ }
+{
+    let mut next = head;
+    next.last_id = k.id;
+    next.kept = head.kept + 1;
+    if k.kind == journal::STABLE {
+        next.last_stable_id = k.id;
+    }
+    next
+}
+
+// The head of a line of which an undo to this id left `kept` readings.
+fn head_cut(head: LineHead, id: u32, kept: usize) -> LineHead
+    requires { ⌜ kept ≤ readingsPerLine ⌝ }
+    ensures { λ r. ⌜ r ≡ record { boundary = head .boundary; «last_id» = id; «last_stable_id» = head .«last_stable_id»; kept = kept } ⌝ }
+{
+    let mut next = head;
+    next.last_id = id;
+    next.kept = kept as u32;
+    next
+}
+
+// The head of a line after an input that leaves its readings: a boundary's time is its new boundary.
+fn head_at(head: LineHead, k: Call) -> LineHead
+    ensures { λ r. ⌜ r ≡ record { boundary = cond (eqb (k .kind) letterB) (k .time) (head .boundary); «last_id» = head .«last_id»; «last_stable_id» = head .«last_stable_id»; kept = head .kept } ⌝ }
+{
+    let mut next = head;
+    if k.kind == journal::BOUNDARY {
+        let time = k.time;
+        next.boundary = time;
+    }
+    next
+}
+
 // Takes an accepted input in, on a line whose share begins at `base`; answers the line's head.
 pub fn input(
     head: LineHead,
@@ -46,21 +85,10 @@ pub fn input(
     ensures { λ _. ⌜ columnsOf (now (ids .exit)) (now (times .exit)) (now (values .exit)) (now (arrivals .exit)) (now (kinds .exit)) (now (meters .exit)) ≡ withKept (columnsOf (now (ids .entry)) (now (times .entry)) (now (values .entry)) (now (arrivals .entry)) (now (kinds .entry)) (now (meters .entry))) base (head .kept) (onLine k (kindOf (k .kind)) (viewLine head (rowsFrom (columnsOf (now (ids .entry)) (now (times .entry)) (now (values .entry)) (now (arrivals .entry)) (now (kinds .entry)) (now (meters .entry))) base readingsPerLine)) .kept) ⌝ }
 {
     let kept = head.kept as usize;
-    let mut next = head;
     if (k.kind == journal::STABLE) | (k.kind == journal::TENTATIVE) {
         let r = reading_of(k);
         shares::place(ids, times, values, arrivals, kinds, meters, base + kept, r);
-        next.last_id = r.id;
-        next.kept = head.kept + 1;
-        if k.kind == journal::STABLE {
-            next.last_stable_id = r.id;
-        }
-        return next;
-    }
-    if k.kind == journal::BOUNDARY {
-        let time = k.time;
-        next.boundary = time;
-        return next;
+        return head_with(head, k);
     }
     if k.kind == journal::UNDO {
         let left = truncation::cut(
@@ -74,9 +102,7 @@ pub fn input(
             kept,
             k.id,
         );
-        next.last_id = k.id;
-        next.kept = left as u32;
-        return next;
+        return head_cut(head, k.id, left);
     }
-    next
+    head_at(head, k)
 }

@@ -1,5 +1,5 @@
 -- `inputs::input` meets its contract: each way out is the law of its kind, on what `place` or `cut` ensure. Assumes nothing.
-use Prim.Native.Nat.{_<_}
+use Prim.Native.Nat.{_≤_, _<_}
 use native.Mathlib.Omega.{arith}
 use borrow.Author.Needs.{needs}
 use lib.Dec.{leb}
@@ -8,9 +8,53 @@ use Rattle.store.specs.Sizes.{readingsPerLine}
 use Rattle.store.specs.Columns.{Columns, columnsOf, storeLength, rowsFrom}
 use Rattle.store.proofs.Columns.{length-rowsFrom}
 use Rattle.store.proofs.Keeping.{length-keep}
-use Rattle.inputs.proofs.OneInput.{place-free, stable-done, tentative-done, undo-done, boundary-done, other-done}
+use Rattle.inputs.proofs.OneInput.{place-free, reading-done, undo-done, other-done}
 use Rattle.inputs.proofs.input.Statement.{statement}
 use Rattle.inputs.proofs.input.Tie as tie
+
+-- ---- what is known at the places on the way; each place names the one that it goes back to
+
+-- the columns as they are lent
+abbrev store : tie.Start → Columns
+store s =
+    columnsOf (s .args .ids .now) (s .args .times .now) (s .args .values .now) (s .args .arrivals .now) (s .args .kinds .now) (s .args .meters .now)
+
+-- a reading
+abbrev read : tie.Then1 → tie.Start
+read t = t .before .before .before .before .before .before .before .before .before
+
+free : (t : tie.Then1) → read t .args .head .kept < readingsPerLine
+free t =
+    let s = read t in
+    place-free (s .args .head) (store s) (s .args .base) (s .pre .1) (s .args .k .kind) (t .if1 .taken) (s .pre .2)
+
+abbrev placed : tie.After-place → tie.After-reading-of
+placed p = p .before .before .before .before .before .before .before
+
+abbrev placedStore : tie.After-place → Columns
+placedStore p =
+    columnsOf (p .place .last .0) (p .place .last .1 .0) (p .place .last .1 .1 .0) (p .place .last .1 .1 .1 .0) (p .place .last .1 .1 .1 .1 .0) (p .place .last .1 .1 .1 .1 .1 .0)
+
+abbrev headed : tie.After-head-with → tie.After-place
+headed h = h .before .before .before .before .before .before .before .before .before .before .before .before
+
+-- an undo
+abbrev other : tie.Else1 → tie.Start
+other e = e .before .before .before .before .before .before .before .before .before
+
+abbrev undone : tie.After-cut → tie.Then2
+undone u = u .before .before .before .before .before .before .before
+
+left : (u : tie.After-cut) → u .cut .result ≤ readingsPerLine
+left u =
+    let s = other (undone u .before .before) in
+    omega (arith, u .cut .ensures .0, length-keep (λ (q : Reading). leb (q .id) (s .args .k .id)) (rowsFrom (store s) (s .args .base) (s .args .head .kept)), length-rowsFrom (store s) (s .args .base) (s .args .head .kept), s .pre .1)
+
+abbrev cutStore : tie.After-cut → Columns
+cutStore u =
+    columnsOf (u .cut .last .0) (u .cut .last .1 .0) (u .cut .last .1 .1 .0) (u .cut .last .1 .1 .1 .0) (u .cut .last .1 .1 .1 .1 .0) (u .cut .last .1 .1 .1 .1 .1 .0)
+
+-- ---- the needs
 
 cast-kept : tie.Need-cast-kept
 cast-kept c = search needs
@@ -21,124 +65,81 @@ reading-of-requires c κs = search needs
 add-place : tie.Need-add-place
 unfolding storeLength
 add-place c =
-    let start = c .before .before .before .before .before .before .before .before .before .before .before .before .before .before .before .before in
-    let a = start .args in
-    let x : Columns = columnsOf (a .ids .now) (a .times .now) (a .values .now) (a .arrivals .now) (a .kinds .now) (a .meters .now) in
-    omega (arith, start .pre .0, start .pre .1)
+    let s = read (c .before .before .before .before .before .before .before) in
+    omega (arith, s .pre .0, s .pre .1)
 
 place-requires : tie.Need-place-requires
 place-requires c κs =
-    let start = c .before .before .before .before .before .before .before .before .before .before .before .before .before .before .before .before in
-    let a = start .args in
-    let x : Columns = columnsOf (a .ids .now) (a .times .now) (a .values .now) (a .arrivals .now) (a .kinds .now) (a .meters .now) in
-    let free : a .head .kept < readingsPerLine = place-free (a .head) x (a .base) (start .pre .1) (a .k .kind) (c .before .before .before .before .before .before .before .if1 .taken) (start .pre .2) in
-    omega (arith, start .pre .0)
+    let t = c .before .before .before .before .before .before .before in
+    omega (arith, read t .pre .0, free t)
 
-add-next : tie.Need-add-next
-add-next c =
-    let start = c .before .before .before .before .before .before .before .before .before .before .before .before .before .before .before .before .before .before .before .before .before .before .before .before .before .before .before .before .before in
-    let a = start .args in
-    let x : Columns = columnsOf (a .ids .now) (a .times .now) (a .values .now) (a .arrivals .now) (a .kinds .now) (a .meters .now) in
-    omega (arith, start .pre .1)
+head-with-requires : tie.Need-head-with-requires
+head-with-requires c κs = free (placed (c .before .before .before .before .before .before .before .before .before .before .before) .before)
 
 same-length : tie.Need-same-length
-same-length c = search needs
+same-length c = headed c .place .kept .0
 
 same-length-2 : tie.Need-same-length-2
-same-length-2 c = search needs
+same-length-2 c = headed c .place .kept .1 .0
 
 same-length-3 : tie.Need-same-length-3
-same-length-3 c = search needs
+same-length-3 c = headed c .place .kept .1 .1 .0
 
 same-length-4 : tie.Need-same-length-4
-same-length-4 c = search needs
+same-length-4 c = headed c .place .kept .1 .1 .1 .0
 
 same-length-5 : tie.Need-same-length-5
-same-length-5 c = search needs
+same-length-5 c = headed c .place .kept .1 .1 .1 .1 .0
 
 same-length-6 : tie.Need-same-length-6
-same-length-6 c = search needs
+same-length-6 c = headed c .place .kept .1 .1 .1 .1 .1 .0
 
 returns : tie.Need-returns
 returns c =
-    let start = c .before .before .before .before .before .before .before .before .before .before .before .before .before .before .before .before .before .before .before .before .before .before .before .before .before .before .before .before .before .before .before in
-    let a = start .args in
-    let x : Columns = columnsOf (a .ids .now) (a .times .now) (a .values .now) (a .arrivals .now) (a .kinds .now) (a .meters .now) in
-    stable-done (a .head) x (a .base) (a .k) (start .pre .1) (c .before .before .before .before .before .before .before .before .before .before .before .before .before .before .before .before .before .before .before .before .before .reading-of .ensures) (c .before .before .before .before .before .before .before .before .before .before .before .before .before .before .place .ensures) (c .if2 .taken)
-
-same-length-7 : tie.Need-same-length-7
-same-length-7 c = search needs
-
-same-length-8 : tie.Need-same-length-8
-same-length-8 c = search needs
-
-same-length-9 : tie.Need-same-length-9
-same-length-9 c = search needs
-
-same-length-10 : tie.Need-same-length-10
-same-length-10 c = search needs
-
-same-length-11 : tie.Need-same-length-11
-same-length-11 c = search needs
-
-same-length-12 : tie.Need-same-length-12
-same-length-12 c = search needs
-
-returns-2 : tie.Need-returns-2
-returns-2 c =
-    let start = c .before .before .before .before .before .before .before .before .before .before .before .before .before .before .before .before .before .before .before .before .before .before .before .before .before .before .before .before .before .before .before in
-    let a = start .args in
-    let x : Columns = columnsOf (a .ids .now) (a .times .now) (a .values .now) (a .arrivals .now) (a .kinds .now) (a .meters .now) in
-    tentative-done (a .head) x (a .base) (a .k) (start .pre .1) (c .before .before .before .before .before .before .before .before .before .before .before .before .before .before .before .before .before .before .before .before .before .reading-of .ensures) (c .before .before .before .before .before .before .before .before .before .before .before .before .before .before .place .ensures) (c .before .before .before .before .before .before .before .before .before .before .before .before .before .before .before .before .before .before .before .before .before .before .if1 .taken) (c .if2 .left)
-
-returns-3 : tie.Need-returns-3
-returns-3 c =
-    let start = c .before .before .before .before .before .before .before .before .before .before .before .before in
-    let a = start .args in
-    let x : Columns = columnsOf (a .ids .now) (a .times .now) (a .values .now) (a .arrivals .now) (a .kinds .now) (a .meters .now) in
-    boundary-done (a .head) x (a .base) (a .k) (start .pre .1) (c .before .if3 .taken)
+    let p = headed c in
+    let r = placed p in
+    let s = read (r .before) in
+    reading-done (s .args .head) (store s) (s .args .base) (s .args .k) (s .pre .1) {y = placedStore p} (r .reading-of .ensures) (p .place .ensures) (r .before .if1 .taken) (c .head-with .ensures)
 
 cut-requires : tie.Need-cut-requires
 cut-requires c κs = search needs
 
-cast-next : tie.Need-cast-next
-cast-next c =
-    let start = c .before .before .before .before .before .before .before .before .before .before .before .before .before .before .before .before .before .before .before .before .before .before .before .before .before .before .before .before .before .before .before in
-    let a = start .args in
-    let x : Columns = columnsOf (a .ids .now) (a .times .now) (a .values .now) (a .arrivals .now) (a .kinds .now) (a .meters .now) in
-    omega (arith, c .before .before .before .before .before .before .before .before .before .before .before .cut .ensures .0, length-keep (λ (q : Reading). leb (q .id) (a .k .id)) (rowsFrom x (a .base) (a .head .kept)), length-rowsFrom x (a .base) (a .head .kept), start .pre .1)
+head-cut-requires : tie.Need-head-cut-requires
+head-cut-requires c κs = left (c .before .before .before .before .before .before .before .before .before .before .before)
 
-same-length-13 : tie.Need-same-length-13
-same-length-13 c = search needs
+same-length-7 : tie.Need-same-length-7
+same-length-7 c = c .before .before .before .before .before .before .before .before .before .before .before .before .cut .kept .0
 
-same-length-14 : tie.Need-same-length-14
-same-length-14 c = search needs
+same-length-8 : tie.Need-same-length-8
+same-length-8 c = c .before .before .before .before .before .before .before .before .before .before .before .before .cut .kept .1 .0
 
-same-length-15 : tie.Need-same-length-15
-same-length-15 c = search needs
+same-length-9 : tie.Need-same-length-9
+same-length-9 c = c .before .before .before .before .before .before .before .before .before .before .before .before .cut .kept .1 .1 .0
 
-same-length-16 : tie.Need-same-length-16
-same-length-16 c = search needs
+same-length-10 : tie.Need-same-length-10
+same-length-10 c = c .before .before .before .before .before .before .before .before .before .before .before .before .cut .kept .1 .1 .1 .0
 
-same-length-17 : tie.Need-same-length-17
-same-length-17 c = search needs
+same-length-11 : tie.Need-same-length-11
+same-length-11 c = c .before .before .before .before .before .before .before .before .before .before .before .before .cut .kept .1 .1 .1 .1 .0
 
-same-length-18 : tie.Need-same-length-18
-same-length-18 c = search needs
+same-length-12 : tie.Need-same-length-12
+same-length-12 c = c .before .before .before .before .before .before .before .before .before .before .before .before .cut .kept .1 .1 .1 .1 .1 .0
 
-returns-4 : tie.Need-returns-4
-returns-4 c =
-    let start = c .before .before .before .before .before .before .before .before .before .before .before .before .before .before .before .before .before .before .before .before .before .before .before .before .before .before .before .before .before .before .before in
-    let a = start .args in
-    let x : Columns = columnsOf (a .ids .now) (a .times .now) (a .values .now) (a .arrivals .now) (a .kinds .now) (a .meters .now) in
-    undo-done (a .head) x (a .base) (a .k) (start .pre .1) (c .before .before .before .before .before .before .before .before .before .before .before .cut .ensures .0) (c .before .before .before .before .before .before .before .before .before .before .before .cut .ensures .1) (c .before .before .before .before .before .before .before .before .before .before .before .before .before .before .before .before .before .before .if4 .taken)
+returns-2 : tie.Need-returns-2
+returns-2 c =
+    let u = c .before .before .before .before .before .before .before .before .before .before .before .before in
+    let t = undone u in
+    let s = other (t .before .before) in
+    undo-done (s .args .head) (store s) (s .args .base) (s .args .k) (s .pre .1) {y = cutStore u} (u .cut .ensures .0) (u .cut .ensures .1) (t .if2 .taken) (c .head-cut .ensures)
 
-returns-5 : tie.Need-returns-5
-returns-5 c =
-    let start = c .before .before .before .before .before .before .before .before .before .before .before .before .before in
-    let a = start .args in
-    let x : Columns = columnsOf (a .ids .now) (a .times .now) (a .values .now) (a .arrivals .now) (a .kinds .now) (a .meters .now) in
-    other-done (a .head) x (a .base) (a .k) (start .pre .1) (c .before .before .before .before .if1 .left) (c .before .before .if3 .left) (c .if4 .left)
+head-at-requires : tie.Need-head-at-requires
+head-at-requires c κs = search needs
+
+returns-3 : tie.Need-returns-3
+returns-3 c =
+    let e = c .before .before .before in
+    let s = other e in
+    other-done (s .args .head) (store s) (s .args .base) (s .args .k) (s .pre .1) (e .if1 .left) (c .before .if2 .left) (c .head-at .ensures)
 
 pub input-spec : {M : Type 1} → statement M
 input-spec =
@@ -148,7 +149,7 @@ input-spec =
     reading-of-requires
     add-place
     place-requires
-    add-next
+    head-with-requires
     same-length
     same-length-2
     same-length-3
@@ -156,6 +157,8 @@ input-spec =
     same-length-5
     same-length-6
     returns
+    cut-requires
+    head-cut-requires
     same-length-7
     same-length-8
     same-length-9
@@ -163,14 +166,5 @@ input-spec =
     same-length-11
     same-length-12
     returns-2
-    returns-3
-    cut-requires
-    cast-next
-    same-length-13
-    same-length-14
-    same-length-15
-    same-length-16
-    same-length-17
-    same-length-18
-    returns-4
-    returns-5)
+    head-at-requires
+    returns-3)
