@@ -3,6 +3,9 @@ use mathlib.Core.Path.{_≡_, refl, ap, _∙_}
 use mathlib.Core.List.{List, [], _∷_, _++_}
 use Prim.Native.Nat.{ℕ, _+_, _-_, _≤_}
 use native.Mathlib.Omega.{arith}
+use borrow.Author.Tests.{leb-true}
+use mathlib.Core.Bool.{true}
+use lib.Dec.{leb}
 use lib.ListN.{length, take, drop, take-append-drop}
 use lib.Seq.{length-take-le}
 use borrow.Rule.Slice.PartMut.{putMid}
@@ -17,8 +20,8 @@ use Rattle.record.specs.Layout.{bytesOf}
 use Rattle.record.proofs.BytesOf.{length-bytesOf}
 
 -- room for a record is room up to each place in it, also in an area that is as long
-pub room-within : {j k : ℕ} (n rest : ℕ) → n + rest ≡ recordBytes → k ≡ j → recordBytes ≤ j → n ≤ k
-room-within n rest e same room = omega arith
+pub room-within : {j k n : ℕ} → leb n recordBytes ≡ true → k ≡ j → recordBytes ≤ j → n ≤ k
+room-within {n = n} e same room = omega (arith, leb-true n recordBytes e)
 
 module _ (l : List ℕ) (r : Record) where
   -- tag, id and time

@@ -3,7 +3,6 @@
 use mathlib.Core.Path.{_≡_, refl, sym, _∙_}
 use Prim.Native.Nat.{_-_, _^_}
 use native.Mathlib.Omega.{arith}
-use borrow.Author.Needs.{needs}
 use Rattle.decimal.specs.declared.Number.the-variants as Number
 use Rattle.fields.specs.Field.{numberField, withNumber}
 use Rattle.fields.specs.Keys.{nowKey, lineKey, kindKey, first, later}
@@ -12,28 +11,6 @@ use Rattle.journal.specs.JournalLine.{letterField, callAt}
 use Rattle.journal.proofs.Letters.{letter-byte, letter-field-sound}
 use Rattle.journal.proofs.call_at.Statement.{statement}
 use Rattle.journal.proofs.call_at.Tie as tie
-
--- ---- what is known at the places on the way; each place names the one that it goes back to
-
-abbrev start : tie.After-now → tie.Start
-start c = c .before .before .before .before .before
-
-abbrev now : tie.After-line → tie.After-now
-now c = c .before .before .before .before .before
-
-abbrev line : tie.After-kind → tie.After-line
-line c = c .before .before .before .before .before
-
-now-read : (c : tie.After-now) → numberField (first nowKey) (2 ^ 32 - 1) (start c .args .s .now) (start c .args .at) ≡ Number.Value (c .now .given .0 .0) (c .now .given .0 .1 .0)
-now-read c = sym (c .before .before .number-field .ensures) ∙ c .now .given .1
-
-line-read : (c : tie.After-line) → numberField (later lineKey) 255 (start (now c) .args .s .now) (now c .now .given .0 .1 .0) ≡ Number.Value (c .line .given .0 .0) (c .line .given .0 .1 .0)
-line-read c = sym (c .before .before .number-field2 .ensures) ∙ c .line .given .1
-
-kind-read : (c : tie.After-kind) → letterField (later kindKey) (start (now (line c)) .args .s .now) (line c .line .given .0 .1 .0) ≡ Number.Value (c .kind .given .0 .0) (c .kind .given .0 .1 .0)
-kind-read c = sym (c .before .before .letter-field .ensures) ∙ c .kind .given .1
-
--- ---- the needs
 
 slice-aggregate-number-field : tie.Need-slice-aggregate-number-field
 slice-aggregate-number-field c = refl
@@ -50,6 +27,13 @@ enum-told c = c .match .keys2
 returns : tie.Need-returns
 unfolding callAt withNumber
 returns c = rw (sym (c .before .before .number-field .ensures) ∙ c .enum-told .given .1)
+
+-- the now, once it is read, and the place that it goes back to
+abbrev start : tie.After-now → tie.Start
+start c = c .before .before .before .before .before
+
+now-read : (c : tie.After-now) → numberField (first nowKey) (2 ^ 32 - 1) (start c .args .s .now) (start c .args .at) ≡ Number.Value (c .now .given .0 .0) (c .now .given .0 .1 .0)
+now-read c = sym (c .before .before .number-field .ensures) ∙ c .now .given .1
 
 slice-aggregate-number-field-2 : tie.Need-slice-aggregate-number-field-2
 slice-aggregate-number-field-2 c = refl
@@ -68,6 +52,13 @@ unfolding callAt withNumber
 returns-2 c =
     rw (now-read (c .before .before .before .before .before), sym (c .before .before .number-field2 .ensures) ∙ c .enum-told2 .given .1)
 
+-- the line, once it is read, and the place that it goes back to
+abbrev now : tie.After-line → tie.After-now
+now c = c .before .before .before .before .before
+
+line-read : (c : tie.After-line) → numberField (later lineKey) 255 (start (now c) .args .s .now) (now c .now .given .0 .1 .0) ≡ Number.Value (c .line .given .0 .0) (c .line .given .0 .1 .0)
+line-read c = sym (c .before .before .number-field2 .ensures) ∙ c .line .given .1
+
 slice-aggregate-letter-field : tie.Need-slice-aggregate-letter-field
 slice-aggregate-letter-field c = refl
 
@@ -85,6 +76,13 @@ unfolding callAt withNumber
 returns-3 c =
     let l = c .before .before .before .before .before in
     rw (now-read (now l), line-read l, sym (c .before .before .letter-field .ensures) ∙ c .enum-told3 .given .1)
+
+-- the kind, once it is read, and the place that it goes back to
+abbrev line : tie.After-kind → tie.After-line
+line c = c .before .before .before .before .before
+
+kind-read : (c : tie.After-kind) → letterField (later kindKey) (start (now (line c)) .args .s .now) (line c .line .given .0 .1 .0) ≡ Number.Value (c .kind .given .0 .0) (c .kind .given .0 .1 .0)
+kind-read c = sym (c .before .before .letter-field .ensures) ∙ c .kind .given .1
 
 cast-tail-at : tie.Need-cast-tail-at
 cast-tail-at c =

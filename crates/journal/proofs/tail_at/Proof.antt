@@ -1,9 +1,8 @@
 -- `journal::tail_at` meets its contract: at each return the fields read so far, and the one that was not, are those of the
 -- definition. Assumes nothing.
 use mathlib.Core.Path.{_≡_, refl, sym, _∙_}
-use Prim.Native.Nat.{_-_, _<_, _^_}
+use Prim.Native.Nat.{_-_, _^_}
 use native.Mathlib.Omega.{arith}
-use borrow.Author.Needs.{needs}
 use mir.Facts.{toZ-ofZ}
 use Rattle.decimal.specs.declared.Number.the-variants as Number
 use Rattle.decimal.specs.declared.Integer.the-variants as Integer
@@ -13,34 +12,6 @@ use Rattle.fields.proofs.Fields.{number-field-sound, integer-field-sound, end-i
 use Rattle.journal.specs.JournalLine.{tailAt}
 use Rattle.journal.proofs.tail_at.Statement.{statement}
 use Rattle.journal.proofs.tail_at.Tie as tie
-
--- ---- what is known at the places on the way; each place names the one that it goes back to
-
-abbrev start : tie.After-id → tie.Start
-start c = c .before .before .before .before .before
-
-abbrev id : tie.After-time → tie.After-id
-id c = c .before .before .before .before .before
-
-abbrev time : tie.After-meter → tie.After-time
-time c = c .before .before .before .before .before
-
-abbrev meter : tie.After-value → tie.After-meter
-meter c = c .before .before .before .before .before
-
-id-read : (c : tie.After-id) → numberField (later idKey) (2 ^ 32 - 1) (start c .args .s .now) (start c .args .at) ≡ Number.Value (c .id .given .0 .0) (c .id .given .0 .1 .0)
-id-read c = sym (c .before .before .number-field .ensures) ∙ c .id .given .1
-
-time-read : (c : tie.After-time) → numberField (later timeKey) (2 ^ 32 - 1) (start (id c) .args .s .now) (id c .id .given .0 .1 .0) ≡ Number.Value (c .time .given .0 .0) (c .time .given .0 .1 .0)
-time-read c = sym (c .before .before .number-field2 .ensures) ∙ c .time .given .1
-
-meter-read : (c : tie.After-meter) → numberField (later meterKey) 255 (start (id (time c)) .args .s .now) (time c .time .given .0 .1 .0) ≡ Number.Value (c .meter .given .0 .0) (c .meter .given .0 .1 .0)
-meter-read c = sym (c .before .before .number-field3 .ensures) ∙ c .meter .given .1
-
-value-read : (c : tie.After-value) → integerField (later valueKey) (start (id (time (meter c))) .args .s .now) (meter c .meter .given .0 .1 .0) ≡ Integer.Value (c .value .given .0 .0) (c .value .given .0 .1 .0)
-value-read c = sym (c .before .before .integer-field .ensures) ∙ c .value .given .1
-
--- ---- the needs
 
 slice-aggregate-number-field : tie.Need-slice-aggregate-number-field
 slice-aggregate-number-field c = refl
@@ -58,6 +29,13 @@ returns : tie.Need-returns
 unfolding tailAt withNumber
 returns c = rw (sym (c .before .before .number-field .ensures) ∙ c .enum-told .given .1)
 
+-- the id, once it is read, and the place that it goes back to
+abbrev start : tie.After-id → tie.Start
+start c = c .before .before .before .before .before
+
+id-read : (c : tie.After-id) → numberField (later idKey) (2 ^ 32 - 1) (start c .args .s .now) (start c .args .at) ≡ Number.Value (c .id .given .0 .0) (c .id .given .0 .1 .0)
+id-read c = sym (c .before .before .number-field .ensures) ∙ c .id .given .1
+
 slice-aggregate-number-field-2 : tie.Need-slice-aggregate-number-field-2
 slice-aggregate-number-field-2 c = refl
 
@@ -74,6 +52,13 @@ returns-2 : tie.Need-returns-2
 unfolding tailAt withNumber
 returns-2 c =
     rw (id-read (c .before .before .before .before .before), sym (c .before .before .number-field2 .ensures) ∙ c .enum-told2 .given .1)
+
+-- the time, once it is read, and the place that it goes back to
+abbrev id : tie.After-time → tie.After-id
+id c = c .before .before .before .before .before
+
+time-read : (c : tie.After-time) → numberField (later timeKey) (2 ^ 32 - 1) (start (id c) .args .s .now) (id c .id .given .0 .1 .0) ≡ Number.Value (c .time .given .0 .0) (c .time .given .0 .1 .0)
+time-read c = sym (c .before .before .number-field2 .ensures) ∙ c .time .given .1
 
 slice-aggregate-number-field-3 : tie.Need-slice-aggregate-number-field-3
 slice-aggregate-number-field-3 c = refl
@@ -93,6 +78,13 @@ returns-3 c =
     let t = c .before .before .before .before .before in
     rw (id-read (id t), time-read t, sym (c .before .before .number-field3 .ensures) ∙ c .enum-told3 .given .1)
 
+-- the meter, once it is read, and the place that it goes back to
+abbrev time : tie.After-meter → tie.After-time
+time c = c .before .before .before .before .before
+
+meter-read : (c : tie.After-meter) → numberField (later meterKey) 255 (start (id (time c)) .args .s .now) (time c .time .given .0 .1 .0) ≡ Number.Value (c .meter .given .0 .0) (c .meter .given .0 .1 .0)
+meter-read c = sym (c .before .before .number-field3 .ensures) ∙ c .meter .given .1
+
 slice-aggregate-integer-field : tie.Need-slice-aggregate-integer-field
 slice-aggregate-integer-field c = refl
 
@@ -110,6 +102,13 @@ unfolding tailAt withNumber withInteger
 returns-4 c =
     let m = c .before .before .before .before .before in
     rw (id-read (id (time m)), time-read (time m), meter-read m, sym (c .before .before .integer-field .ensures) ∙ c .enum-told4 .given .1)
+
+-- the value, once it is read, and the place that it goes back to
+abbrev meter : tie.After-value → tie.After-meter
+meter c = c .before .before .before .before .before
+
+value-read : (c : tie.After-value) → integerField (later valueKey) (start (id (time (meter c))) .args .s .now) (meter c .meter .given .0 .1 .0) ≡ Integer.Value (c .value .given .0 .0) (c .value .given .0 .1 .0)
+value-read c = sym (c .before .before .integer-field .ensures) ∙ c .value .given .1
 
 ends-line-requires : tie.Need-ends-line-requires
 ends-line-requires c κs = tt

@@ -3,12 +3,11 @@
 use native.Mathlib.Omega.{arith}
 use borrow.Author.Needs.{needs}
 use mathlib.Core.Path.{_≡_, refl, sym, ap, _∙_}
-use mathlib.Core.Bool.{true}
-use mathlib.Core.List.{List, _++_}
+use mathlib.Core.List.{List}
 use Prim.Native.Nat.{ℕ, _+_, _≤_}
 use borrow.Author.Tests.{lt-ltb, le-ltb}
 use lib.ListN.{length, length-append}
-use Rattle.area.specs.Laid.{laid, inFront}
+use Rattle.area.specs.Laid.{laid}
 use Rattle.area.proofs.Laid.{laid-laid, laid-front}
 use Rattle.fields.specs.Written.{leaves}
 use Rattle.fields.specs.declared.Written.the-variants as Written
@@ -16,14 +15,13 @@ use Rattle.journal_text.specs.Sizes.{longestJournalLine}
 use Rattle.journal_text.specs.JournalText.{writtenCall}
 use Rattle.journal.specs.JournalLine.{lineText, CallFits}
 use Rattle.journal.specs.JournalParts.{callHead, callTail}
-use Rattle.journal.specs.declared.Call.{Call}
 use Rattle.journal.proofs.JournalLines.{text-parts}
 use Rattle.journal_text.proofs.Lengths.{journal-line-short}
 use Rattle.journal_text.proofs.write_call.Statement.{statement}
 use Rattle.journal_text.proofs.write_call.Tie as tie
 
 is-letter-requires : tie.Need-is-letter-requires
-is-letter-requires c κs = search needs
+is-letter-requires c κs = tt
 
 returns : tie.Need-returns
 unfolding writtenCall leaves
@@ -59,7 +57,7 @@ put-tail-requires c κs =
     omega (arith, parts-short t, c .before .before .before .before .before .if2 .left, p .ensures .0, p .kept .0)
 
 same-length : tie.Need-same-length
-same-length c = search needs
+same-length c = c .before .before .put-tail .kept .0 ∙ c .before .before .before .before .before .before .put-head .kept .0
 
 returns-2 : tie.Need-returns-2
 unfolding writtenCall leaves

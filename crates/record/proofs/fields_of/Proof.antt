@@ -31,37 +31,37 @@ last-read c =
     toZ-ofZ fits ∙ c .signed322 .ensures ∙ ap (signedOf 32) (c .before .get45 .ensures)
 
 get8-requires : tie.Need-get8-requires
-get8-requires c κs = room-within 24 8 refl refl (c .before .pre)
+get8-requires c κs = room-within refl refl (c .before .pre)
 
 signed64-requires : tie.Need-signed64-requires
 signed64-requires c κs = tt
 
 get4-requires : tie.Need-get4-requires
-get4-requires c κs = room-within 8 24 refl refl (c .before .before .before .pre)
+get4-requires c κs = room-within refl refl (c .before .before .before .pre)
 
 get4-requires-2 : tie.Need-get4-requires-2
-get4-requires-2 c κs = room-within 12 20 refl refl (c .before .before .before .before .pre)
+get4-requires-2 c κs = room-within refl refl (c .before .before .before .before .pre)
 
 get4-requires-3 : tie.Need-get4-requires-3
-get4-requires-3 c κs = room-within 16 16 refl refl (c .before .before .before .before .before .pre)
+get4-requires-3 c κs = room-within refl refl (c .before .before .before .before .before .pre)
 
 get4-requires-4 : tie.Need-get4-requires-4
-get4-requires-4 c κs = room-within 28 4 refl refl (c .before .before .before .before .before .before .pre)
+get4-requires-4 c κs = room-within refl refl (c .before .before .before .before .before .before .pre)
 
 signed32-requires : tie.Need-signed32-requires
 signed32-requires c κs = tt
 
 get4-requires-5 : tie.Need-get4-requires-5
-get4-requires-5 c κs = room-within 32 0 refl refl (c .before .before .before .before .before .before .before .before .pre)
+get4-requires-5 c κs = room-within refl refl (c .before .before .before .before .before .before .before .before .pre)
 
 signed32-requires-2 : tie.Need-signed32-requires-2
 signed32-requires-2 c κs = tt
 
 shared-slice-read-t13 : tie.Need-shared-slice-read-t13
-shared-slice-read-t13 c = room-within 1 31 refl refl (c .before .before .before .before .before .before .before .before .before .before .before .pre)
+shared-slice-read-t13 c = room-within refl refl (c .before .before .before .before .before .before .before .before .before .before .before .pre)
 
 shared-slice-read-t15 : tie.Need-shared-slice-read-t15
-shared-slice-read-t15 c = room-within 2 30 refl refl (c .before .before .before .before .before .before .before .before .before .before .before .before .pre)
+shared-slice-read-t15 c = room-within refl refl (c .before .before .before .before .before .before .before .before .before .before .before .before .pre)
 
 returns : tie.Need-returns
 unfolding fieldsOf wordAt

@@ -5,13 +5,13 @@ use Rattle.record.proofs.put_head.Statement.{statement}
 use Rattle.record.proofs.put_head.Tie as tie
 
 put-tag-requires : tie.Need-put-tag-requires
-put-tag-requires c κs = room-within 4 28 refl refl (c .before .before .pre)
+put-tag-requires c κs = room-within refl refl (c .before .before .pre)
 
 put4-requires : tie.Need-put4-requires
-put4-requires c κs = room-within 8 24 refl (c .before .before .before .put-tag .kept .0) (c .before .before .before .before .before .before .pre)
+put4-requires c κs = room-within refl (c .before .before .before .put-tag .kept .0) (c .before .before .before .before .before .before .pre)
 
 put4-requires-2 : tie.Need-put4-requires-2
-put4-requires-2 c κs = room-within 12 20 refl (c .before .before .before .put4 .kept .0 ∙ c .before .before .before .before .before .before .before .put-tag .kept .0) (c .before .before .before .before .before .before .before .before .before .before .pre)
+put4-requires-2 c κs = room-within refl (c .before .before .before .put4 .kept .0 ∙ c .before .before .before .before .before .before .before .put-tag .kept .0) (c .before .before .before .before .before .before .before .before .before .before .pre)
 
 same-length : tie.Need-same-length
 same-length c =

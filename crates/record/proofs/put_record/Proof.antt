@@ -8,7 +8,7 @@ put-head-requires : tie.Need-put-head-requires
 put-head-requires c κs = c .before .before .pre
 
 put-values-requires : tie.Need-put-values-requires
-put-values-requires c κs = room-within 32 0 refl (c .before .before .before .put-head .kept .0) (c .before .before .before .before .before .before .pre)
+put-values-requires c κs = room-within refl (c .before .before .before .put-head .kept .0) (c .before .before .before .before .before .before .pre)
 
 same-length : tie.Need-same-length
 same-length c = c .before .before .put-values .kept .0 ∙ c .before .before .before .before .before .before .put-head .kept .0

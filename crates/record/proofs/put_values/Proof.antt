@@ -38,17 +38,17 @@ bits32-requires-2 : tie.Need-bits32-requires-2
 bits32-requires-2 c κs = tt
 
 put4-requires : tie.Need-put4-requires
-put4-requires c κs = room-within 16 16 refl refl (c .before .before .before .before .before .before .before .before .pre)
+put4-requires c κs = room-within refl refl (c .before .before .before .before .before .before .before .before .pre)
 
 put8-requires : tie.Need-put8-requires
-put8-requires c κs = room-within 24 8 refl (c .before .before .before .put4 .kept .0) (c .before .before .before .before .before .before .before .before .before .before .before .before .pre)
+put8-requires c κs = room-within refl (c .before .before .before .put4 .kept .0) (c .before .before .before .before .before .before .before .before .before .before .before .before .pre)
 
 put4-requires-2 : tie.Need-put4-requires-2
-put4-requires-2 c κs = room-within 28 4 refl (c .before .before .before .put8 .kept .0 ∙ c .before .before .before .before .before .before .before .put4 .kept .0) (c .before .before .before .before .before .before .before .before .before .before .before .before .before .before .before .before .pre)
+put4-requires-2 c κs = room-within refl (c .before .before .before .put8 .kept .0 ∙ c .before .before .before .before .before .before .before .put4 .kept .0) (c .before .before .before .before .before .before .before .before .before .before .before .before .before .before .before .before .pre)
 
 put4-requires-3 : tie.Need-put4-requires-3
 put4-requires-3 c κs =
-    room-within 32 0 refl (c .before .before .before .put42 .kept .0 ∙ c .before .before .before .before .before .before .before .put8 .kept .0 ∙ c .before .before .before .before .before .before .before .before .before .before .before .put4 .kept .0) (c .before .before .before .before .before .before .before .before .before .before .before .before .before .before .before .before .before .before .before .before .pre)
+    room-within refl (c .before .before .before .put42 .kept .0 ∙ c .before .before .before .before .before .before .before .put8 .kept .0 ∙ c .before .before .before .before .before .before .before .before .before .before .before .put4 .kept .0) (c .before .before .before .before .before .before .before .before .before .before .before .before .before .before .before .before .before .before .before .before .pre)
 
 same-length : tie.Need-same-length
 same-length c =
