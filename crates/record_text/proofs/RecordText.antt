@@ -2,10 +2,14 @@
 -- fields of the first part out of its brackets. Assumes nothing.
 use mathlib.Core.Path.{_≡_}
 use mathlib.Core.Bool.{true}
-use mathlib.Core.List.{_++_, append-assoc}
-use Prim.Native.Nat.{_+_}
+use mathlib.Core.List.{List, _++_, append-assoc}
+use Prim.Native.Nat.{ℕ, _+_, _≤_}
+use native.Mathlib.Omega.{arith}
 use lib.IntN.{pos}
 use lib.ListN.{length, length-append}
+use Rattle.area.specs.Laid.{laid}
+use Rattle.area.proofs.Laid.{laid-laid}
+use Rattle.area.proofs.Runs.{LaidTo}
 use Rattle.decimal.specs.Decimal.{decimal}
 use Rattle.fields.specs.Keys.{timeKey, meterKey, later}
 use Rattle.fields.specs.Line.{field, lineOf}
@@ -35,3 +39,17 @@ textOf-bytesOf r w k = rw (decoded-bytesOf r w k)
 
 pub length-recordText : (r : Record) → length (recordText r) ≡ length (textHead r) + length (textTail r)
 length-recordText r = rw (recordText-parts r) (length-append (textHead r) (textTail r))
+
+-- room for the text is room for its first part, and behind it for the second; laid down one behind the other they are the text
+module _ (l : List ℕ) (r : Record) where
+  pub room-head : length (recordText r) ≤ length l → length (textHead r) ≤ length l
+  room-head room = omega (arith, length-recordText r)
+
+  pub room-tail : {e k : ℕ} → length (recordText r) ≤ length l → e ≡ length (textHead r) → k ≡ length l → e + length (textTail r) ≤ k
+  room-tail room e same = omega (arith, length-recordText r)
+
+  pub parts-laid : {e f : ℕ} {k m : List ℕ} → (e ≡ length (textHead r)) × (k ≡ laid l 0 (textHead r)) → LaidTo k e (textTail r) f m → (f ≡ length (recordText r)) × (m ≡ laid l 0 (recordText r))
+  parts-laid {e = e} p q = (
+    omega (arith, length-recordText r),
+    cc (recordText-parts r, laid-laid l 0 e (textHead r) (textTail r) (omega arith)),
+  )

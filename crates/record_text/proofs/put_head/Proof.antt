@@ -1,6 +1,6 @@
 -- `record_text::put_head` meets its contract: four fields, each laid behind the one before, are the first part of the text. Assumes nothing.
 use borrow.Author.Needs.{needs}
-use mathlib.Core.Path.{refl}
+use mathlib.Core.Path.{refl, _∙_}
 use mathlib.Core.List.{List, [], _∷_, _++_}
 use Prim.Native.Nat.{ℕ, _+_, _≤_}
 use native.Mathlib.Nat.{zero-add}
@@ -81,7 +81,8 @@ put-u32-requires-3 c κs =
     (c .before .before .before .before .before .put-u322 .ensures)
 
 same-length : tie.Need-same-length
-same-length c = search needs
+same-length c =
+    c .before .before .put-u323 .kept .0 ∙ c .before .before .before .before .before .before .before .before .put-u322 .kept .0 ∙ c .before .before .before .before .before .before .before .before .before .before .before .before .before .put-u32 .kept .0 ∙ c .before .before .before .before .before .before .before .before .before .before .before .before .before .before .before .before .before .before .put-letter .kept .0
 
 returns : tie.Need-returns
 unfolding textHead

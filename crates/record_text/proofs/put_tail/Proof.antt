@@ -1,6 +1,6 @@
 -- `record_text::put_tail` meets its contract: four fields, each laid behind the one before, are the second part of the text. Assumes nothing.
 use borrow.Author.Needs.{needs}
-use mathlib.Core.Path.{refl}
+use mathlib.Core.Path.{refl, _∙_}
 use mathlib.Core.List.{List, [], _∷_, _++_}
 use Prim.Native.Nat.{ℕ}
 use lib.IntN.{pos}
@@ -88,7 +88,8 @@ put-last-requires c κs =
     (rw (toZ-ofZ (mean-fits (c .before .before .before .before .before .before))) at (c .before .before .before .before .before .put-i32 .ensures)))
 
 same-length : tie.Need-same-length
-same-length c = search needs
+same-length c =
+    c .before .before .put-last .kept .0 ∙ c .before .before .before .before .before .before .before .before .put-i32 .kept .0 ∙ c .before .before .before .before .before .before .before .before .before .before .before .before .before .before .put-i64 .kept .0 ∙ c .before .before .before .before .before .before .before .before .before .before .before .before .before .before .before .before .before .before .before .before .put-u32 .kept .0
 
 returns : tie.Need-returns
 unfolding textTail

@@ -2,10 +2,11 @@
 -- the area has room for it. Assumes nothing.
 use native.Mathlib.Omega.{arith}
 use borrow.Author.Needs.{needs}
-use mathlib.Core.Path.{refl, sym}
+use mathlib.Core.Path.{refl, sym, ap, _∙_}
 use Prim.Native.Nat.{_≤_}
 use lib.ListN.{length, replicate}
 use Rattle.fields.specs.Written.{leaves}
+use Rattle.fields.specs.declared.Written.the-variants as Written
 use Rattle.record_text.specs.RecordText.{recordText}
 use Rattle.record_text.proofs.Longest.{text-short}
 use Rattle.record_text.proofs.Written.{writtenText-short, writtenText-long, copied}
@@ -19,7 +20,7 @@ room s =
     (record { kind = search needs; meter = search needs; id = search needs; time = search needs; count = search needs; sum = search needs; mean = search needs; last = search needs })
 
 slice-aggregate-put-text : tie.Need-slice-aggregate-put-text
-slice-aggregate-put-text c = search needs
+slice-aggregate-put-text c = refl
 
 put-text-requires : tie.Need-put-text-requires
 put-text-requires c κs = room (c .before .before)
@@ -46,7 +47,7 @@ put-bytes-requires : tie.Need-put-bytes-requires
 put-bytes-requires c κs = search needs
 
 same-length : tie.Need-same-length
-same-length c = search needs
+same-length c = c .before .before .put-bytes .kept .0
 
 returns-2 : tie.Need-returns-2
 unfolding leaves
@@ -54,8 +55,8 @@ returns-2 c =
     let s = c .before .before .before .before .before .before .before .before .before .before .before in
     let p = c .before .before .before .before .before .before .before .before .put-text in
     let q = c .before .before .put-bytes in
-    let fits : length (recordText (s .args .r)) ≤ length (s .args .out .now) = omega (arith, p .ensures .0, c .before .before .before .before .before .before .if1 .left) in (
-      cc (p .ensures .0, writtenText-long (s .args .r) (s .args .out .now) fits),
+    let fits : length (recordText (s .args .r)) ≤ length (s .args .out .now) = rw (p .ensures .0) at (c .before .before .before .before .before .before .if1 .left) in (
+      ap Written.Text (p .ensures .0) ∙ sym (writtenText-long (s .args .r) (s .args .out .now) fits),
       copied (s .args .out .now) (replicate 123 0) (p .last .0) (q .last .0) (recordText (s .args .r)) (p .result) (p .ensures .0) (room s) fits (p .ensures .1) (q .ensures .1),
     )
 
