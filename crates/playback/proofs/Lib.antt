@@ -1,4 +1,3 @@
 -- Laws on the playback of a journal.
 pub mod Few
 pub mod Replies
-pub mod Parts

@@ -12,9 +12,8 @@ use Rattle.endian.specs.LittleEndian.{AreBytes}
 use Rattle.record.specs.Sizes.{recordBytes}
 use Rattle.record_text.specs.Sizes.{longestRecordText}
 use Rattle.node.specs.Sizes.{recordsPerCall}
-use Rattle.node.specs.Opening.{Opened}
 use Rattle.node.specs.Calls.{Called}
-use Rattle.reply.specs.Reply.{answerLine, recordLines, replyText, openingText, longestReply}
+use Rattle.reply.specs.Reply.{answerLine, recordLines, replyText, longestReply}
 use Rattle.reply.proofs.Longest.{answer-short, reply-short}
 
 -- bytes laid down behind a new front
@@ -24,11 +23,6 @@ front-laid l a b h =
     ap (λ (m : List ℕ). laid m (length a) b) (sym (laid-front l a long))
     ∙ laid-laid l 0 (length a) a b (sym (zero-add (length a)))
     ∙ laid-front l (a ++ b) h
-
--- what is laid in front of an area that stays as long as it was is no longer than it
-pub front-within : (t l : List ℕ) {used : ℕ} {m : List ℕ} → (used ≡ length t) × (m ≡ inFront t l) → length m ≡ length l → used ≤ length l
-unfolding inFront
-front-within t l h kept = omega (arith, h .0, ap length (h .1), length-append t (drop (length t) l))
 
 -- the answer line of what a call left
 abbrev pub lineOf : Called → List ℕ
@@ -65,13 +59,3 @@ module _ {made q : Called} (same : made ≡ q) where
         omega (arith, length-append line texts) ∙ ap (λ (c : Called). length (replyText c)) same,
         joined ∙ ap (λ (c : Called). inFront (replyText c) before) same,
       )
-
-pub opening-laid : {made q : Opened} → made ≡ q → (before last : List ℕ) (used : ℕ)
-    → (used ≡ length (answerLine (made .answer) 0 (made .state .settings .lines) (made .state .phase)))
-    × (last ≡ inFront (answerLine (made .answer) 0 (made .state .settings .lines) (made .state .phase)) before)
-    → (used ≡ length (openingText q)) × (last ≡ inFront (openingText q) before)
-unfolding openingText
-opening-laid same before last used laidDown = (
-  laidDown .0 ∙ ap (λ (c : Opened). length (openingText c)) same,
-  laidDown .1 ∙ ap (λ (c : Opened). inFront (openingText c) before) same,
-)

@@ -2,23 +2,36 @@
 -- left are fewer each time. Assumes nothing.
 use native.Mathlib.Omega.{arith}
 use borrow.Author.Needs.{needs}
-use mathlib.Core.Path.{_≡_, refl}
+use mathlib.Core.Path.{_≡_, refl, _∙_}
 use Prim.Native.Nat.{_+_, _-_, _≤_}
 use lib.ListN.{length}
 use borrow.Rule.Slice.PartMut.{same-len-mid}
 use Rattle.reply.specs.Reply.{longestReply}
-use Rattle.playback.proofs.Parts.{part-used}
-use Rattle.playback.proofs.Replies.{front-within}
+use Rattle.setup.proofs.Fronts.{front-within}
+use Rattle.setup.proofs.Parts.{part-used}
 use Rattle.playback.proofs.play_lines.Statement.{statement}
 use Rattle.playback.proofs.play_lines.Tie as tie
 
 abbrev Inv-loop : tie.InvT-loop
-Inv-loop ids₀ times₀ values₀ arrivals₀ kinds₀ meters₀ area₀ buf₀ out₀ state₀ cursor₀ turns₀ ids times values arrivals kinds meters area buf out state cursor turns =
+Inv-loop state₀ ids₀ times₀ values₀ arrivals₀ kinds₀ meters₀ area₀ buf₀ out₀ cursor₀ turns₀ state ids times values arrivals kinds meters area buf out cursor turns =
     (cursor .start ≤ cursor .end) × (cursor .end ≤ length buf) × (cursor .at ≤ cursor .have) × (cursor .have ≤ length buf) × (cursor .used + longestReply ≤ length out) × (length ids ≡ length ids₀) × (length times ≡ length times₀) × (length values ≡ length values₀) × (length arrivals ≡ length arrivals₀) × (length kinds ≡ length kinds₀) × (length meters ≡ length meters₀) × (length area ≡ length area₀) × (length buf ≡ length buf₀) × (length out ≡ length out₀)
 
 abbrev μ-loop : tie.MeasureT-loop
-μ-loop ids₀ times₀ values₀ arrivals₀ kinds₀ meters₀ area₀ buf₀ out₀ state₀ cursor₀ turns₀ ids times values arrivals kinds meters area buf out state cursor turns =
+μ-loop state₀ ids₀ times₀ values₀ arrivals₀ kinds₀ meters₀ area₀ buf₀ out₀ cursor₀ turns₀ state ids times values arrivals kinds meters area buf out cursor turns =
     turns
+
+-- ---- what is known behind the line that is played
+
+abbrev looped : tie.After-play-line Inv-loop μ-loop → tie.At-loop Inv-loop μ-loop
+looped p = p .before .before .before .before .before .before .before .before .before .before .before .before
+
+-- its reply lies within the output
+within : (p : tie.After-play-line Inv-loop μ-loop) → looped p .loop .cursor .used + p .play-line .result .used ≤ length (looped p .loop .out)
+within p =
+    let l = looped p .loop in
+    part-used (l .out) (l .cursor .used) (p .play-line .result .used) (omega (arith, l .inv .4)) (front-within _ _ (p .play-line .ensures .1 .1 .1) (p .play-line .kept .1 .1 .1 .1 .1 .1 .1 .1 .1 .0))
+
+-- ---- the needs
 
 turns-left-requires : tie.Need-turns-left-requires Inv-loop μ-loop
 turns-left-requires c κs = search needs
@@ -29,45 +42,35 @@ loop-holds c =
     (h .0, h .1, h .2, h .3, h .4, refl, refl, refl, refl, refl, refl, refl, refl, refl)
 
 sub-play-line : tie.Need-sub-play-line Inv-loop μ-loop
-sub-play-line c = search needs
+sub-play-line c = omega (arith, c .before .before .before .before .before .before .before .loop .inv .0)
 
 part-play-line-start : tie.Need-part-play-line-start Inv-loop μ-loop
-part-play-line-start c = search needs
+part-play-line-start c = omega (arith, c .before .before .before .before .before .before .before .before .loop .inv .0, c .before .before .before .before .before .before .before .before .loop .inv .1)
 
 part-play-line-end : tie.Need-part-play-line-end Inv-loop μ-loop
-part-play-line-end c = search needs
+part-play-line-end c = omega (arith, c .before .before .before .before .before .before .before .before .loop .inv .0, c .before .before .before .before .before .before .before .before .loop .inv .1)
 
 sub-play-line-2 : tie.Need-sub-play-line-2 Inv-loop μ-loop
-sub-play-line-2 c = search needs
+sub-play-line-2 c = omega (arith, c .before .before .before .before .before .before .before .before .before .before .loop .inv .4)
 
 part-play-line-start-2 : tie.Need-part-play-line-start-2 Inv-loop μ-loop
-part-play-line-start-2 c = search needs
+part-play-line-start-2 c = omega (arith, c .before .before .before .before .before .before .before .before .before .before .loop .inv .4)
 
 part-play-line-end-2 : tie.Need-part-play-line-end-2 Inv-loop μ-loop
-part-play-line-end-2 c = search needs
+part-play-line-end-2 c = omega (arith, c .before .before .before .before .before .before .before .before .before .before .loop .inv .4)
 
 play-line-requires : tie.Need-play-line-requires Inv-loop μ-loop
 play-line-requires c κs = search needs
 
-add-total : tie.Need-add-total Inv-loop μ-loop
-add-total c =
-    let p = c .before .before .before .before .before .before .before .before .before .before .before .before .before .before .before .before .before .play-line in
-    let l = c .before .before .before .before .before .before .before .before .before .before .before .before .before .before .before .before .before .before .before .before .before .before .before .before .before .before .before .before .before .loop in
-    let kept = p .kept .1 .1 .1 .1 .1 .1 .1 .1 .1 .0 in
-    let within = part-used (l .out) (l .cursor .used) (p .result .used) (omega (arith, l .inv .4)) (front-within _ _ (p .ensures .1 .1 .1) kept) in
-    omega (arith, c .before .before .before .before .before .before .before .before .before .before .before .before .before .before .before .before .before .before .before .before .before .before .before .before .before .before .before .before .before .before .before .before .before .before .before .before .before .before .before .good .1 .1 .1 .1 .1 .1 .1 .1 .1 .0, l .inv .13, within)
-
 onward-requires : tie.Need-onward-requires Inv-loop μ-loop
 onward-requires c κs =
-    let p = c .before .before .before .before .before .before .before .before .before .before .before .before .before .before .before .before .before .before .before .play-line in
-    let l = c .before .before .before .before .before .before .before .before .before .before .before .before .before .before .before .before .before .before .before .before .before .before .before .before .before .before .before .before .before .before .before .loop in
-    let kept = p .kept .1 .1 .1 .1 .1 .1 .1 .1 .1 .0 in
-    let within = part-used (l .out) (l .cursor .used) (p .result .used) (omega (arith, l .inv .4)) (front-within _ _ (p .ensures .1 .1 .1) kept) in
-    let same = same-len-mid (l .cursor .used) (length (l .out) - l .cursor .used) (l .out) (p .last .1 .1 .1 .1 .1 .1 .1 .1 .1 .0) kept in
-    (l .inv .2, l .inv .3, omega (arith, same, within), omega (arith, same, l .inv .4))
+    let p = c .before .before .before .before .before .before .before .before .before .before .before .before .before .before .before .before .before .before in
+    let l = looped p .loop in
+    let same = same-len-mid (l .cursor .used) (length (l .out) - l .cursor .used) (l .out) (p .play-line .last .1 .1 .1 .1 .1 .1 .1 .1 .1 .0) (p .play-line .kept .1 .1 .1 .1 .1 .1 .1 .1 .1 .0) in
+    (l .inv .2, l .inv .3, omega (arith, same, within p), omega (arith, same, l .inv .4))
 
 turns-left-requires-2 : tie.Need-turns-left-requires-2 Inv-loop μ-loop
-turns-left-requires-2 c κs = omega (arith, c .before .before .before .before .before .before .before .before .before .before .before .before .before .before .before .before .before .before .before .before .before .before .before .before .before .before .before .before .before .before .before .before .before .loop-test)
+turns-left-requires-2 c κs = omega (arith, c .before .before .before .before .before .before .before .before .before .before .before .before .before .before .before .before .before .before .before .before .before .before .before .before .before .before .before .before .before .before .before .before .loop-test)
 
 loop-less : tie.Need-loop-less Inv-loop μ-loop
 loop-less c = search needs
@@ -75,25 +78,25 @@ loop-less c = search needs
 loop-again : tie.Need-loop-again Inv-loop μ-loop
 loop-again c =
     let o = c .before .before .before .onward in
-    let p = c .before .before .before .before .before .before .before .before .before .before .before .before .before .before .before .before .before .before .before .before .before .before .before .play-line in
-    let l = c .before .before .before .before .before .before .before .before .before .before .before .before .before .before .before .before .before .before .before .before .before .before .before .before .before .before .before .before .before .before .before .before .before .before .before .loop in
+    let p = c .before .before .before .before .before .before .before .before .before .before .before .before .before .before .before .before .before .before .before .before .before .before in
+    let l = looped p .loop in
     let e = o .ensures in
-    let k = o .kept .1 .1 .0 in
-    let h = p .kept in (
+    let k = o .kept .1 .1 .1 .0 in
+    let h = p .play-line .kept in (
       e .0,
       omega (arith, e .1, k),
       e .2,
       omega (arith, e .3, k),
       omega (arith, e .4),
-      omega (arith, h .1 .0, l .inv .5),
-      omega (arith, h .1 .1 .0, l .inv .6),
-      omega (arith, h .1 .1 .1 .0, l .inv .7),
-      omega (arith, h .1 .1 .1 .1 .0, l .inv .8),
-      omega (arith, h .1 .1 .1 .1 .1 .0, l .inv .9),
-      omega (arith, h .1 .1 .1 .1 .1 .1 .0, l .inv .10),
-      omega (arith, h .1 .1 .1 .1 .1 .1 .1 .1 .0, l .inv .11),
-      omega (arith, k, l .inv .12),
-      omega (arith, same-len-mid (l .cursor .used) (length (l .out) - l .cursor .used) (l .out) (p .last .1 .1 .1 .1 .1 .1 .1 .1 .1 .0) (h .1 .1 .1 .1 .1 .1 .1 .1 .1 .0), l .inv .13),
+      h .1 .0 ∙ l .inv .5,
+      h .1 .1 .0 ∙ l .inv .6,
+      h .1 .1 .1 .0 ∙ l .inv .7,
+      h .1 .1 .1 .1 .0 ∙ l .inv .8,
+      h .1 .1 .1 .1 .1 .0 ∙ l .inv .9,
+      h .1 .1 .1 .1 .1 .1 .0 ∙ l .inv .10,
+      h .1 .1 .1 .1 .1 .1 .1 .1 .0 ∙ l .inv .11,
+      k ∙ l .inv .12,
+      same-len-mid (l .cursor .used) (length (l .out) - l .cursor .used) (l .out) (p .play-line .last .1 .1 .1 .1 .1 .1 .1 .1 .1 .0) (h .1 .1 .1 .1 .1 .1 .1 .1 .1 .0) ∙ l .inv .13,
     )
 
 same-length : tie.Need-same-length Inv-loop μ-loop
@@ -141,7 +144,6 @@ play-lines-spec =
     part-play-line-start-2
     part-play-line-end-2
     play-line-requires
-    add-total
     onward-requires
     turns-left-requires-2
     loop-less

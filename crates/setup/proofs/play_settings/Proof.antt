@@ -1,10 +1,10 @@
--- `playback::play_settings` meets its contract: what the opening leaves is handed on, and its text is written. Assumes nothing.
+-- `setup::play_settings` meets its contract: what the opening leaves is handed on, and its text is written. Assumes nothing.
 use borrow.Author.Needs.{needs}
 use mathlib.Core.Path.{ap}
 use Rattle.node.specs.Opening.{Opened}
-use Rattle.playback.proofs.Replies.{opening-laid}
-use Rattle.playback.proofs.play_settings.Statement.{statement}
-use Rattle.playback.proofs.play_settings.Tie as tie
+use Rattle.setup.proofs.Fronts.{opening-laid}
+use Rattle.setup.proofs.play_settings.Statement.{statement}
+use Rattle.setup.proofs.play_settings.Tie as tie
 
 open-requires : tie.Need-open-requires
 open-requires c κs = search needs

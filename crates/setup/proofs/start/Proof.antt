@@ -1,0 +1,125 @@
+-- `setup::start` meets its contract: the settings' text lies within the buffer and their reply has room in the output, and what is left of
+-- both is what the first journal line asks for. Assumes nothing.
+use native.Mathlib.Omega.{arith}
+use borrow.Author.Needs.{needs}
+use mathlib.Core.Path.{_∙_}
+use Prim.Native.Nat.{_+_, _-_, _≤_}
+use lib.ListN.{length}
+use borrow.Rule.Slice.PartMut.{same-len-mid}
+use Rattle.setup.proofs.Fronts.{front-within}
+use Rattle.setup.proofs.Parts.{part-used}
+use Rattle.setup.proofs.start.Statement.{statement}
+use Rattle.setup.proofs.start.Tie as tie
+
+-- ---- what is known at the places on the way; each place names the one that it goes back to
+
+abbrev entered : tie.After-fetch → tie.Start
+entered f = f .before .before .before .before .before .before .before .before .before .before
+
+abbrev fetched : tie.After-play-settings → tie.After-fetch
+fetched p = p .before .before .before .before .before .before .before .before .before .before .before .before .before
+
+-- the reply lies within the output
+within : (p : tie.After-play-settings) → fetched p .fetch .result .used + p .play-settings .result .used ≤ length (entered (fetched p) .args .out .now)
+within p =
+    let f = fetched p in
+    part-used (entered f .args .out .now) (f .fetch .result .used) (p .play-settings .result .used) (omega (arith, f .fetch .ensures .4)) (front-within _ _ (p .play-settings .ensures .1 .1) (p .play-settings .kept .1 .1 .1 .1 .1 .1 .1 .1 .0))
+
+-- ---- the needs
+
+fetch-requires : tie.Need-fetch-requires
+fetch-requires c κs = search needs
+
+closed-state-requires : tie.Need-closed-state-requires
+closed-state-requires c κs = search needs
+
+sub-play-settings : tie.Need-sub-play-settings
+sub-play-settings c = search needs
+
+part-play-settings-start : tie.Need-part-play-settings-start
+part-play-settings-start c = search needs
+
+part-play-settings-end : tie.Need-part-play-settings-end
+part-play-settings-end c = search needs
+
+sub-play-settings-2 : tie.Need-sub-play-settings-2
+sub-play-settings-2 c = search needs
+
+part-play-settings-start-2 : tie.Need-part-play-settings-start-2
+part-play-settings-start-2 c = search needs
+
+part-play-settings-end-2 : tie.Need-part-play-settings-end-2
+part-play-settings-end-2 c = search needs
+
+play-settings-requires : tie.Need-play-settings-requires
+play-settings-requires c κs = search needs
+
+onward-requires : tie.Need-onward-requires
+onward-requires c κs =
+    let p = c .before .before .before .before .before .before .before .before .before .before .before .before .before .before .before .before .before .before in
+    let f = fetched p .fetch in
+    let out = entered (fetched p) .args .out .now in
+    let same = same-len-mid (f .result .used) (length out - f .result .used) out (p .play-settings .last .1 .1 .1 .1 .1 .1 .1 .1 .0) (p .play-settings .kept .1 .1 .1 .1 .1 .1 .1 .1 .0) in
+    (f .ensures .2, omega (arith, f .ensures .3, f .kept .1 .1 .0), omega (arith, same, within p), omega (arith, same, f .ensures .4))
+
+same-length : tie.Need-same-length
+same-length c = c .before .before .before .before .before .before .before .before .before .before .before .before .before .before .before .before .before .before .before .before .before .play-settings .kept .1 .0
+
+same-length-2 : tie.Need-same-length-2
+same-length-2 c = c .before .before .before .before .before .before .before .before .before .before .before .before .before .before .before .before .before .before .before .before .before .play-settings .kept .1 .1 .0
+
+same-length-3 : tie.Need-same-length-3
+same-length-3 c = c .before .before .before .before .before .before .before .before .before .before .before .before .before .before .before .before .before .before .before .before .before .play-settings .kept .1 .1 .1 .0
+
+same-length-4 : tie.Need-same-length-4
+same-length-4 c = c .before .before .before .before .before .before .before .before .before .before .before .before .before .before .before .before .before .before .before .before .before .play-settings .kept .1 .1 .1 .1 .0
+
+same-length-5 : tie.Need-same-length-5
+same-length-5 c = c .before .before .before .before .before .before .before .before .before .before .before .before .before .before .before .before .before .before .before .before .before .play-settings .kept .1 .1 .1 .1 .1 .0
+
+same-length-6 : tie.Need-same-length-6
+same-length-6 c = c .before .before .before .before .before .before .before .before .before .before .before .before .before .before .before .before .before .before .before .before .before .play-settings .kept .1 .1 .1 .1 .1 .1 .0
+
+same-length-7 : tie.Need-same-length-7
+same-length-7 c = c .before .before .onward .kept .1 .1 .1 .0 ∙ fetched (c .before .before .before .before .before .before .before .before .before .before .before .before .before .before .before .before .before .before .before .before .before) .fetch .kept .1 .1 .0
+
+same-length-8 : tie.Need-same-length-8
+same-length-8 c =
+    let p = c .before .before .before .before .before .before .before .before .before .before .before .before .before .before .before .before .before .before .before .before .before in
+    let f = fetched p .fetch in
+    let out = entered (fetched p) .args .out .now in
+    same-len-mid (f .result .used) (length out - f .result .used) out (p .play-settings .last .1 .1 .1 .1 .1 .1 .1 .1 .0) (p .play-settings .kept .1 .1 .1 .1 .1 .1 .1 .1 .0)
+
+returns : tie.Need-returns
+returns c =
+    let p = c .before .before .before .before .before .before .before .before .before .before .before .before .before .before .before .before .before .before .before .before .before in
+    let f = fetched p .fetch in
+    let out = entered (fetched p) .args .out .now in
+    let same = same-len-mid (f .result .used) (length out - f .result .used) out (p .play-settings .last .1 .1 .1 .1 .1 .1 .1 .1 .0) (p .play-settings .kept .1 .1 .1 .1 .1 .1 .1 .1 .0) in
+    let e = c .before .before .onward .ensures in
+    let k = f .kept .1 .1 .0 in
+    (e .0, omega (arith, e .1, k), e .2, omega (arith, e .3, k), omega (arith, e .4, same))
+
+pub start-spec : {M : Type 1} → statement M
+start-spec =
+    tie.close
+    (tie.spec
+    fetch-requires
+    closed-state-requires
+    sub-play-settings
+    part-play-settings-start
+    part-play-settings-end
+    sub-play-settings-2
+    part-play-settings-start-2
+    part-play-settings-end-2
+    play-settings-requires
+    onward-requires
+    same-length
+    same-length-2
+    same-length-3
+    same-length-4
+    same-length-5
+    same-length-6
+    same-length-7
+    same-length-8
+    returns)

@@ -1,0 +1,100 @@
+// The settings played: the state before the first opening, opened with the input's first text, and the answer line.
+ghost use mathlib.Core.Path.{_≡_};
+ghost use Prim.Native.Nat.{_+_, _≤_};
+ghost use lib.ListN.{length};
+ghost use Rattle.area.specs.Laid.{inFront};
+ghost use Rattle.store.specs.Columns.{columnsOf};
+ghost use Rattle.node.specs.Opening.{openedOn};
+ghost use Rattle.reply.specs.Reply.{openingText, longestAnswer, longestReply};
+use cursor::Cursor;
+use node::State;
+
+// A state, and how many bytes of the output are used.
+pub struct Played {
+    pub state: State,
+    pub used: usize,
+}
+
+// Opens with this settings text and writes what is printed for it from the first place of `out` on.
+fn play_settings(
+    state: State,
+    ids: &mut [u32],
+    times: &mut [u32],
+    values: &mut [i32],
+    arrivals: &mut [u32],
+    kinds: &mut [u8],
+    meters: &mut [u8],
+    text: &[u8],
+    out: &mut [u8],
+) -> Played
+    requires { ⌜ longestAnswer ≤ length (now out) ⌝ }
+    ensures { λ r. ⌜ r .state ≡ openedOn state (columnsOf (now (ids .entry)) (now (times .entry)) (now (values .entry)) (now (arrivals .entry)) (now (kinds .entry)) (now (meters .entry))) (now (text .entry)) .state ⌝ }
+    ensures { λ _. ⌜ columnsOf (now (ids .exit)) (now (times .exit)) (now (values .exit)) (now (arrivals .exit)) (now (kinds .exit)) (now (meters .exit)) ≡ openedOn state (columnsOf (now (ids .entry)) (now (times .entry)) (now (values .entry)) (now (arrivals .entry)) (now (kinds .entry)) (now (meters .entry))) (now (text .entry)) .columns ⌝ }
+    ensures { λ r. ⌜ r .used ≡ length (openingText (openedOn state (columnsOf (now (ids .entry)) (now (times .entry)) (now (values .entry)) (now (arrivals .entry)) (now (kinds .entry)) (now (meters .entry))) (now (text .entry)))) ⌝ }
+    ensures { λ _. ⌜ now (out .exit) ≡ inFront (openingText (openedOn state (columnsOf (now (ids .entry)) (now (times .entry)) (now (values .entry)) (now (arrivals .entry)) (now (kinds .entry)) (now (meters .entry))) (now (text .entry)))) (now (out .entry)) ⌝ }
+{
+    let done = opening::open(state, ids, times, values, arrivals, kinds, meters, text);
+    let next = done.state;
+    let settings = next.settings;
+    let phase = next.phase;
+    let used = reply::put_answer(out, done.answer, 0, settings.lines, phase);
+    Played {
+        state: next,
+        used: used,
+    }
+}
+
+// A state, and where a playback stands behind the text that left it.
+pub struct Started {
+    pub state: State,
+    pub cursor: Cursor,
+}
+
+// Plays the settings on the state before the first opening, and goes on to the first journal line.
+pub fn start(
+    ids: &mut [u32],
+    times: &mut [u32],
+    values: &mut [i32],
+    arrivals: &mut [u32],
+    kinds: &mut [u8],
+    meters: &mut [u8],
+    buf: &mut [u8],
+    out: &mut [u8],
+) -> Started
+    requires { ⌜ longestReply ≤ length (now out) ⌝ }
+    ensures { λ r. ⌜ (r .cursor .start ≤ r .cursor .end) × (r .cursor .end ≤ length (now (buf .entry))) × (r .cursor .at ≤ r .cursor .have) × (r .cursor .have ≤ length (now (buf .entry))) × (r .cursor .used + longestReply ≤ length (now (out .entry))) ⌝ }
+{
+    let begin = Cursor {
+        start: 0,
+        end: 0,
+        at: 0,
+        have: 0,
+        used: 0,
+        plays: false,
+        passing: false,
+        last: false,
+    };
+    let cursor = cursor::fetch(begin, false, buf, out);
+    let start = cursor.start;
+    let end = cursor.end;
+    let used = cursor.used;
+    let closed = opening::closed_state();
+    let opened = play_settings(
+        closed,
+        ids,
+        times,
+        values,
+        arrivals,
+        kinds,
+        meters,
+        &buf[start..end],
+        &mut out[used..],
+    );
+    let state = opened.state;
+    let settings = state.settings;
+    let first = cursor::onward(cursor, opened.used, settings.lines != 0, buf, out);
+    Started {
+        state: state,
+        cursor: first,
+    }
+}
