@@ -1,13 +1,13 @@
--- A share closed up over the places that stay: the rows at the places of what passes a test are the rows kept by the test, and each column
+-- A share closed up over the places that stay: the rows at the places of the other buckets are the rows that are kept, and each column
 -- closed up holds their field. One law over the field, by induction on the places. Assumes nothing.
-use Prim.Native.Nat.{ℕ, zero, suc, _+_, _-_, _≤_}
+use Prim.Native.Nat.{ℕ, suc, _+_, _-_, _≤_}
 use mathlib.Core.Path.{_≡_, refl, sym, _∙_, ap}
 use mathlib.Core.Bool.{Bool, true, false, cond, not}
 use mathlib.Core.List.{List, [], _∷_, _++_, map, map-append}
 use native.Mathlib.Omega.{arith}
 use lib.IntN.{ℤ, pos}
 use lib.ListN.{length, getD, take, drop, replicate, length-map}
-use lib.Seq.{sets, sets-eq, take-at, drop-cons}
+use lib.Seq.{sets, sets-eq, take-at}
 use Rattle.store.specs.declared.Reading.{Reading}
 use Rattle.store.specs.Lists.{keep}
 use Rattle.store.specs.Order.{isIn}
@@ -21,7 +21,7 @@ use Rattle.compaction.specs.ClosedUp.{closedUp}
 use Rattle.shares.proofs.Rows.{FieldIn, rows-where, map-replicate, kept-all}
 
 -- where as many are kept as there are, all are
-pub keep-whole : {A : Type 0} (test : A → Bool) (xs : List A) → length xs ≤ length (keep test xs) → keep test xs ≡ xs
+keep-whole : {A : Type 0} (test : A → Bool) (xs : List A) → length xs ≤ length (keep test xs) → keep test xs ≡ xs
 unfolding keep
 keep-whole test [] = λ h. refl
 keep-whole test (x ∷ xs) =

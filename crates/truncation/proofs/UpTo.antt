@@ -1,12 +1,12 @@
 -- Numbers that rise: those that are not above a limit stand in front of the others. Assumes nothing.
-use mathlib.Core.Path.{_≡_, refl, ap}
-use mathlib.Core.Bool.{true, false}
+use mathlib.Core.Path.{_≡_, refl}
+use mathlib.Core.Bool.{true}
 use mathlib.Core.List.{List, [], _∷_}
 use Prim.Native.Nat.{ℕ, _+_, _<_, _≤_}
 use native.Mathlib.Omega.{arith}
 use lib.Dec.{leb, ltb}
-use borrow.Author.Tests.{ltb-true, le-leb, lt-leb, leb-false}
-use lib.ListN.{length, getD, take}
+use borrow.Author.Tests.{ltb-true, le-leb, lt-leb}
+use lib.ListN.{length, getD}
 use Rattle.store.specs.Lists.{keep}
 use Rattle.store.specs.Columns.{share}
 use Rattle.store.proofs.Choices.{and-parts}
