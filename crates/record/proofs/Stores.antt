@@ -23,6 +23,13 @@ use Rattle.record.proofs.BytesOf.{length-bytesOf}
 pub room-within : {j k n : ℕ} → leb n recordBytes ≡ true → k ≡ j → recordBytes ≤ j → n ≤ k
 room-within {n = n} e same room = omega (arith, leb-true n recordBytes e)
 
+-- bytes laid down in two runs from the first place on are a new front
+pub halves-laid : (l b : List ℕ) (n : ℕ) → n ≤ length b → length b ≤ length l → laid (laid l 0 (take n b)) n (drop n b) ≡ inFront b l
+halves-laid l b n h fits =
+    laid-laid l 0 n (take n b) (drop n b) (omega (arith, length-take-le n b h))
+    ∙ ap (laid l 0) (take-append-drop n b)
+    ∙ laid-front l b fits
+
 module _ (l : List ℕ) (r : Record) where
   -- tag, id and time
   pub head-laid : {k m n : List ℕ} → k ≡ laid l 0 (r .kind ∷ r .meter ∷ 0 ∷ 0 ∷ []) → m ≡ laid k 4 (littleEndian 4 (r .id)) → n ≡ laid m 8 (littleEndian 4 (r .time .0))
@@ -49,16 +56,13 @@ module _ (l : List ℕ) (r : Record) where
       let three = rw d at s ∙ ap (λ (x : List ℕ). laid x 24 mean) two ∙ laid-laid l 12 24 (count ++ sum) mean refl in
       rw e at t ∙ ap (λ (x : List ℕ). laid x 28 last) three ∙ laid-laid l 12 28 (count ++ sum ++ mean) last refl
 
-  -- the first twelve bytes and the other twenty are a new front
+  -- the first twelve bytes and the other twenty
   pub record-laid : {k m : List ℕ} → recordBytes ≤ length l → k ≡ laid l 0 (take 12 (bytesOf r)) → m ≡ laid k 12 (drop 12 (bytesOf r)) → m ≡ inFront (bytesOf r) l
   record-laid fits p q =
-      let b = bytesOf r in
       let size = length-bytesOf r in
       q
-      ∙ ap (λ (x : List ℕ). laid x 12 (drop 12 b)) p
-      ∙ laid-laid l 0 12 (take 12 b) (drop 12 b) (omega (arith, length-take-le 12 b (omega arith)))
-      ∙ ap (laid l 0) (take-append-drop 12 b)
-      ∙ laid-front l b (omega arith)
+      ∙ ap (λ (x : List ℕ). laid x 12 (drop 12 (bytesOf r))) p
+      ∙ halves-laid l (bytesOf r) 12 (omega arith) (omega arith)
 
 -- for a caller that lends the writer the part of its area from a place on: what the whole area holds once the part is back
 pub record-lent : (area part : List ℕ) (r : Record) (at : ℕ) → part ≡ inFront (bytesOf r) (take (length area - at) (drop at area))
