@@ -74,7 +74,7 @@ module _ (s : Settings) (n : Node) (meters : length (n .operator .meters) ≡ me
       ]
 
 -- the records of a call are no more than 65, and lie within the area
-abbrev Fewest : List ℕ → Called → Type 0
+abbrev pub Fewest : List ℕ → Called → Type 0
 Fewest area q = (q .records ≤ recordsPerCall) × (q .records * recordBytes ≤ length area)
 
 module _ (st : State) (x : Columns) (text area : List ℕ) (meters : length (st .operator .meters) ≡ meterCount) where

@@ -34,7 +34,7 @@ within p =
 -- ---- the needs
 
 turns-left-requires : tie.Need-turns-left-requires Inv-loop μ-loop
-turns-left-requires c κs = search needs
+turns-left-requires c κs = omega arith
 
 loop-holds : tie.Need-loop-holds Inv-loop μ-loop
 loop-holds c =
@@ -73,7 +73,7 @@ turns-left-requires-2 : tie.Need-turns-left-requires-2 Inv-loop μ-loop
 turns-left-requires-2 c κs = omega (arith, c .before .before .before .before .before .before .before .before .before .before .before .before .before .before .before .before .before .before .before .before .before .before .before .before .before .before .before .before .before .before .before .before .loop-test)
 
 loop-less : tie.Need-loop-less Inv-loop μ-loop
-loop-less c = search needs
+loop-less c = c .turns-left2 .ensures
 
 loop-again : tie.Need-loop-again Inv-loop μ-loop
 loop-again c =
