@@ -221,16 +221,16 @@ pub fn fetch(cursor: Cursor, open: bool, buf: &mut [u8], out: &[u8]) -> Cursor
     next
 }
 
-// Goes on after a text is played and its reply `written` behind what the output holds; behind the last, and where the settings were refused,
-// only what the output holds is still to be written.
-pub fn onward(mut cursor: Cursor, written: usize, open: bool, buf: &mut [u8], out: &[u8]) -> Cursor
+// Goes on after a text is played and its reply of `written` bytes laid behind what the output holds; behind the last, only what the output
+// holds is still to be written.
+pub fn onward(mut cursor: Cursor, written: usize, buf: &mut [u8], out: &[u8]) -> Cursor
     requires { ⌜ (cursor .at ≤ cursor .have) × (cursor .have ≤ length (now buf)) × (cursor .used + written ≤ length (now out)) × (longestReply ≤ length (now out)) ⌝ }
     ensures { λ r. ⌜ (r .start ≤ r .end) × (r .end ≤ length (now (buf .entry))) × (r .at ≤ r .have) × (r .have ≤ length (now (buf .entry))) × (r .used + longestReply ≤ length (now (out .entry))) ⌝ }
 {
     let used = cursor.used + written;
-    if !cursor.last & open {
+    if !cursor.last {
         cursor.used = used;
-        return fetch(cursor, open, buf, out);
+        return fetch(cursor, true, buf, out);
     }
     write_out(&out[0..used]);
     Cursor {

@@ -94,7 +94,7 @@ fn play_lines(
             &mut out[used..],
         );
         state = played.state;
-        cursor = cursor::onward(cursor, played.used, true, buf, out);
+        cursor = cursor::onward(cursor, played.used, buf, out);
         turns = turns_left(cursor.plays, turns);
     }
 }

@@ -50,7 +50,7 @@ pub struct Started {
     pub cursor: Cursor,
 }
 
-// Plays the settings on the state before the first opening, and goes on to the first journal line.
+// Plays the settings on the state before the first opening, and goes on to the first journal line; where they are refused, to the end.
 pub fn start(
     ids: &mut [u32],
     times: &mut [u32],
@@ -74,7 +74,7 @@ pub fn start(
         passing: false,
         last: false,
     };
-    let cursor = cursor::fetch(begin, false, buf, out);
+    let mut cursor = cursor::fetch(begin, false, buf, out);
     let start = cursor.start;
     let end = cursor.end;
     let used = cursor.used;
@@ -92,7 +92,8 @@ pub fn start(
     );
     let state = opened.state;
     let settings = state.settings;
-    let first = cursor::onward(cursor, opened.used, settings.lines != 0, buf, out);
+    cursor.last = cursor.last | (settings.lines == 0);
+    let first = cursor::onward(cursor, opened.used, buf, out);
     Started {
         state: state,
         cursor: first,

@@ -81,7 +81,7 @@ loop-again c =
     let p = c .before .before .before .before .before .before .before .before .before .before .before .before .before .before .before .before .before .before .before .before .before .before in
     let l = looped p .loop in
     let e = o .ensures in
-    let k = o .kept .1 .1 .1 .0 in
+    let k = o .kept .1 .1 .0 in
     let h = p .play-line .kept in (
       e .0,
       omega (arith, e .1, k),
