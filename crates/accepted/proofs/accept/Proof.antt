@@ -42,6 +42,10 @@ step-requires c κs = search needs
 abbrev stepped : tie.After-next → tie.After-step
 stepped c = c .before .before .before .before .before .before .before .before .before .before .before .before .before .before
 
+abbrev steppedStore : tie.After-step → Columns
+steppedStore d =
+    columnsOf (d .step .last .1 .0) (d .step .last .1 .1 .0) (d .step .last .1 .1 .1 .0) (d .step .last .1 .1 .1 .1 .0) (d .step .last .1 .1 .1 .1 .1 .0) (d .step .last .1 .1 .1 .1 .1 .1 .0)
+
 same-length : tie.Need-same-length
 same-length c = stepped c .step .kept .1 .0
 
@@ -68,7 +72,7 @@ returns c =
     let done = stepped c in
     let t = done .before .before .before .before .before .before .before .before in
     let s = entry (t .before) in
-    step-laid (s .args .state) (store s) (s .args .area .now) (s .args .k) (s .pre .1) (t .if1 .taken) (done .step .ensures .0) (done .step .ensures .1 .0) (done .step .ensures .1 .1 .0) (done .step .ensures .1 .1 .1)
+    step-laid (s .args .state) (store s) (s .args .area .now) (s .args .k) (s .pre .1) (t .if1 .taken) {y = steppedStore done} (done .step .ensures .0) (done .step .ensures .1 .0) (done .step .ensures .1 .1 .0) (done .step .ensures .1 .1 .1)
 
 cast-i : tie.Need-cast-i
 cast-i c = search needs
@@ -102,6 +106,10 @@ element-set-from-after c = below (c .before .before .before .before .before .bef
 abbrev taken : tie.After-slice-known17 → tie.After-input
 taken c = c .before .before .before .before .before .before .before .before .before .before .before
 
+abbrev takenStore : tie.After-input → Columns
+takenStore d =
+    columnsOf (d .input .last .1 .0) (d .input .last .1 .1 .0) (d .input .last .1 .1 .1 .0) (d .input .last .1 .1 .1 .1 .0) (d .input .last .1 .1 .1 .1 .1 .0) (d .input .last .1 .1 .1 .1 .1 .1 .0)
+
 same-length-8 : tie.Need-same-length-8
 same-length-8 c = taken c .input .kept .1 .0
 
@@ -126,7 +134,7 @@ returns-2 c =
     let done = taken c in
     let e = done .before .before .before .before .before .before .before .before .before in
     let s = entry (e .before) in
-    input-laid (s .args .state) (store s) (s .args .area .now) (s .args .k) (s .pre .1) (s .pre .0) (e .if1 .left) (eight s) (done .input .ensures .0) (done .input .ensures .1)
+    input-laid (s .args .state) (store s) (s .args .area .now) (s .args .k) (s .pre .1) (s .pre .0) (e .if1 .left) (eight s) {y = takenStore done} (done .input .ensures .0) (done .input .ensures .1)
 
 pub accept-spec : {M : Type 1} → statement M
 accept-spec =

@@ -115,6 +115,10 @@ returns-3 c =
 abbrev zeroed : tie.After-fresh-state → tie.After-zero
 zeroed c = c .before .before .before .before .before .before .before .before .before .before .before .before
 
+abbrev zeroedStore : tie.After-zero → Columns
+zeroedStore z =
+    columnsOf (z .zero .last .0) (z .zero .last .1 .0) (z .zero .last .1 .1 .0) (z .zero .last .1 .1 .1 .0) (z .zero .last .1 .1 .1 .1 .0) (z .zero .last .1 .1 .1 .1 .1 .0)
+
 same-length-7 : tie.Need-same-length-7
 same-length-7 c = zeroed c .zero .kept .0
 
@@ -139,7 +143,7 @@ returns-4 c =
     let e = z .before .before .before .before .before .before .before .before in
     let r = measured (e .before) in
     let s = entry r in
-    opening-done (s .args .state) (store s) (s .args .text .now) (settings r) (read r) (room e) (c .fresh-state .ensures) (z .zero .ensures)
+    opening-done (s .args .state) (store s) (s .args .text .now) (settings r) (read r) (room e) (c .fresh-state .ensures) {y = zeroedStore z} (z .zero .ensures)
 
 pub open-spec : {M : Type 1} → statement M
 open-spec =
