@@ -1,5 +1,4 @@
 -- `settings::read_settings` meets its contract: the answer is the definition's, which is exact. Assumes nothing.
-use borrow.Author.Needs.{needs}
 use mathlib.Core.Path.{_≡_, sym, subst, _∙_}
 use mathlib.Core.List.{List}
 use Prim.Native.Nat.{ℕ}
@@ -16,13 +15,13 @@ both : (text : List ℕ) (answer : SettingsRead) → answer ≡ settingsOf text 
 both text answer q = (q, subst (ExactSettings text) (sym q) (exact-settings text))
 
 settings-at-requires : tie.Need-settings-at-requires
-settings-at-requires c κs = search needs
+settings-at-requires c κs = tt
 
 enum-known-s : tie.Need-enum-known-s
-enum-known-s c = search needs
+enum-known-s c = c .match .keys1
 
 enum-told : tie.Need-enum-told
-enum-told c = search needs
+enum-told c = c .match .keys2
 
 returns : tie.Need-returns
 unfolding settingsOf judged
@@ -39,7 +38,7 @@ returns-2 c =
     (rw (sym (s .before .before .settings-at .ensures) ∙ s .s .given .1, ne-eqb (s .s .given .0 .1 .0) (length text) (c .if1 .taken)))
 
 within-limits-requires : tie.Need-within-limits-requires
-within-limits-requires c κs = search needs
+within-limits-requires c κs = tt
 
 returns-3 : tie.Need-returns-3
 unfolding settingsOf judged limited
