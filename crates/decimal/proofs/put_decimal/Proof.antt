@@ -13,7 +13,7 @@ use Rattle.decimal.proofs.put_decimal.Statement.{statement}
 use Rattle.decimal.proofs.put_decimal.Tie as tie
 
 magnitude-requires : tie.Need-magnitude-requires
-magnitude-requires c κs = search needs
+magnitude-requires c κs = tt
 
 -- the text by the branch
 minus-text : (c : tie.Then1) → decimal (c .before .before .before .args .z) ≡ 45 ∷ digits (c .before .magnitude .result)
@@ -51,7 +51,7 @@ put-digits-requires-2 : tie.Need-put-digits-requires-2
 put-digits-requires-2 c κs = omega (arith, ap length (plain-text (c .before)))
 
 same-length-2 : tie.Need-same-length-2
-same-length-2 c = search needs
+same-length-2 c = c .before .before .put-digits2 .kept .0
 
 returns-2 : tie.Need-returns-2
 returns-2 c = rw (plain-text (c .before .before .before .before)) (c .before .before .put-digits2 .ensures)

@@ -2,7 +2,6 @@
 use mathlib.Core.Path.{_≡_, sym, ap, _∙_}
 use mathlib.Core.Logic.{⊎-elim}
 use Prim.Native.Nat.{_+_, _-_, _^_}
-use borrow.Author.Needs.{needs}
 use native.Mathlib.Omega.{arith}
 use lib.IntN.{ℤ}
 use lib.ListN.{getD, List·getD-eq-default}
@@ -16,19 +15,19 @@ use Rattle.decimal.proofs.read_integer.Statement.{statement}
 use Rattle.decimal.proofs.read_integer.Tie as tie
 
 shared-slice-read-if2 : tie.Need-shared-slice-read-if2
-shared-slice-read-if2 c = search needs
+shared-slice-read-if2 c = c .before .if1 .taken
 
 add-read-number : tie.Need-add-read-number
-add-read-number c = search needs
+add-read-number c = omega arith
 
 read-number-requires : tie.Need-read-number-requires
-read-number-requires c κs = search needs
+read-number-requires c κs = tt
 
 enum-known-m : tie.Need-enum-known-m
-enum-known-m c = search needs
+enum-known-m c = c .match .keys1
 
 enum-told : tie.Need-enum-told
-enum-told c = search needs
+enum-told c = c .match .keys2
 
 returns : tie.Need-returns
 unfolding negated
@@ -49,13 +48,13 @@ returns-2 c =
     c .negative .ensures ∙ sym (integer-minus (a .s .now) (a .at) (c .before .before .before .before .before .if2 .taken) ∙ ap negated n)
 
 read-number-requires-2 : tie.Need-read-number-requires-2
-read-number-requires-2 c κs = search needs
+read-number-requires-2 c κs = tt
 
 enum-known-m-2 : tie.Need-enum-known-m-2
-enum-known-m-2 c = search needs
+enum-known-m-2 c = c .match2 .keys1
 
 enum-told-2 : tie.Need-enum-told-2
-enum-told-2 c = search needs
+enum-told-2 c = c .match2 .keys2
 
 -- no minus stands at the place, or nothing does
 no-minus : (c : tie.Joined1) → getD (c .before .before .args .s .now) (c .before .before .args .at) 0 ≡ 45 → ⊥

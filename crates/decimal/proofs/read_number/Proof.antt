@@ -2,7 +2,6 @@
 use mathlib.Core.Path.{_≡_, sym, _∙_}
 use mathlib.Core.Logic.{⊎-elim}
 use Prim.Native.Nat.{_+_, _≤_}
-use borrow.Author.Needs.{needs}
 use native.Mathlib.Omega.{arith}
 use lib.ListN.{getD, drop, length-drop}
 use Rattle.decimal.specs.Spelled.{runLength, runValue}
@@ -12,7 +11,7 @@ use Rattle.decimal.proofs.read_number.Statement.{statement}
 use Rattle.decimal.proofs.read_number.Tie as tie
 
 scan-requires : tie.Need-scan-requires
-scan-requires c κs = search needs
+scan-requires c κs = tt
 
 sub-count : tie.Need-sub-count
 sub-count c = omega arith
@@ -34,7 +33,7 @@ returns-2 c =
     sym (number-misspelled (a .most) (a .s .now) (a .at) (leading-zero (drop (a .at) (a .s .now)) z (omega arith)))
 
 add-limit : tie.Need-add-limit
-add-limit c = search needs
+add-limit c = record { fits = omega arith }
 
 returns-3 : tie.Need-returns-3
 returns-3 c =
@@ -42,7 +41,7 @@ returns-3 c =
     sym (number-past (a .most) (a .s .now) (a .at) (omega arith))
 
 cast-t14 : tie.Need-cast-t14
-cast-t14 c = search needs
+cast-t14 c = record { fits = omega arith }
 
 returns-4 : tie.Need-returns-4
 returns-4 c =
@@ -53,7 +52,7 @@ returns-4 c =
     let e : r .end ≡ a .at + runLength t = omega arith in
     let z : getD t 0 0 ≡ 48 → runLength t ≤ 1 = λ q.
     ⊎-elim (λ w. omega arith) (λ w. absurd (w .left (sym (head-drop (a .at) (a .s .now)) ∙ q))) (c .before .if2 .came) in
-    cc (number-value (a .most) (a .s .now) (a .at) (well-spelled t (omega arith) z) (omega arith))
+    rw (v, e) (sym (number-value (a .most) (a .s .now) (a .at) (well-spelled t (omega arith) z) (omega arith)))
 
 pub read-number-spec : {M : Type 1} → statement M
 read-number-spec =

@@ -1,7 +1,6 @@
 -- `decimal::scan` meets its contract: in the loop what is left of the run makes the whole. Assumes nothing.
 use mathlib.Core.Logic.{⊎-elim}
 use Prim.Native.Nat.{_-_, _*_, _<_, _^_}
-use borrow.Author.Needs.{needs}
 use native.Mathlib.Numerals.{add-one}
 use native.Mathlib.Omega.{arith}
 use lib.ListN.{length, getD}
@@ -38,7 +37,7 @@ mul-value : tie.Need-mul-value Inv-loop μ-loop
 mul-value c = omega arith
 
 wide-requires : tie.Need-wide-requires Inv-loop μ-loop
-wide-requires c κs = search needs
+wide-requires c κs = tt
 
 add-value : tie.Need-add-value Inv-loop μ-loop
 add-value c = omega arith
