@@ -3,21 +3,20 @@ use Prim.Native.Nat.{_+_}
 use native.Mathlib.Omega.{arith}
 use Rattle.endian.specs.LittleEndian.{numberOf}
 use Rattle.endian.proofs.LittleEndian.{numberOf-next}
-use borrow.Author.Needs.{needs}
 use Rattle.endian.proofs.get4.Statement.{statement}
 use Rattle.endian.proofs.get4.Tie as tie
 
 shared-slice-read-result : tie.Need-shared-slice-read-result
-shared-slice-read-result c = search needs
+shared-slice-read-result c = omega arith
 
 cast-result : tie.Need-cast-result
 cast-result c = omega (arith, c .shared-slice-known .given (c .before .args .at))
 
 add-result : tie.Need-add-result
-add-result c = search needs
+add-result c = record { fits = omega arith }
 
 shared-slice-read-result-2 : tie.Need-shared-slice-read-result-2
-shared-slice-read-result-2 c = search needs
+shared-slice-read-result-2 c = omega arith
 
 cast-result-2 : tie.Need-cast-result-2
 cast-result-2 c = omega (arith, c .shared-slice-known2 .given (c .before .before .args .at + 1))
@@ -32,10 +31,10 @@ add-result-2 c =
     omega (arith, byte at, byte (at + 1))
 
 add-result-3 : tie.Need-add-result-3
-add-result-3 c = search needs
+add-result-3 c = record { fits = omega arith }
 
 shared-slice-read-result-3 : tie.Need-shared-slice-read-result-3
-shared-slice-read-result-3 c = search needs
+shared-slice-read-result-3 c = omega arith
 
 cast-result-3 : tie.Need-cast-result-3
 cast-result-3 c = omega (arith, c .shared-slice-known3 .given (c .before .before .before .args .at + 2))
@@ -50,10 +49,10 @@ add-result-4 c =
     omega (arith, byte at, byte (at + 1), byte (at + 2))
 
 add-result-5 : tie.Need-add-result-5
-add-result-5 c = search needs
+add-result-5 c = record { fits = omega arith }
 
 shared-slice-read-result-4 : tie.Need-shared-slice-read-result-4
-shared-slice-read-result-4 c = search needs
+shared-slice-read-result-4 c = omega arith
 
 cast-result-4 : tie.Need-cast-result-4
 cast-result-4 c = omega (arith, c .shared-slice-known4 .given (c .before .before .before .before .args .at + 3))

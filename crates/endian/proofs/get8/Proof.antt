@@ -1,35 +1,34 @@
 -- `endian::get8` meets its contract: the number of the low four bytes, and of the four behind them. Assumes nothing.
 use native.Mathlib.Omega.{arith}
 use Rattle.endian.proofs.LittleEndian.{numberOf-add}
-use borrow.Author.Needs.{needs}
 use Rattle.endian.proofs.get8.Statement.{statement}
 use Rattle.endian.proofs.get8.Tie as tie
 
 get4-requires : tie.Need-get4-requires
-get4-requires c κs = search needs
+get4-requires c κs = omega arith
 
 cast-result : tie.Need-cast-result
-cast-result c = search needs
+cast-result c = record { fits = omega arith }
 
 add-get4 : tie.Need-add-get4
-add-get4 c = search needs
+add-get4 c = record { fits = omega arith }
 
 get4-requires-2 : tie.Need-get4-requires-2
-get4-requires-2 c κs = search needs
+get4-requires-2 c κs = omega arith
 
 cast-result-2 : tie.Need-cast-result-2
-cast-result-2 c = search needs
+cast-result-2 c = record { fits = omega arith }
 
 mul-result : tie.Need-mul-result
-mul-result c = search needs
+mul-result c = record { fits = omega arith }
 
 add-result : tie.Need-add-result
-add-result c = search needs
+add-result c = record { fits = omega arith }
 
 returns : tie.Need-returns
 returns c =
     let a = c .before .before .before .args in
-    cc (numberOf-add (a .s .now) (a .at) 4 4 (omega arith))
+    rw (numberOf-add (a .s .now) (a .at) 4 4 (omega arith), c .before .get4 .ensures, c .get42 .ensures)
 
 pub get8-spec : {M : Type 1} → statement M
 get8-spec =

@@ -5,45 +5,44 @@ use native.Mathlib.Omega.{arith}
 use lib.ListN.{length-set}
 use Rattle.area.specs.Laid.{laid}
 use Rattle.endian.proofs.LittleEndian.{littleEndian-4}
-use borrow.Author.Needs.{needs}
 use Rattle.endian.proofs.put4.Statement.{statement}
 use Rattle.endian.proofs.put4.Tie as tie
 
 cast-out : tie.Need-cast-out
-cast-out c = search needs
+cast-out c = record { fits = omega arith }
 
 slice-write-out : tie.Need-slice-write-out
-slice-write-out c = search needs
+slice-write-out c = omega arith
 
 cast-out-2 : tie.Need-cast-out-2
-cast-out-2 c = search needs
+cast-out-2 c = record { fits = omega arith }
 
 add-out : tie.Need-add-out
-add-out c = search needs
+add-out c = record { fits = omega arith }
 
 slice-write-out-2 : tie.Need-slice-write-out-2
 slice-write-out-2 c = simp length-set (omega arith)
 
 cast-out-3 : tie.Need-cast-out-3
-cast-out-3 c = search needs
+cast-out-3 c = record { fits = omega arith }
 
 add-out-2 : tie.Need-add-out-2
-add-out-2 c = search needs
+add-out-2 c = record { fits = omega arith }
 
 slice-write-out-3 : tie.Need-slice-write-out-3
 slice-write-out-3 c = simp length-set (omega arith)
 
 cast-out-4 : tie.Need-cast-out-4
-cast-out-4 c = search needs
+cast-out-4 c = record { fits = omega arith }
 
 add-out-3 : tie.Need-add-out-3
-add-out-3 c = search needs
+add-out-3 c = record { fits = omega arith }
 
 slice-write-out-4 : tie.Need-slice-write-out-4
 slice-write-out-4 c = simp length-set (omega arith)
 
 same-length : tie.Need-same-length
-same-length c = search needs
+same-length c = simp length-set
 
 returns : tie.Need-returns
 unfolding laid
