@@ -33,7 +33,7 @@ returns-2 c =
     sym (number-misspelled (a .most) (a .s .now) (a .at) (leading-zero (drop (a .at) (a .s .now)) z (omega arith)))
 
 add-limit : tie.Need-add-limit
-add-limit c = record { fits = omega arith }
+add-limit c = omega arith
 
 returns-3 : tie.Need-returns-3
 returns-3 c =
@@ -41,7 +41,7 @@ returns-3 c =
     sym (number-past (a .most) (a .s .now) (a .at) (omega arith))
 
 cast-t14 : tie.Need-cast-t14
-cast-t14 c = record { fits = omega arith }
+cast-t14 c = omega arith
 
 returns-4 : tie.Need-returns-4
 returns-4 c =

@@ -13,7 +13,7 @@ cast-result : tie.Need-cast-result
 cast-result c = omega (arith, c .shared-slice-known .given (c .before .args .at))
 
 add-result : tie.Need-add-result
-add-result c = record { fits = omega arith }
+add-result c = omega arith
 
 shared-slice-read-result-2 : tie.Need-shared-slice-read-result-2
 shared-slice-read-result-2 c = omega arith
@@ -31,7 +31,7 @@ add-result-2 c =
     omega (arith, byte at, byte (at + 1))
 
 add-result-3 : tie.Need-add-result-3
-add-result-3 c = record { fits = omega arith }
+add-result-3 c = omega arith
 
 shared-slice-read-result-3 : tie.Need-shared-slice-read-result-3
 shared-slice-read-result-3 c = omega arith
@@ -49,7 +49,7 @@ add-result-4 c =
     omega (arith, byte at, byte (at + 1), byte (at + 2))
 
 add-result-5 : tie.Need-add-result-5
-add-result-5 c = record { fits = omega arith }
+add-result-5 c = omega arith
 
 shared-slice-read-result-4 : tie.Need-shared-slice-read-result-4
 shared-slice-read-result-4 c = omega arith

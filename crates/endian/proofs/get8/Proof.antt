@@ -8,22 +8,22 @@ get4-requires : tie.Need-get4-requires
 get4-requires c κs = omega arith
 
 cast-result : tie.Need-cast-result
-cast-result c = record { fits = omega arith }
+cast-result c = omega arith
 
 add-get4 : tie.Need-add-get4
-add-get4 c = record { fits = omega arith }
+add-get4 c = omega arith
 
 get4-requires-2 : tie.Need-get4-requires-2
 get4-requires-2 c κs = omega arith
 
 cast-result-2 : tie.Need-cast-result-2
-cast-result-2 c = record { fits = omega arith }
+cast-result-2 c = omega arith
 
 mul-result : tie.Need-mul-result
-mul-result c = record { fits = omega arith }
+mul-result c = omega arith
 
 add-result : tie.Need-add-result
-add-result c = record { fits = omega arith }
+add-result c = omega arith
 
 returns : tie.Need-returns
 returns c =

@@ -9,16 +9,16 @@ use Rattle.endian.proofs.put8.Statement.{statement}
 use Rattle.endian.proofs.put8.Tie as tie
 
 cast-put4 : tie.Need-cast-put4
-cast-put4 c = record { fits = omega arith }
+cast-put4 c = omega arith
 
 put4-requires : tie.Need-put4-requires
 put4-requires c κs = omega arith
 
 add-put4 : tie.Need-add-put4
-add-put4 c = record { fits = omega arith }
+add-put4 c = omega arith
 
 cast-put4-2 : tie.Need-cast-put4-2
-cast-put4-2 c = record { fits = omega arith }
+cast-put4-2 c = omega arith
 
 put4-requires-2 : tie.Need-put4-requires-2
 put4-requires-2 c κs = omega (arith, c .before .before .before .put4 .kept .0)

@@ -1,5 +1,4 @@
 -- `fields::ends_line` meets its contract; past the end of a text no byte is 0A. Assumes nothing.
-use borrow.Author.Needs.{needs}
 use mathlib.Core.Path.{refl, sym}
 use Rattle.fields.specs.Field.{endsLine}
 use Rattle.fields.proofs.Fields.{no-end-past}
@@ -7,7 +6,7 @@ use Rattle.fields.proofs.ends_line.Statement.{statement}
 use Rattle.fields.proofs.ends_line.Tie as tie
 
 shared-slice-read-result : tie.Need-shared-slice-read-result
-shared-slice-read-result c = search needs
+shared-slice-read-result c = c .before .if1 .taken
 
 returns : tie.Need-returns
 unfolding endsLine

@@ -1,6 +1,5 @@
 -- `fields::integer_field` meets its contract: the key is there and the number is read behind it, or nothing is read. Assumes nothing.
 use native.Mathlib.Omega.{arith}
-use borrow.Author.Needs.{needs}
 use mathlib.Core.Path.{_≡_, sym, _∙_}
 use mathlib.Core.Bool.{true, false}
 use lib.ListN.{drop, length-drop}
@@ -10,7 +9,7 @@ use Rattle.fields.proofs.integer_field.Statement.{statement}
 use Rattle.fields.proofs.integer_field.Tie as tie
 
 has-key-requires : tie.Need-has-key-requires
-has-key-requires c κs = search needs
+has-key-requires c κs = tt
 
 add-read-integer : tie.Need-add-read-integer
 add-read-integer c =
@@ -19,7 +18,7 @@ add-read-integer c =
     omega (arith, starts-room (a .key .now) (drop (a .at) (a .s .now)) stands, length-drop (a .at) (a .s .now))
 
 read-integer-requires : tie.Need-read-integer-requires
-read-integer-requires c κs = search needs
+read-integer-requires c κs = tt
 
 returns : tie.Need-returns
 unfolding integerField

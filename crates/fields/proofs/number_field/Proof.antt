@@ -1,6 +1,5 @@
 -- `fields::number_field` meets its contract: the key is there and the number is read behind it, or nothing is read. Assumes nothing.
 use native.Mathlib.Omega.{arith}
-use borrow.Author.Needs.{needs}
 use mathlib.Core.Path.{_≡_, sym, _∙_}
 use mathlib.Core.Bool.{true, false}
 use lib.ListN.{drop, length-drop}
@@ -10,7 +9,7 @@ use Rattle.fields.proofs.number_field.Statement.{statement}
 use Rattle.fields.proofs.number_field.Tie as tie
 
 has-key-requires : tie.Need-has-key-requires
-has-key-requires c κs = search needs
+has-key-requires c κs = tt
 
 add-read-number : tie.Need-add-read-number
 add-read-number c =
@@ -19,7 +18,7 @@ add-read-number c =
     omega (arith, starts-room (a .key .now) (drop (a .at) (a .s .now)) stands, length-drop (a .at) (a .s .now))
 
 read-number-requires : tie.Need-read-number-requires
-read-number-requires c κs = search needs
+read-number-requires c κs = tt
 
 returns : tie.Need-returns
 unfolding numberField

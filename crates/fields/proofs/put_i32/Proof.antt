@@ -1,5 +1,4 @@
 -- `fields::put_i32` meets its contract: a number keeps its value as it is widened. Assumes nothing.
-use borrow.Author.Needs.{needs}
 use mathlib.Core.Path.{_≡_}
 use lib.IntN.{ℤ}
 use mir.Syntax.{w32, w64}
@@ -21,7 +20,7 @@ put-i64-requires : tie.Need-put-i64-requires
 put-i64-requires c κs = rw (widened (c .before .before .before .fits .value)) (c .before .before .before .pre)
 
 same-length : tie.Need-same-length
-same-length c = search needs
+same-length c = c .before .before .put-i64 .kept .0
 
 returns : tie.Need-returns
 returns c = rw (widened (c .before .before .before .before .before .before .fits .value)) at (c .before .before .put-i64 .ensures)

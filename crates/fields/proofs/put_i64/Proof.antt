@@ -1,6 +1,5 @@
 -- `fields::put_i64` meets its contract: the key and behind it the number are one run of bytes. Assumes nothing.
 use native.Mathlib.Omega.{arith}
-use borrow.Author.Needs.{needs}
 use mathlib.Core.Path.{_≡_, ap, _∙_}
 use mathlib.Core.List.{List, _++_}
 use Prim.Native.Nat.{ℕ}
@@ -25,7 +24,7 @@ put-decimal-requires c κs =
     (omega (arith, length-append (b .args .key .now) (decimal (b .args .value)), p .ensures .0, p .kept .0))
 
 same-length : tie.Need-same-length
-same-length c = search needs
+same-length c = c .before .before .put-decimal .kept .0 ∙ c .before .before .before .before .before .before .put-bytes .kept .0
 
 returns : tie.Need-returns
 returns c =

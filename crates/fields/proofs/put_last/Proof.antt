@@ -1,10 +1,9 @@
 -- `fields::put_last` meets its contract: the field and behind it the 0A are one run of bytes. Assumes nothing.
 use native.Mathlib.Omega.{arith}
-use borrow.Author.Needs.{needs}
 use mathlib.Core.Path.{_≡_}
 use mathlib.Core.List.{[], _∷_, _++_, append-assoc}
 use Prim.Native.Nat.{_+_}
-use lib.ListN.{length, length-append}
+use lib.ListN.{length, length-append, length-set}
 use mir.Facts.{toZ-ofZ}
 use Rattle.decimal.specs.Decimal.{decimal}
 use Rattle.fields.proofs.Behind.{laid-behind}
@@ -38,7 +37,7 @@ add-result c =
     omega (arith, b .pre, b .good, e .0, length-append k d, length-append k (d ++ 10 ∷ []), length-append d (10 ∷ []))
 
 same-length : tie.Need-same-length
-same-length c = search needs
+same-length c = simp length-set (c .before .before .put-i32 .kept .0)
 
 returns : tie.Need-returns
 returns c =

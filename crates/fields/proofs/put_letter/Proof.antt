@@ -1,8 +1,7 @@
 -- `fields::put_letter` meets its contract: the key and behind it the letter are one run of bytes. Assumes nothing.
 use native.Mathlib.Omega.{arith}
-use borrow.Author.Needs.{needs}
 use mathlib.Core.List.{[], _∷_}
-use lib.ListN.{length-append}
+use lib.ListN.{length-append, length-set}
 use Rattle.fields.proofs.Behind.{laid-behind}
 use Rattle.fields.proofs.put_letter.Statement.{statement}
 use Rattle.fields.proofs.put_letter.Tie as tie
@@ -19,10 +18,12 @@ slice-write-out c =
     omega (arith, length-append (b .args .key .now) (b .args .letter ∷ []), p .ensures .0, p .kept .0, b .pre)
 
 add-result : tie.Need-add-result
-add-result c = search needs
+add-result c =
+    let b = c .before .before .before .before .before .before in
+    omega (arith, length-append (b .args .key .now) (b .args .letter ∷ []), c .before .before .put-bytes .ensures .0, b .pre, b .good)
 
 same-length : tie.Need-same-length
-same-length c = search needs
+same-length c = simp length-set (c .before .before .put-bytes .kept .0)
 
 returns : tie.Need-returns
 returns c =

@@ -1,5 +1,4 @@
 -- `fields::put_u32` meets its contract: a number keeps its value as it is widened. Assumes nothing.
-use borrow.Author.Needs.{needs}
 use native.Mathlib.Omega.{arith}
 use mathlib.Core.Path.{_≡_}
 use Prim.Native.Nat.{ℕ, _<_, _^_}
@@ -14,7 +13,7 @@ widened : (n : ℕ) → n < 2 ^ 32 → toZ w64 n ≡ pos n
 widened n h = toZ-pos w64 {n = n} (omega arith)
 
 cast-put-i64 : tie.Need-cast-put-i64
-cast-put-i64 c = search needs
+cast-put-i64 c = record { sfits = omega arith }
 
 put-i64-requires : tie.Need-put-i64-requires
 put-i64-requires c κs =
@@ -22,7 +21,7 @@ put-i64-requires c κs =
     rw (widened (b .args .value) (b .fits .value .fits)) (b .pre)
 
 same-length : tie.Need-same-length
-same-length c = search needs
+same-length c = c .before .before .put-i64 .kept .0
 
 returns : tie.Need-returns
 returns c =
