@@ -1,8 +1,11 @@
 -- `settings::settings_at` meets its contract: at each return the fields read so far, and the one that was not, are those of
 -- the definition. Assumes nothing.
 use mathlib.Core.Path.{_≡_, refl, sym, _∙_}
-use Prim.Native.Nat.{_-_, _^_}
+use Prim.Native.Nat.{ℕ, _+_, _-_, _<_, _^_}
 use native.Mathlib.Omega.{arith}
+use lib.ListN.{length}
+use mir.Syntax.{w64}
+use mir.Val.{Fits}
 use mir.Facts.{toZ-ofZ}
 use Rattle.decimal.specs.declared.Number.the-variants as Number
 use Rattle.decimal.specs.declared.Integer.the-variants as Integer
@@ -164,11 +167,16 @@ high-read c = sym (c .before .before .integer-field2 .ensures) ∙ c .high .give
 ends-line-requires : tie.Need-ends-line-requires
 ends-line-requires c κs = tt
 
+-- a place inside the text has a next one
+next-fits : (c : tie.Start) (e : ℕ) → e < length (c .args .s .now) → Fits w64 (e + 1)
+next-fits c e h = omega (arith, c .good)
+
 add-t42 : tie.Need-add-t42
 add-t42 c =
     let h = c .before .before .before in
     let s = start (lines (bucket (window (hold (low h))))) in
-    omega (arith, end-inside (s .args .s .now) (h .high .given .0 .1 .0) (sym (c .before .ends-line .ensures) ∙ c .if1 .taken), s .good)
+    let place = h .high .given .0 .1 .0 in
+    next-fits s place (end-inside (s .args .s .now) place (sym (c .before .ends-line .ensures) ∙ c .if1 .taken))
 
 returns-7 : tie.Need-returns-7
 unfolding settingsAt withNumber withInteger
