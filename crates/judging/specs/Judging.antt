@@ -1,24 +1,27 @@
--- What is decided of a call before anything changes. Assumes nothing.
+-- What is decided of a call before anything changes: its first refusal, or the call that is to be done (document 01, section 'Refusal by
+-- whom'). Assumes nothing.
 use Prim.Native.Nat.{ℕ}
-use mathlib.Core.Path.{_≡_}
+use mathlib.Core.Bool.{cond}
 use mathlib.Core.List.{List}
-use Rattle.journal.specs.declared.Call.{Call}
+use lib.Dec.{eqb}
+use Rattle.journal.specs.declared.CallRead.{CallRead}
 use Rattle.journal.specs.declared.CallRead.the-variants as CallRead
+use Rattle.journal.specs.JournalLine.{callOf, callAnswer}
 use Rattle.store.specs.Columns.{Columns}
 use Rattle.protocol.specs.Refusals.{firstFailed, answerTo}
 use Rattle.node.specs.declared.State.{State}
 use Rattle.node.specs.View.{view}
-use Rattle.node.specs.Calls.{hostTests, refusedWith, calledWith, calledOn}
+use Rattle.node.specs.Calls.{hostTests}
 use Rattle.judging.specs.declared.Judged.{Judged}
 use Rattle.judging.specs.declared.Judged.the-variants as Judged
 
--- no test of the host or of the call fails, and this call is the one that the text asks for
-pub record Passed (st : State) (x : Columns) (text area : List ℕ) (k : Call) : Type 0 where
-  pub host : firstFailed (hostTests st x area) ≡ 0
-  pub call : answerTo (st .settings) (view st x) k ≡ 0
-  pub done : calledWith st x area (CallRead.Accepted k) ≡ calledOn st x text area
+-- refusal 6, then 7 to 14
+unfoldable pub judgedWith : State → Columns → CallRead → Judged
+judgedWith st x (CallRead.Accepted k) =
+    let answer : ℕ = answerTo (st .settings) (view st x) k in cond (eqb answer 0) (Judged.Accepted k) (Judged.Refused answer)
+judgedWith st x CallRead.Malformed = Judged.Refused (callAnswer CallRead.Malformed)
 
--- what is decided: the answer of a refused call, or the call that is to be done
-unfoldable pub JudgedAs : State → Columns → List ℕ → List ℕ → Judged → Type 0
-JudgedAs st x text area (Judged.Refused answer) = refusedWith answer st x area ≡ calledOn st x text area
-JudgedAs st x text area (Judged.Accepted k) = Passed st x text area k
+-- refusals 3 to 5 come first
+unfoldable pub judgedOn : State → Columns → List ℕ → List ℕ → Judged
+judgedOn st x text area =
+    let host : ℕ = firstFailed (hostTests st x area) in cond (eqb host 0) (judgedWith st x (callOf text)) (Judged.Refused host)

@@ -4,7 +4,7 @@ ghost use mathlib.Core.List.{List};
 ghost use Prim.Native.Nat.{ℕ};
 ghost use lib.ListN.{length};
 ghost use Rattle.store.specs.Columns.{columnsOf};
-ghost use Rattle.judging.specs.Judging.{JudgedAs};
+ghost use Rattle.judging.specs.Judging.{judgedOn};
 use journal::Call;
 use journal::CallRead;
 use node::State;
@@ -30,7 +30,7 @@ pub fn judge(
     text: &[u8],
     room: usize,
 ) -> Judged
-    ensures { λ r. ⌜ ((area : List ℕ) → length area ≡ room → JudgedAs state (columnsOf (now (ids .entry)) (now (times .entry)) (now (values .entry)) (now (arrivals .entry)) (now (kinds .entry)) (now (meters .entry))) (now (text .entry)) area r) ⌝ }
+    ensures { λ r. ⌜ ((area : List ℕ) → length area ≡ room → r ≡ judgedOn state (columnsOf (now (ids .entry)) (now (times .entry)) (now (values .entry)) (now (arrivals .entry)) (now (kinds .entry)) (now (meters .entry))) (now (text .entry)) area) ⌝ }
 {
     let host = shape::host_refusal(state, ids, times, values, arrivals, kinds, meters, room);
     if host != 0 {

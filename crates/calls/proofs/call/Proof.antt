@@ -1,7 +1,7 @@
 -- `calls::call` meets its contract: a call that is judged refused changes nothing, and what an accepted one leaves is what `accept` ensures.
 -- Assumes nothing.
 use Prim.Native.Nat.{ℕ}
-use mathlib.Core.Path.{_≡_, refl, subst, _∙_}
+use mathlib.Core.Path.{_≡_, refl, sym, subst, _∙_}
 use mathlib.Core.List.{List}
 use native.Mathlib.Omega.{arith}
 use borrow.Author.Needs.{needs}
@@ -9,7 +9,7 @@ use Rattle.store.specs.Columns.{Columns, columnsOf}
 use Rattle.node.specs.declared.State.{State}
 use Rattle.node.specs.Calls.{refusedWith, calledOn}
 use Rattle.judging.specs.declared.Judged.{Judged}
-use Rattle.judging.specs.Judging.{JudgedAs, Passed}
+use Rattle.judging.proofs.Answers.{Passed, Answered, answered}
 use Rattle.calls.proofs.call.Statement.{statement}
 use Rattle.calls.proofs.call.Tie as tie
 
@@ -30,17 +30,20 @@ abbrev asked : tie.After-judge → tie.Start
 asked j = j .before .before .before .before .before .before .before .before .before .before .before .before .before .before
 
 abbrev Decided : tie.Start → Judged → Type 0
-Decided s r = JudgedAs (s .args .state) (store s) (s .args .text .now) (s .args .area .now) r
+Decided s r = Answered (s .args .state) (store s) (s .args .text .now) (s .args .area .now) r
 
 judged : (j : tie.After-judge) (r : Judged) → j .judge .result ≡ r → Decided (asked j) r
-judged j r e = subst (Decided (asked j)) e (j .judge .ensures (asked j .args .area .now) (omega arith))
+judged j r e =
+    let s = asked j in
+    subst (Decided s) (sym (j .judge .ensures (s .args .area .now) (omega arith)) ∙ e)
+    (answered (s .args .state) (store s) (s .args .text .now) (s .args .area .now))
 
 -- a refused call
 abbrev refusal : tie.After-judged → tie.Start
 refusal r = asked (r .before .before)
 
 refused : (r : tie.After-judged) → refusedWith (r .judged .given .0 .0) (refusal r .args .state) (store (refusal r)) (refusal r .args .area .now) ≡ calledOn (refusal r .args .state) (store (refusal r)) (refusal r .args .text .now) (refusal r .args .area .now)
-unfolding JudgedAs
+unfolding Answered
 refused r = judged (r .before .before) _ (r .judged .given .1)
 
 -- an accepted one
@@ -48,7 +51,7 @@ abbrev entry : tie.After-judged2 → tie.Start
 entry a = asked (a .before .before)
 
 passed : (a : tie.After-judged2) → Passed (entry a .args .state) (store (entry a)) (entry a .args .text .now) (entry a .args .area .now) (a .judged2 .given .0 .0)
-unfolding JudgedAs
+unfolding Answered
 passed a = judged (a .before .before) _ (a .judged2 .given .1)
 
 -- ---- the needs

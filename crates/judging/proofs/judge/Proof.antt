@@ -12,8 +12,7 @@ use Rattle.store.specs.Columns.{Columns, columnsOf}
 use Rattle.protocol.specs.Refusals.{firstFailed, answerTo}
 use Rattle.node.specs.View.{view}
 use Rattle.node.specs.Calls.{hostTests}
-use Rattle.judging.specs.Judging.{JudgedAs}
-use Rattle.judging.proofs.Answers.{host-refused, text-refused, call-refused, call-done, RefusalReady, refusal-ready}
+use Rattle.judging.proofs.Answers.{host-refused, text-refused, call-refused, call-accepted, RefusalReady, refusal-ready}
 use Rattle.judging.proofs.judge.Statement.{statement}
 use Rattle.judging.proofs.judge.Tie as tie
 
@@ -72,7 +71,6 @@ host-refusal-requires : tie.Need-host-refusal-requires
 host-refusal-requires c κs = search needs
 
 returns : tie.Need-returns
-unfolding JudgedAs
 returns c area l =
     let s = asked (c .before) in
     host-refused (s .args .state) (store s) (s .args .text .now) area (host (c .before) area l) (c .if1 .taken)
@@ -87,7 +85,6 @@ enum-told : tie.Need-enum-told
 enum-told c = search needs
 
 returns-2 : tie.Need-returns-2
-unfolding JudgedAs
 returns-2 c area l =
     let e = c .before .before .before in
     let s = asked (e .before) in
@@ -100,22 +97,17 @@ refusal-requires c κs =
     (r .lines, r .kinds, r .small)
 
 returns-3 : tie.Need-returns-3
-unfolding JudgedAs
 returns-3 c area l =
     let r = judged (c .before) in
     let s = entry r in
     call-refused (s .args .state) (store s) (s .args .text .now) area (passed (past r) area l) (call r) (read r) (answer (c .before)) (λ z. omega arith)
 
 returns-4 : tie.Need-returns-4
-unfolding JudgedAs
 returns-4 c area l =
     let r = judged (c .before) in
     let s = entry r in
-    record {
-      host = passed (past r) area l;
-      call = sym (answer (c .before)) ∙ c .if2 .left;
-      done = call-done (s .args .state) (store s) (s .args .text .now) area (passed (past r) area l) (call r) (read r);
-    }
+    call-accepted (s .args .state) (store s) (s .args .text .now) area (passed (past r) area l) (call r) (read r)
+    (sym (answer (c .before)) ∙ c .if2 .left)
 
 pub judge-spec : {M : Type 1} → statement M
 judge-spec =
