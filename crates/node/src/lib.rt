@@ -5,6 +5,9 @@ use operator::Operator;
 use protocol::Phase;
 use settings::Settings;
 
+// Lines that a state has room for: as many as the settings allow.
+pub const HEADS: usize = 8;
+
 // What the state knows of a line; its kept readings stand in the store.
 pub struct LineHead {
     pub boundary: ReadingTime,
@@ -17,7 +20,7 @@ pub struct LineHead {
 pub struct State {
     pub operator: Operator,
     pub checkpoint: Operator,
-    pub heads: [LineHead; 8],
+    pub heads: [LineHead; HEADS],
     pub settings: Settings,
     pub clock: ArrivalTick,
     pub c: u32,

@@ -36,7 +36,7 @@ fn fresh_state(s: Settings) -> State
     State {
         operator: operator,
         checkpoint: operator,
-        heads: [none; 8],
+        heads: [none; node::HEADS],
         settings: s,
         clock: ArrivalTick(0),
         c: 0,

@@ -23,6 +23,9 @@ use store::Reading;
 // How many meters there are.
 pub const METERS: usize = 64;
 
+// The same as the limit of a byte that names a meter.
+pub const METER_LIMIT: u8 = 64;
+
 // The largest count of a meter.
 pub const COUNT_LIMIT: u32 = 32_768;
 
@@ -34,7 +37,7 @@ pub struct Meter {
 
 // The number is the id of the newest result, 0 if there is none.
 pub struct Operator {
-    pub meters: [Meter; 64],
+    pub meters: [Meter; METERS],
     pub number: u64,
 }
 
@@ -118,7 +121,7 @@ impl Operator {
             last: 0,
         };
         Operator {
-            meters: [none; 64],
+            meters: [none; METERS],
             number: 0,
         }
     }
@@ -132,7 +135,7 @@ impl Operator {
             count: 0,
             last: 0,
         };
-        self.meters = [none; 64];
+        self.meters = [none; METERS];
         self
     }
 

@@ -25,7 +25,7 @@ pub fn add_places(
     ensures { λ r. ⌜ Passed s (now (times .entry)) (now (values .entry)) (now (meters .entry)) (now (places .entry)) o r ⌝ }
     ensures { λ r. ⌜ Every (λ m. InRange (m .sum) (m .count)) (r .meters) ⌝ }
 {
-    let mut newest = [0u32; 64];
+    let mut newest = [0u32; operator::METERS];
     let mut k = 0;
     while k < places.len() {
         let at = places[k] as usize;

@@ -101,13 +101,13 @@ fn play_lines(
 
 // Plays a journal from standard input to standard output: first the settings line, then journal lines, to the end.
 pub fn run() {
-    let mut ids = [0u32; 2048];
-    let mut times = [0u32; 2048];
-    let mut values = [0i32; 2048];
-    let mut arrivals = [0u32; 2048];
-    let mut kinds = [0u8; 2048];
-    let mut meters = [0u8; 2048];
-    let mut area = [0u8; 2080];
+    let mut ids = [0u32; store::MOST_PLACES];
+    let mut times = [0u32; store::MOST_PLACES];
+    let mut values = [0i32; store::MOST_PLACES];
+    let mut arrivals = [0u32; store::MOST_PLACES];
+    let mut kinds = [0u8; store::MOST_PLACES];
+    let mut meters = [0u8; store::MOST_PLACES];
+    let mut area = [0u8; shape::AREA_BYTES];
     let mut buf = io::large_buffer();
     let mut out = io::large_buffer();
     let started = setup::start(

@@ -82,7 +82,7 @@ fn is_field_unused(k: Call) -> bool
 fn is_wrong_meter(meter: u8, kind: u8) -> bool
     ensures { λ r. ⌜ r ≡ wrongMeter meter (kindOf kind) ⌝ }
 {
-    is_reading(kind) & (64 <= meter)
+    is_reading(kind) & (operator::METER_LIMIT <= meter)
 }
 
 // Refusal 11: not the next id of a reading, or an undo to an id that cannot be undone to.
@@ -160,7 +160,13 @@ fn line_refusal(head: LineHead, kinds: &[u8], base: usize, k: Call) -> u32
 }
 
 // The number of the first refusal that fits a call, 0 if none does.
-pub fn refusal(s: Settings, clock: ArrivalTick, heads: [LineHead; 8], kinds: &[u8], k: Call) -> u32
+pub fn refusal(
+    s: Settings,
+    clock: ArrivalTick,
+    heads: [LineHead; node::HEADS],
+    kinds: &[u8],
+    k: Call,
+) -> u32
     requires { ⌜ (s .lines ≤ 8) × (s .lines * readingsPerLine ≤ length (now kinds)) × Every (λ h. h .kept ≤ readingsPerLine) (take (s .lines) heads) ⌝ }
     ensures { λ r. ⌜ ((st : Whole) → (x : Columns) → st .settings ≡ s → st .clock ≡ clock → st .heads ≡ heads → x .kinds ≡ now (kinds .entry) → s .lines * readingsPerLine ≤ storeLength x → r ≡ answerTo s (view st x) k) ⌝ }
 {

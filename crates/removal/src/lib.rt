@@ -66,7 +66,7 @@ pub fn remove_bucket(
     ensures { λ r. ⌜ r ≡ length (keep (λ q. not (isIn bucket j q)) (rowsFrom (columnsOf (now (ids .entry)) (now (times .entry)) (now (values .entry)) (now (arrivals .entry)) (now (kinds .entry)) (now (meters .entry))) base n)) ⌝ }
     ensures { λ _. ⌜ columnsOf (now (ids .exit)) (now (times .exit)) (now (values .exit)) (now (arrivals .exit)) (now (kinds .exit)) (now (meters .exit)) ≡ withKept (columnsOf (now (ids .entry)) (now (times .entry)) (now (values .entry)) (now (arrivals .entry)) (now (kinds .entry)) (now (meters .entry))) base n (keep (λ q. not (isIn bucket j q)) (rowsFrom (columnsOf (now (ids .entry)) (now (times .entry)) (now (values .entry)) (now (arrivals .entry)) (now (kinds .entry)) (now (meters .entry))) base n)) ⌝ }
 {
-    let mut space = [0u16; 256];
+    let mut space = [0u16; store::READINGS_PER_LINE];
     let places: &mut [u16] = &mut space;
     let k = places::select(times, base, n, bucket, j, false, places);
     if k < n {

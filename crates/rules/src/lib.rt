@@ -18,7 +18,7 @@ use protocol::Rule;
 use settings::Settings;
 
 // Whether bucket j is stable.
-fn is_stable(s: Settings, heads: [LineHead; 8], j: u32) -> bool
+fn is_stable(s: Settings, heads: [LineHead; node::HEADS], j: u32) -> bool
     requires { ⌜ s .lines ≤ 8 ⌝ }
     ensures { λ r. ⌜ ((x : Columns) → r ≡ isStable s j (viewLines (s .lines) heads (rows x (s .lines * readingsPerLine)))) ⌝ }
 {
@@ -46,7 +46,7 @@ fn is_correcting(phase: Phase) -> bool
 // Whether a kept reading of bucket p or later has waited out the hold.
 fn some_overdue(
     s: Settings,
-    heads: [LineHead; 8],
+    heads: [LineHead; node::HEADS],
     times: &[u32],
     arrivals: &[u32],
     p: u32,

@@ -35,9 +35,6 @@ const LAST_BUCKET: u32 = 42_949_673;
 // Results that one bucket can give.
 const RESULTS_PER_BUCKET: u64 = 64;
 
-// Meters, as a byte's limit.
-const METERS: u8 = 64;
-
 // Whether some column has no room for the shares of so many lines.
 pub fn is_short(
     lines: u32,
@@ -68,13 +65,14 @@ fn is_share_ok(ids: &[u32], kinds: &[u8], meters: &[u8], base: usize, n: usize) 
     requires { ⌜ (base + n ≤ length (now ids)) × (base + n ≤ length (now kinds)) × (base + n ≤ length (now meters)) ⌝ }
     ensures { λ r. ⌜ r ≡ shareOk base n (now (ids .entry)) (now (kinds .entry)) (now (meters .entry)) ⌝ }
 {
-    (columns::are_readings(kinds, base, n) & columns::are_below(meters, base, n, METERS))
+    (columns::are_readings(kinds, base, n)
+        & columns::are_below(meters, base, n, operator::METER_LIMIT))
         & columns::ids_rise(ids, base, n)
 }
 
 // Whether the first `lines` heads and the readings that they keep are in shape.
 fn are_lines_ok(
-    heads: [LineHead; 8],
+    heads: [LineHead; node::HEADS],
     lines: usize,
     ids: &[u32],
     kinds: &[u8],

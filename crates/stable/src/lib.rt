@@ -27,7 +27,7 @@ use settings::Settings;
 // Takes bucket j's readings out of every line's share; answers the heads.
 fn remove(
     s: Settings,
-    heads: [LineHead; 8],
+    heads: [LineHead; node::HEADS],
     ids: &mut [u32],
     times: &mut [u32],
     values: &mut [i32],
@@ -35,7 +35,7 @@ fn remove(
     kinds: &mut [u8],
     meters: &mut [u8],
     j: u32,
-) -> [LineHead; 8]
+) -> [LineHead; node::HEADS]
     requires { ⌜ (s .lines ≤ 8) × (0 < s .bucket) × (s .lines * readingsPerLine ≤ storeLength (columnsOf (now ids) (now times) (now values) (now arrivals) (now kinds) (now meters))) × Every (λ h. h .kept ≤ readingsPerLine) (take (s .lines) heads) ⌝ }
     ensures { λ r. ⌜ r ≡ headsWith heads (map (without s j) (viewLines (s .lines) heads (rows (columnsOf (now (ids .entry)) (now (times .entry)) (now (values .entry)) (now (arrivals .entry)) (now (kinds .entry)) (now (meters .entry))) (s .lines * readingsPerLine)))) ⌝ }
     ensures { λ _. ⌜ columnsOf (now (ids .exit)) (now (times .exit)) (now (values .exit)) (now (arrivals .exit)) (now (kinds .exit)) (now (meters .exit)) ≡ withRows (columnsOf (now (ids .entry)) (now (times .entry)) (now (values .entry)) (now (arrivals .entry)) (now (kinds .entry)) (now (meters .entry))) (sharesWith heads (rows (columnsOf (now (ids .entry)) (now (times .entry)) (now (values .entry)) (now (arrivals .entry)) (now (kinds .entry)) (now (meters .entry))) (s .lines * readingsPerLine)) (map (without s j) (viewLines (s .lines) heads (rows (columnsOf (now (ids .entry)) (now (times .entry)) (now (values .entry)) (now (arrivals .entry)) (now (kinds .entry)) (now (meters .entry))) (s .lines * readingsPerLine))))) ⌝ }

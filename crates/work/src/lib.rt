@@ -23,12 +23,12 @@ use node::State;
 use operator::Operator;
 
 // How many readings each line keeps.
-fn kept_of(heads: [LineHead; 8]) -> [u32; 8]
+fn kept_of(heads: [LineHead; node::HEADS]) -> [u32; node::HEADS]
     ensures { λ r. ⌜ r ≡ map (λ (h : Head). h .kept) heads ⌝ }
 {
-    let mut kept = [0u32; 8];
+    let mut kept = [0u32; node::HEADS];
     let mut i = 0;
-    while i < 8 {
+    while i < node::HEADS {
         let h = heads[i];
         kept[i] = h.kept;
         i += 1;
@@ -57,7 +57,7 @@ fn added(
     let kept = kept_of(heads);
     let counts: &[u32] = &kept;
     let lines = settings.lines as usize;
-    let mut space = [0u16; 2048];
+    let mut space = [0u16; store::MOST_PLACES];
     let places: &mut [u16] = &mut space;
     let n = shares::bucket_places(times, &counts[0..lines], settings.bucket, j, places);
     let all = &places[..];
