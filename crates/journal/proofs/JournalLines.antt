@@ -16,7 +16,7 @@ use Rattle.fields.specs.Field.{endsLine, numberField, integerField, withNumber,
 use Rattle.fields.proofs.Spells.{Spells, spells-append}
 use Rattle.fields.proofs.Fields.{picked, number-field-sound, number-field-complete, integer-field-sound, integer-field-complete, with-number, with-integer, end-sound, end-complete}
 use Rattle.fields.specs.Keys.{nowKey, lineKey, kindKey, idKey, timeKey, meterKey, valueKey, first, later}
-use Rattle.journal.specs.JournalLine.{lineText, tailAt, callAt, CallFits}
+use Rattle.journal.specs.JournalLine.{lineText, callAt, CallFits}
 use Rattle.journal.specs.JournalParts.{callHead, callTail}
 use Rattle.journal.specs.declared.Call.{Call}
 use Rattle.journal.specs.declared.CallAt.{CallAt}
@@ -44,7 +44,7 @@ Claim s at CallAt.Malformed = Unit {0}
 
 -- what is read is what the text spells
 pub call-sound : (s : List ℕ) (at f : ℕ) (c : Call) → callAt s at ≡ CallAt.Line c f → Spells s at (lineText c) f × CallFits c
-unfolding callAt tailAt callHead callTail decimal
+unfolding callAt callHead callTail decimal
 call-sound s at f c q =
     let z = CallAt.Malformed in
     let y = CallAt.Line c f in
@@ -92,7 +92,7 @@ call-sound s at f c q =
 
 -- what the text spells is read
 pub call-complete : (s r : List ℕ) (at : ℕ) (c : Call) → CallFits c → drop at s ≡ lineText c ++ r → callAt s at ≡ CallAt.Line c (at + length (lineText c))
-unfolding callAt tailAt callHead callTail decimal withNumber withInteger isDigit
+unfolding callAt callHead callTail decimal withNumber withInteger isDigit
 call-complete s r at c fit p =
     let most : 2 ^ 32 - 1 < 2 ^ 32 = omega arith in
     let byte : 255 < 2 ^ 32 = omega arith in

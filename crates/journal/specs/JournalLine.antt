@@ -51,14 +51,17 @@ letterAt s at = cond (isLetter (getD s at 0)) (Number.Value (getD s at 0) (at + 
 unfoldable pub letterField : List ℕ → List ℕ → ℕ → Number
 letterField key s at = cond (startsWith key (drop at s)) (letterAt s (at + length key)) Number.Malformed
 
--- what the text s has from `at` on, with the place behind it, or none: a journal line from its id on, behind the three fields that are given
-unfoldable pub tailAt : List ℕ → ℕ → ℕ → ℕ → ℕ → CallAt
-tailAt s now line kind at =
-    withNumber (numberField (later idKey) (2 ^ 32 - 1) s at) CallAt.Malformed λ id e1.
-    withNumber (numberField (later timeKey) (2 ^ 32 - 1) s e1) CallAt.Malformed λ time e2.
-    withNumber (numberField (later meterKey) 255 s e2) CallAt.Malformed λ meter e3.
-    withInteger (integerField (later valueKey) s e3) CallAt.Malformed λ value e4.
-    cond (endsLine s e4)
+-- what the text s has from `at` on: a journal line, with the place behind it, or none
+unfoldable pub callAt : List ℕ → ℕ → CallAt
+callAt s at =
+    withNumber (numberField (first nowKey) (2 ^ 32 - 1) s at) CallAt.Malformed λ now e1.
+    withNumber (numberField (later lineKey) 255 s e1) CallAt.Malformed λ line e2.
+    withNumber (letterField (later kindKey) s e2) CallAt.Malformed λ kind e3.
+    withNumber (numberField (later idKey) (2 ^ 32 - 1) s e3) CallAt.Malformed λ id e4.
+    withNumber (numberField (later timeKey) (2 ^ 32 - 1) s e4) CallAt.Malformed λ time e5.
+    withNumber (numberField (later meterKey) 255 s e5) CallAt.Malformed λ meter e6.
+    withInteger (integerField (later valueKey) s e6) CallAt.Malformed λ value e7.
+    cond (endsLine s e7)
     (CallAt.Line
     (record {
       now = record { 0 = now };
@@ -69,15 +72,8 @@ tailAt s now line kind at =
       kind = kind;
       meter = meter;
     })
-    (e4 + 1))
+    (e7 + 1))
     CallAt.Malformed
-
--- a whole journal line
-unfoldable pub callAt : List ℕ → ℕ → CallAt
-callAt s at =
-    withNumber (numberField (first nowKey) (2 ^ 32 - 1) s at) CallAt.Malformed λ now e1.
-    withNumber (numberField (later lineKey) 255 s e1) CallAt.Malformed λ line e2.
-    withNumber (letterField (later kindKey) s e2) CallAt.Malformed λ kind e3. tailAt s now line kind e3
 
 -- the line must be the whole text
 unfoldable pub whole : List ℕ → CallAt → CallRead

@@ -1,7 +1,7 @@
 // The journal line: one call, and the reader of its text.
 ghost use mathlib.Core.Path.{_≡_};
 ghost use Rattle.journal.specs.Kinds.{isLetter};
-ghost use Rattle.journal.specs.JournalLine.{letterAt, letterField, tailAt, callAt, callOf, hasForm, ExactCall};
+ghost use Rattle.journal.specs.JournalLine.{letterAt, letterField, callAt, callOf, hasForm, ExactCall};
 use clock::ArrivalTick;
 use clock::ReadingTime;
 use decimal::Integer;
@@ -83,40 +83,6 @@ fn letter_field(s: &[u8], at: usize, key: &[u8]) -> Number
     }
 }
 
-// The journal line whose first three fields are given and whose others the text has from `at` on.
-fn tail_at(s: &[u8], tick: u32, line: u8, kind: u8, at: usize) -> CallAt
-    ensures { λ r. ⌜ r ≡ tailAt (now (s .entry)) tick line kind at ⌝ }
-{
-    let Number::Value(id, e1) = fields::number_field(s, at, b" id=", WORD) else {
-        return CallAt::Malformed;
-    };
-    let Number::Value(time, e2) = fields::number_field(s, e1, b" time=", WORD) else {
-        return CallAt::Malformed;
-    };
-    let Number::Value(meter, e3) = fields::number_field(s, e2, b" meter=", BYTE) else {
-        return CallAt::Malformed;
-    };
-    let Integer::Value(value, e4) = fields::integer_field(s, e3, b" value=") else {
-        return CallAt::Malformed;
-    };
-    if fields::ends_line(s, e4) {
-        CallAt::Line(
-            Call {
-                now: ArrivalTick(tick),
-                id: id,
-                time: ReadingTime(time),
-                value: value,
-                line: line,
-                kind: kind,
-                meter: meter as u8,
-            },
-            e4 + 1,
-        )
-    } else {
-        CallAt::Malformed
-    }
-}
-
 // The journal line that the text has from `at` on.
 fn call_at(s: &[u8], at: usize) -> CallAt
     ensures { λ r. ⌜ r ≡ callAt (now (s .entry)) at ⌝ }
@@ -130,7 +96,34 @@ fn call_at(s: &[u8], at: usize) -> CallAt
     let Number::Value(kind, e3) = letter_field(s, e2, b" kind=") else {
         return CallAt::Malformed;
     };
-    tail_at(s, now, line as u8, kind as u8, e3)
+    let Number::Value(id, e4) = fields::number_field(s, e3, b" id=", WORD) else {
+        return CallAt::Malformed;
+    };
+    let Number::Value(time, e5) = fields::number_field(s, e4, b" time=", WORD) else {
+        return CallAt::Malformed;
+    };
+    let Number::Value(meter, e6) = fields::number_field(s, e5, b" meter=", BYTE) else {
+        return CallAt::Malformed;
+    };
+    let Integer::Value(value, e7) = fields::integer_field(s, e6, b" value=") else {
+        return CallAt::Malformed;
+    };
+    if fields::ends_line(s, e7) {
+        CallAt::Line(
+            Call {
+                now: ArrivalTick(now),
+                id: id,
+                time: ReadingTime(time),
+                value: value,
+                line: line as u8,
+                kind: kind as u8,
+                meter: meter as u8,
+            },
+            e7 + 1,
+        )
+    } else {
+        CallAt::Malformed
+    }
 }
 
 // What a call's text is read as: the call whose line it is, or refusal 6.
