@@ -1,9 +1,9 @@
 //! The merge box of document 01 as a plain reference, to compare other implementations with.
 
-pub mod day_book;
 pub mod definitions;
 pub mod differential;
 pub mod generate;
+pub mod monitor;
 pub mod node;
 pub mod playback;
 pub mod record;

@@ -44,7 +44,7 @@ impl Record {
         }
     }
 
-    /// The closing mark, which has neither.
+    /// An R, document 01's closing mark, which has neither.
     pub fn done() -> Self {
         Record {
             kind: DONE,

@@ -2,9 +2,9 @@
 
 mod common;
 
-use common::twin::twin;
-use reference::day_book::{check, check_replicas, Run};
+use common::replica::replica;
 use reference::generate::{journal, Kind, Random};
+use reference::monitor::{check, check_replicas, Run};
 use reference::node::{Reading, State, Word, SHARE};
 use reference::record::AREA_BYTES;
 use reference::text::{next_line, read_call, Call};
@@ -45,7 +45,7 @@ fn play(kind: Kind, seed: u64, lines: u64, tally: &mut Tally) -> Option<(Run, Ve
         if random.once_in(60) {
             check(&run.watch).unwrap();
             check_facts(&run, &accepted);
-            if run.watch.book.left() < FAR {
+            if run.watch.monitor.left() < FAR {
                 let pace = random.pick(&[0, 1, 60, 900_000]);
                 run.clone().settle(pace).unwrap();
             }
@@ -55,12 +55,13 @@ fn play(kind: Kind, seed: u64, lines: u64, tally: &mut Tally) -> Option<(Run, Ve
     Some((run, accepted))
 }
 
-/// Facts that hold of every list from a fresh opening (decision A44).
+/// What ties the node to the monitor after any list of calls from a fresh opening, and what is
+/// then so of each line.
 fn check_facts(run: &Run, accepted: &[Call]) {
-    let (state, book) = (&run.state, &run.watch.book);
-    assert_eq!((state.c, state.p), (book.d(), book.t()));
-    assert_eq!(state.word == Word::Correcting, book.mark());
-    assert_eq!(state.word == Word::Failure, book.t() > book.d());
+    let (state, monitor) = (&run.state, &run.watch.monitor);
+    assert_eq!((state.c, state.p), (monitor.d(), monitor.t()));
+    assert_eq!(state.word == Word::Correcting, monitor.mark());
+    assert_eq!(state.word == Word::Failure, monitor.t() > monitor.d());
     if state.p == state.c {
         assert_eq!(state.operator, state.checkpoint);
     }
@@ -95,7 +96,7 @@ fn play_all(kind: Kind, seeds: std::ops::Range<u64>, lines: u64) -> Tally {
         };
         let mut random = Random::new(seed ^ 0xFF);
         check(&run.watch).unwrap();
-        let left = run.watch.book.left();
+        let left = run.watch.monitor.left();
         if left >= TOO_FAR || (left >= FAR && seed % 10 != 0) {
             continue;
         }
@@ -103,7 +104,7 @@ fn play_all(kind: Kind, seeds: std::ops::Range<u64>, lines: u64) -> Tally {
         check(&run.watch).unwrap();
         check_facts(&run, &accepted);
         tally.results += run.watch.output.stable().unwrap().len();
-        if let Some(mut other) = twin(&run, &accepted, &mut random) {
+        if let Some(mut other) = replica(&run, &accepted, &mut random) {
             check(&other.watch).unwrap();
             other.settle(1).unwrap();
             check(&other.watch).unwrap();

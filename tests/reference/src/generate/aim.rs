@@ -189,7 +189,7 @@ fn spoilt_id(random: &mut Random, head: &Head, id: u32) -> u32 {
     random.pick(&[off, off, below, above, any])
 }
 
-/// Makes it a stable reading, a boundary or a closing mark of a line that keeps a tentative one.
+/// Makes it a stable reading, a boundary or an R of a line that keeps a tentative one.
 fn spoil_tentative(random: &mut Random, state: &State, store: &[Reading], call: &mut Call) {
     let kind = random.pick(&[STABLE, BOUNDARY, DONE]);
     for line in 0..line_count(state) as usize {

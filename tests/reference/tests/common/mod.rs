@@ -3,7 +3,7 @@
 
 pub mod literal;
 mod literal_step;
-pub mod twin;
+pub mod replica;
 
 use reference::node::{call, open, Meter, Reading, State, LINES, SHARE};
 use reference::record::{decode, Record, AREA_BYTES, RECORD_BYTES};

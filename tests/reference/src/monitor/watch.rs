@@ -2,14 +2,14 @@
 
 use super::failure_free::failure_free;
 use super::output::Output;
-use super::DayBook;
+use super::Monitor;
 use crate::text::{Call, Settings, STABLE};
 
-/// What demand 3 speaks of: the day book, the accepted stable readings and the output.
+/// What demand 3 speaks of: the monitor, the accepted stable readings and the output.
 #[derive(Clone, Debug)]
 pub struct Watch {
     pub settings: Settings,
-    pub book: DayBook,
+    pub monitor: Monitor,
     pub stable: Vec<Call>,
     pub output: Output,
 }
@@ -19,7 +19,7 @@ impl Watch {
     pub fn new(settings: Settings) -> Self {
         Watch {
             settings,
-            book: DayBook::new(settings),
+            monitor: Monitor::new(settings),
             stable: Vec::new(),
             output: Output::default(),
         }
@@ -31,7 +31,7 @@ impl Watch {
         if !accepted && !records.is_empty() {
             return Err("records from a refused call".into());
         }
-        self.book.note(call, accepted);
+        self.monitor.note(call, accepted);
         if let Some(call) = call.filter(|call| accepted && call.kind == STABLE) {
             self.stable.push(*call);
         }
@@ -46,20 +46,20 @@ pub fn check(watch: &Watch) -> Result<(), String> {
     if watch.output.struck_stable() {
         return Err("an undo has struck a stable result".into());
     }
-    let due = failure_free(&watch.settings, &watch.stable, watch.book.d());
+    let due = failure_free(&watch.settings, &watch.stable, watch.monitor.d());
     if stable != due {
         return Err(format!("stable results {stable:?}, failure-free {due:?}"));
     }
     Ok(())
 }
 
-/// The end of demand 3: after the k + 2 steps no stable bucket is left and no mark is due.
+/// The end of demand 3: after the k + 2 steps no stable bucket is left and no undo waits for its R.
 pub fn check_settled(watch: &Watch) -> Result<(), String> {
-    if watch.book.left() != 0 {
-        return Err(format!("{} stable buckets left", watch.book.left()));
+    if watch.monitor.left() != 0 {
+        return Err(format!("{} stable buckets left", watch.monitor.left()));
     }
-    if watch.output.mark_due() || watch.book.mark() {
-        return Err("a closing mark is due".into());
+    if watch.output.mark_due() || watch.monitor.mark() {
+        return Err("an undo waits for its R".into());
     }
     Ok(())
 }

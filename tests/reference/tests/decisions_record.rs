@@ -1,4 +1,4 @@
-//! Decisions A20 to A22 on the writing of records and journal lines, a small test for each.
+//! Decisions on the writing of records and journal lines, a small test for each.
 
 mod common;
 
@@ -15,9 +15,9 @@ fn text_of(record: &Record) -> String {
     String::from_utf8(area[..length].to_vec()).unwrap()
 }
 
-// A20: only the two zero bytes must be zero; any other field is put into text as it stands.
+// Only the two zero bytes must be zero; any other field is put into text as it stands.
 #[test]
-fn a20_record_texts() {
+fn record_texts() {
     let mut record = Record::undo(7);
     record.count = 5;
     record.meter = 255;
@@ -55,9 +55,9 @@ fn a20_record_texts() {
     );
 }
 
-// A20: the layout, low byte first.
+// The layout, low byte first.
 #[test]
-fn a20_record_bytes() {
+fn record_bytes() {
     let record = Record {
         kind: b'T',
         meter: 3,
@@ -74,9 +74,9 @@ fn a20_record_bytes() {
     assert_eq!(encode(&record).to_vec(), due);
 }
 
-// A21: a record's text needs its own length, the journal writer always 89; 6 before 5.
+// A record's text needs its own length, the journal writer always 89; 6 before 5.
 #[test]
-fn a21_areas_of_texts() {
+fn areas_of_texts() {
     let bytes = encode(&Record::done());
     let length = text_of(&Record::done()).len();
     assert_eq!(record_text(&bytes, &mut vec![0; length]), Ok(length));
@@ -94,9 +94,9 @@ fn a21_areas_of_texts() {
     assert!(area[length..].iter().all(|&byte| byte == UNTOUCHED));
 }
 
-// A22: the writer takes the kind as a byte and refuses all but the six letters.
+// The writer takes the kind as a byte and refuses all but the six letters.
 #[test]
-fn a22_kinds_without_a_letter() {
+fn kinds_without_a_letter() {
     for kind in 0..=255 {
         let call = Call {
             kind,
@@ -114,9 +114,9 @@ fn a22_kinds_without_a_letter() {
     }
 }
 
-// A22: a written line reads back as written, up to the longest.
+// A written line reads back as written, up to the longest.
 #[test]
-fn a22_written_lines_read_back() {
+fn written_lines_read_back() {
     let mut random = Random::new(22);
     for _ in 0..20_000 {
         let call = any_call(&mut random);

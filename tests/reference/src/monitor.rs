@@ -1,4 +1,5 @@
-//! The day book (document 01, section 'From the opening on'), with code of its own throughout.
+//! The monitor, which is document 01's day book (section 'From the opening on'), and the checks of
+//! demand 3 that rest on it, with code of its own throughout.
 
 mod failure_free;
 mod output;
@@ -14,7 +15,7 @@ pub use watch::{check, check_settled, Watch};
 
 use crate::text::{Call, Settings, BOUNDARY, STABLE, STEP, TENTATIVE, UNDO};
 
-/// A reading noted in the day book.
+/// A reading that the monitor has noted.
 #[derive(Clone, Copy, Debug)]
 struct Noted {
     line: u8,
@@ -23,9 +24,10 @@ struct Noted {
     arrival: u32,
 }
 
-/// What the day book keeps, fed with accepted and refused calls alike.
+/// Document 01's day book: it follows a list of calls by the settings, each call's fields and
+/// whether it was accepted, and looks at nothing else of the box.
 #[derive(Clone, Debug)]
-pub struct DayBook {
+pub struct Monitor {
     settings: Settings,
     noted: Vec<Noted>,
     boundaries: Vec<u32>,
@@ -34,10 +36,10 @@ pub struct DayBook {
     mark: bool,
 }
 
-impl DayBook {
-    /// The day book of a fresh opening with settings within their limits.
+impl Monitor {
+    /// The monitor at a fresh opening with settings within their limits.
     pub fn new(settings: Settings) -> Self {
-        DayBook {
+        Monitor {
             settings,
             noted: Vec::new(),
             boundaries: vec![0; settings.lines as usize],
@@ -57,7 +59,7 @@ impl DayBook {
         self.t
     }
 
-    /// Whether a withdrawal waits for its closing mark.
+    /// Whether a withdrawal waits for the R record that ends it.
     pub fn mark(&self) -> bool {
         self.mark
     }

@@ -6,13 +6,13 @@ use crate::text::Call;
 /// Whether demand 3 ties two boxes: same settings, same stable input, same boundaries.
 pub fn are_replicas(one: &Watch, other: &Watch) -> bool {
     one.settings == other.settings
-        && one.book.boundaries() == other.book.boundaries()
+        && one.monitor.boundaries() == other.monitor.boundaries()
         && (1..=one.settings.lines).all(|line| of_line(one, line) == of_line(other, line))
 }
 
 /// The second part of demand 3; false where it does not speak of these two boxes.
 pub fn check_replicas(one: &Watch, other: &Watch) -> Result<bool, String> {
-    if one.book.left() > 0 || other.book.left() > 0 || !are_replicas(one, other) {
+    if one.monitor.left() > 0 || other.monitor.left() > 0 || !are_replicas(one, other) {
         return Ok(false);
     }
     if one.output.stable()? != other.output.stable()? {

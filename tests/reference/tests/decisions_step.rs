@@ -1,4 +1,4 @@
-//! Decisions A34 to A42 on the step, a small test for each.
+//! Decisions on the step and on the operator, a small test for each.
 
 mod common;
 
@@ -8,9 +8,9 @@ use reference::record::Record;
 
 const DOUBLE: &str = "lines=1 bucket=100 window=2 hold=50 low=-1000 high=1000\n";
 
-// A34: one boundary for each window, also for an empty one, and never from tentative work.
+// One boundary for each window, also for an empty one, and never from tentative work.
 #[test]
-fn a34_boundaries_put_out() {
+fn boundaries_put_out() {
     let mut bench = Bench::open(DOUBLE);
     assert_eq!(bench.send(boundary(0, 1, 400)), 0);
     assert_eq!(bench.step(0), []);
@@ -24,9 +24,9 @@ fn a34_boundaries_put_out() {
     assert_eq!(results[0].kind, b'T');
 }
 
-// A35: a result's time is the start of its window, stable or tentative.
+// A result's time is the start of its window, stable or tentative.
 #[test]
-fn a35_times_of_results() {
+fn times_of_results() {
     let mut bench = Bench::open(DOUBLE);
     assert_eq!(bench.send(reading(0, 1, 'S', 1, 250, 4)), 0);
     assert_eq!(bench.send(reading(0, 1, 'S', 2, 310, 6)), 0);
@@ -44,9 +44,9 @@ fn a35_times_of_results() {
     assert_eq!(stable[1], Record::boundary(400));
 }
 
-// A36: after an undo the numbering goes on from the last stable result.
+// After an undo the numbering goes on from the last stable result.
 #[test]
-fn a36_numbering() {
+fn numbering() {
     let mut bench = Bench::open(SINGLE);
     assert_eq!(bench.send(reading(0, 1, 'S', 1, 10, 1)), 0);
     assert_eq!(bench.send(boundary(0, 1, 100)), 0);
@@ -63,9 +63,10 @@ fn a36_numbering() {
     assert_eq!(bench.state.checkpoint.newest, 2);
 }
 
-// A37: working a stable bucket leaves the word, and the closing mark goes before tentative work.
+// Working a stable bucket leaves the word, and the R that ends a correction goes before
+// tentative work.
 #[test]
-fn a37_words() {
+fn words() {
     let mut bench = Bench::open(SINGLE);
     assert_eq!(bench.send(reading(0, 1, 'S', 1, 10, 1)), 0);
     assert_eq!(bench.send(reading(0, 1, 'S', 2, 310, 1)), 0);
@@ -88,9 +89,9 @@ fn a37_words() {
     assert_eq!(words, due);
 }
 
-// A38: one due reading far ahead makes every bucket up to its own be worked, one a step.
+// One due reading far ahead makes every bucket up to its own be worked, one a step.
 #[test]
-fn a38_far_reading() {
+fn far_reading() {
     let mut bench = Bench::open(SINGLE);
     assert_eq!(bench.send(reading(0, 1, 'S', 1, 310, 7)), 0);
     assert_eq!(bench.send(reading(40, 1, 'S', 2, 210, 5)), 0);
@@ -105,9 +106,9 @@ fn a38_far_reading() {
     assert_eq!(bench.state.p, 4);
 }
 
-// A39: the readings of a bucket may stand anywhere in a share.
+// The readings of a bucket may stand anywhere in a share.
 #[test]
-fn a39_close_up() {
+fn close_up() {
     let mut bench = Bench::open(USUAL);
     for (id, time) in [(1, 150), (2, 50), (3, 160), (4, 60), (5, 50), (6, 110)] {
         assert_eq!(bench.send(reading(0, 1, 'S', id, time, 1)), 0);
@@ -120,9 +121,9 @@ fn a39_close_up() {
     assert_eq!(bench.store[3..6], [Reading::ZERO; 3]);
 }
 
-// A40: the mean of negative sums, and at the ends of 32 bits.
+// The mean of negative sums, and at the ends of 32 bits.
 #[test]
-fn a40_means() {
+fn means() {
     let cases = [
         (0, 3, 0),
         (1, 2, 1),
@@ -149,9 +150,9 @@ fn a40_means() {
     assert_eq!(mean(i64::MAX, 1), i64::MAX);
 }
 
-// A41: the last value by time, line and id among those inside the limits.
+// The last value by time, line and id among those inside the limits.
 #[test]
-fn a41_last_value() {
+fn last_value() {
     let mut bench = Bench::open(USUAL);
     assert_eq!(bench.send(reading(0, 1, 'S', 1, 80, 1)), 0);
     assert_eq!(bench.send(reading(0, 1, 'S', 2, 20, 2)), 0);
@@ -170,9 +171,9 @@ fn a41_last_value() {
     assert_eq!(handed.step(0)[0].last, 9);
 }
 
-// A42: a value outside the limits is kept and makes a bucket due, but gives no result.
+// A value outside the limits is kept and makes a bucket due, but gives no result.
 #[test]
-fn a42_values_outside() {
+fn values_outside() {
     let mut bench = Bench::open(SINGLE);
     for (id, value) in [(1, 1_001), (2, -1_001)] {
         assert_eq!(bench.send(reading(0, 1, 'S', id, 10, value)), 0);

@@ -62,7 +62,7 @@ impl Run {
 
     /// The third part of demand 3: k + 2 steps, each some ticks after the one before, settle it.
     pub fn settle(&mut self, pace: u32) -> Result<(), String> {
-        for _ in 0..self.watch.book.left() + 2 {
+        for _ in 0..self.watch.monitor.left() + 2 {
             let now = self.state.clock.saturating_add(pace);
             let answer = self.step(now)?;
             if answer != 0 {

@@ -1,4 +1,4 @@
-//! Decisions A18, A19 and A23 on the reading of texts, a small test for each.
+//! Decisions on the reading of texts, a small test for each.
 
 mod common;
 
@@ -22,9 +22,9 @@ fn with_number(field: &str, number: &str) -> Vec<u8> {
     changed(field, &format!("{key}{number}"))
 }
 
-// A18: numbers not of the form or past their ranges are 6.
+// Numbers not of the form or past their ranges are 6.
 #[test]
-fn a18_numbers_without_the_form() {
+fn numbers_without_the_form() {
     let run = "9".repeat(10_000);
     let numbers = [
         "-0", "+1", "00", "01", "", "1x", " 1", "1 ", "0x1", "1.0", "-", &run,
@@ -50,9 +50,9 @@ fn a18_numbers_without_the_form() {
     }
 }
 
-// A18: so is everything else that is not exactly the form.
+// So is everything else that is not exactly the form.
 #[test]
-fn a18_texts_without_the_form() {
+fn texts_without_the_form() {
     for (from, to) in [
         ("kind=S", "kind=s"),
         ("kind=S", "kind=X"),
@@ -78,9 +78,9 @@ fn a18_texts_without_the_form() {
     }
 }
 
-// A18: numbers inside the form but refused later.
+// Numbers inside the form but refused later.
 #[test]
-fn a18_texts_with_the_form() {
+fn texts_with_the_form() {
     let answers = [
         ("line=1", "line=255", 8),
         ("line=1", "line=0", 8),
@@ -104,9 +104,9 @@ fn settings_answer(text: &str) -> u32 {
     answer(&read_settings(text.as_bytes()))
 }
 
-// A19: numbers past their width are 1, inside it but past the limits 2.
+// Numbers past their width are 1, inside it but past the limits 2.
 #[test]
-fn a19_settings_numbers() {
+fn settings_numbers() {
     let cases = [
         ("lines=2", "lines=9", 2),
         ("lines=2", "lines=0", 2),
@@ -139,9 +139,9 @@ fn a19_settings_numbers() {
     }
 }
 
-// A19: the whole text is judged for its form before any limit, up to the longest.
+// The whole text is judged for its form before any limit, up to the longest.
 #[test]
-fn a19_settings_form_before_limits() {
+fn settings_form_before_limits() {
     let both = USUAL.replace("lines=2", "lines=9");
     assert_eq!(
         settings_answer(&both.replace("high=1000", "high=2147483648")),
@@ -161,9 +161,9 @@ fn a19_settings_form_before_limits() {
     assert_eq!(settings_answer("\n"), 1);
 }
 
-// A23: the reader's part of a text, and the form test agreeing with refusal 6.
+// The reader's part of a text, and the form test agreeing with refusal 6.
 #[test]
-fn a23_reader_and_form_test() {
+fn reader_and_form_test() {
     assert_eq!(next_line(b""), b"");
     assert_eq!(next_line(b"abc"), b"abc");
     assert_eq!(next_line(b"\n\n"), b"\n");

@@ -1,4 +1,5 @@
-//! Decisions A10 to A17 on host-made states and stores, a small test for each.
+//! Decisions on what a host's state and store may hold, up to the limits of refusal 4 and past
+//! them. A small test for each.
 
 mod common;
 
@@ -6,9 +7,9 @@ use common::{boundary, meter, placed, plain, reading, undo, Bench, SINGLE, USUAL
 use reference::node::{rule, Reading, Rule, Word};
 use reference::record::Record;
 
-// A10: a meter at the greatest count still takes readings; afterwards it is out of shape.
+// A meter at the greatest count still takes readings; afterwards it is out of shape.
 #[test]
-fn a10_count_past_the_limit() {
+fn count_past_the_limit() {
     let mut bench = Bench::open("lines=1 bucket=100 window=2 hold=0 low=-9 high=9\n");
     bench.state.operator.meters[3] = meter(32_768, i64::from(i32::MAX) * 32_768, 0);
     for id in 1..=256 {
@@ -26,9 +27,9 @@ fn a10_count_past_the_limit() {
     assert_eq!(closing.try_step(0), 0);
 }
 
-// A11: only the places given up are zeroed; junk behind the kept ones stays.
+// Only the places given up are zeroed; junk behind the kept ones stays.
 #[test]
-fn a11_junk_stays() {
+fn junk_stays() {
     let junk = placed('S', 77, 10, 7);
     let mut bench = Bench::open(SINGLE);
     bench.store[..300].fill(junk);
@@ -48,9 +49,9 @@ fn a11_junk_stays() {
     assert_eq!(bench.store[0], placed('S', 3, 110, 5));
 }
 
-// A12: arrival plus hold is a number without width, and an arrival may lie ahead of the clock.
+// Arrival plus hold is a number without width, and an arrival may lie ahead of the clock.
 #[test]
-fn a12_holds_past_the_clock() {
+fn holds_past_the_clock() {
     let mut bench = Bench::open("lines=1 bucket=100 window=1 hold=864000 low=0 high=9\n");
     assert_eq!(bench.send(reading(u32::MAX, 1, 'S', 1, 10, 1)), 0);
     assert_eq!(bench.step(u32::MAX), []);
@@ -61,9 +62,9 @@ fn a12_holds_past_the_clock() {
     assert_eq!(ahead.step(10).len(), 1);
 }
 
-// A13: 13 looks at the kept readings, the undo's lower end at the state's last stable id.
+// Refusal 13 looks at the kept readings, the undo's lower end at the state's last stable id.
 #[test]
-fn a13_tentative_by_the_store() {
+fn tentative_by_the_store() {
     let mut bench = Bench::open(SINGLE);
     bench.place(1, placed('T', 1, 10, 1));
     bench.state.heads[0].last_id = 4;
@@ -78,18 +79,18 @@ fn a13_tentative_by_the_store() {
     assert_eq!(apart.send(reading(0, 1, 'S', 5, 10, 1)), 0);
 }
 
-// A13: another line's tentative reading does not matter.
+// Another line's tentative reading does not matter.
 #[test]
-fn a13_only_the_own_line() {
+fn only_the_own_line() {
     let mut bench = Bench::open(USUAL);
     assert_eq!(bench.send(reading(0, 1, 'T', 1, 10, 1)), 0);
     assert_eq!(bench.send(reading(0, 2, 'S', 1, 10, 1)), 0);
     assert_eq!(bench.send(reading(0, 1, 'S', 2, 10, 1)), 13);
 }
 
-// A14: the first kept reading may have any id.
+// The first kept reading may have any id.
 #[test]
-fn a14_first_id() {
+fn first_id() {
     let mut bench = Bench::open(SINGLE);
     bench.place(1, placed('S', 0, 10, 1));
     assert_eq!(bench.try_step(0), 0);
@@ -99,9 +100,9 @@ fn a14_first_id() {
     assert_eq!(bench.try_step(0), 0);
 }
 
-// A15: kinds in the store are letters, so a zeroed place counted as kept is out of shape.
+// Kinds in the store are letters, so a zeroed place counted as kept is out of shape.
 #[test]
-fn a15_kinds_are_letters() {
+fn kinds_are_letters() {
     let mut bench = Bench::open(SINGLE);
     bench.state.heads[0].kept = 1;
     assert_eq!(bench.try_step(0), 4);
@@ -120,9 +121,9 @@ fn at(settings: &str, c: u32, p: u32, word: Word) -> Bench {
     bench
 }
 
-// A16: c and p have one limit whatever the bucket length, and no end of a bucket wraps.
+// One limit for c and p whatever the bucket length, and no end of a bucket wraps.
 #[test]
-fn a16_greatest_buckets() {
+fn greatest_buckets() {
     let long = "lines=1 bucket=36000 window=1 hold=0 low=0 high=9\n";
     let top = 42_949_673;
     assert_eq!(at(long, top, top, Word::Stable).step(0), []);
@@ -143,9 +144,9 @@ fn a16_greatest_buckets() {
     }
 }
 
-// A16: the word and the numbering are tied to c and p.
+// The word and the numbering are tied to c and p.
 #[test]
-fn a16_words_and_numbers() {
+fn words_and_numbers() {
     assert_eq!(at(SINGLE, 5, 5, Word::Failure).try_step(0), 4);
     assert_eq!(at(SINGLE, 5, 6, Word::Stable).try_step(0), 4);
     assert_eq!(at(SINGLE, 5, 6, Word::Correcting).try_step(0), 4);
@@ -169,9 +170,9 @@ fn a16_words_and_numbers() {
     }
 }
 
-// A16: the greatest result id still fits, from a tentative bucket at the very end.
+// The greatest result id still fits, from a tentative bucket at the very end.
 #[test]
-fn a16_greatest_result_id() {
+fn greatest_result_id() {
     let mut bench = at(SINGLE, 42_949_671, 42_949_672, Word::Failure);
     bench.boundaries(0);
     bench.state.operator.newest = 64 * 42_949_672;
@@ -183,9 +184,9 @@ fn a16_greatest_result_id() {
     assert_eq!(bench.step(60), []);
 }
 
-// A17: oddities without a refusal pass.
+// Oddities without a refusal pass.
 #[test]
-fn a17_oddities_pass() {
+fn oddities_pass() {
     let mut bench = Bench::open(SINGLE);
     (bench.state.c, bench.state.p) = (7, 7);
     bench.state.clock = 4_000_000_000;
@@ -200,9 +201,9 @@ fn a17_oddities_pass() {
     assert_eq!((results[0].kind, results[0].sum), (b'T', 6));
 }
 
-// A17: a meter without a count keeps its last value until the operator is cleared.
+// A meter without a count keeps its last value until the operator is cleared.
 #[test]
-fn a17_last_without_a_count() {
+fn last_without_a_count() {
     let mut bench = Bench::open("lines=1 bucket=100 window=2 hold=50 low=-1000 high=1000\n");
     bench.state.operator.meters[3].last = 99;
     bench.boundaries(200);
@@ -212,9 +213,9 @@ fn a17_last_without_a_count() {
     assert_eq!(bench.state.operator.meters[3], meter(0, 0, 0));
 }
 
-// A17: a setting outside its limits takes the state out of shape.
+// A setting outside its limits takes the state out of shape.
 #[test]
-fn a17_settings_of_the_state() {
+fn settings_of_the_state() {
     type Change = fn(&mut Bench);
     let changes: [Change; 7] = [
         |bench| bench.state.settings.bucket = 99,

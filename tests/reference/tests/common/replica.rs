@@ -2,14 +2,14 @@
 
 use std::collections::VecDeque;
 
-use reference::day_book::Run;
 use reference::generate::Random;
+use reference::monitor::Run;
 use reference::text::{write_settings, Call};
 
 use super::{plain, reading, undo};
 
 /// A replica under way, with what its lines have still to be given.
-struct Twin<'a> {
+struct Replica<'a> {
     run: Run,
     waiting: Vec<VecDeque<Call>>,
     random: &'a mut Random,
@@ -18,7 +18,7 @@ struct Twin<'a> {
 /// Gives a second box the accepted stable readings and boundaries of a first one, in another
 /// order between the lines, at other ticks, and with tentative readings, undos and steps between.
 /// Of the boundaries some are left out, but not the greatest. None where a line stays full.
-pub fn twin(one: &Run, accepted: &[Call], random: &mut Random) -> Option<Run> {
+pub fn replica(one: &Run, accepted: &[Call], random: &mut Random) -> Option<Run> {
     let settings = write_settings(&one.state.settings);
     let mut waiting = vec![VecDeque::new(); one.state.settings.lines as usize];
     for call in accepted {
@@ -28,22 +28,22 @@ pub fn twin(one: &Run, accepted: &[Call], random: &mut Random) -> Option<Run> {
             waiting[line].push_back(*call);
         }
     }
-    let mut twin = Twin {
+    let mut replica = Replica {
         run: Run::open(&settings).ok()?,
         waiting,
         random,
     };
     let mut stuck = 0;
-    while twin.waiting.iter().any(|line| !line.is_empty()) {
-        stuck = if twin.turn() { 0 } else { stuck + 1 };
+    while replica.waiting.iter().any(|line| !line.is_empty()) {
+        stuck = if replica.turn() { 0 } else { stuck + 1 };
         if stuck > 200 {
             return None;
         }
     }
-    Some(twin.run)
+    Some(replica.run)
 }
 
-impl Twin<'_> {
+impl Replica<'_> {
     fn now(&mut self) -> u32 {
         let later = self.random.pick(&[0, 0, 1, 13, 200]);
         self.run.state.clock.saturating_add(later)

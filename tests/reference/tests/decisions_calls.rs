@@ -1,4 +1,4 @@
-//! Decisions A27 to A33 on calls and refusals, a small test for each.
+//! Decisions on calls and their refusals, a small test for each.
 
 mod common;
 
@@ -7,9 +7,9 @@ use reference::node::{Reading, Word};
 use reference::record::AREA_BYTES;
 use reference::text::Call;
 
-// A27: a step's line is 8, every other field that a kind does not use is 9.
+// A step's line is 8, every other field that a kind does not use is 9.
 #[test]
-fn a27_unused_fields() {
+fn unused_fields() {
     let mut bench = Bench::open(USUAL);
     assert_eq!(bench.send(plain(0, 1, 'P')), 8);
     for kind in ['S', 'T', 'B', 'U', 'R'] {
@@ -36,9 +36,9 @@ fn a27_unused_fields() {
     assert_eq!(bench.send(step), 8);
 }
 
-// A28: the first refusal by number is given.
+// The first refusal by number is given.
 #[test]
-fn a28_first_of_several() {
+fn first_of_several() {
     let mut bench = Bench::open(USUAL);
     assert_eq!(bench.send(boundary(5, 1, 100)), 0);
     for id in 1..=255 {
@@ -70,9 +70,9 @@ fn a28_first_of_several() {
     assert_eq!(bench.send(boundary(5, 1, 100)), 13);
 }
 
-// A29: every call needs the area, before its text is looked at; any longer one will do.
+// Every call needs the area, before its text is looked at; any longer one will do.
 #[test]
-fn a29_areas_of_calls() {
+fn areas_of_calls() {
     let calls = [
         reading(0, 1, 'S', 1, 0, 0),
         reading(0, 1, 'T', 1, 0, 0),
@@ -95,9 +95,9 @@ fn a29_areas_of_calls() {
     assert_eq!(bench.try_step(0), 4);
 }
 
-// A29: bytes of the area behind the last record stay.
+// Bytes of the area behind the last record stay.
 #[test]
-fn a29_bytes_behind_the_records() {
+fn bytes_behind_the_records() {
     let mut bench = Bench::open(SINGLE);
     for meter in 0..64 {
         let call = Call {
@@ -117,9 +117,10 @@ fn a29_bytes_behind_the_records() {
     assert_eq!((results[63].id, results[63].meter), (64, 63));
 }
 
-// A30: an undo reaches from the last stable id to the last id and touches only that line.
+// An undo goes back to the last stable id at most; only the clock and its line's last id and kept
+// readings change.
 #[test]
-fn a30_what_an_undo_touches() {
+fn what_an_undo_touches() {
     let mut bench = Bench::open(USUAL);
     assert_eq!(bench.send(undo(0, 1, 0)), 0);
     assert_eq!(bench.send(undo(0, 1, 1)), 11);
@@ -140,9 +141,9 @@ fn a30_what_an_undo_touches() {
     assert_eq!(bench.step(61), []);
 }
 
-// A31: which ids and boundaries a call moves.
+// Which ids and boundaries a call moves.
 #[test]
-fn a31_ids_and_boundaries() {
+fn ids_and_boundaries() {
     let mut bench = Bench::open(SINGLE);
     assert_eq!(bench.send(reading(0, 1, 'S', 1, 40, 7)), 0);
     assert_eq!(bench.send(reading(0, 1, 'T', 2, 30, 7)), 0);
@@ -163,9 +164,9 @@ fn a31_ids_and_boundaries() {
     assert_eq!((head.last_id, head.last_stable_id), (2, 2));
 }
 
-// A32: every accepted call sets the clock, no refused one does.
+// Every accepted call sets the clock, no refused one does.
 #[test]
-fn a32_clock() {
+fn clock() {
     let mut bench = Bench::open(SINGLE);
     let calls = [
         plain(1, 1, 'R'),
@@ -185,9 +186,9 @@ fn a32_clock() {
     assert_eq!(bench.state.clock, 6);
 }
 
-// A33: no kind of call minds the state's word, and only steps change it.
+// No kind of call minds the state's word, and only steps change it.
 #[test]
-fn a33_calls_in_every_word() {
+fn calls_in_every_word() {
     let calls = [
         boundary(60, 1, 5),
         plain(60, 1, 'R'),

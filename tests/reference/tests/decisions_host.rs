@@ -1,4 +1,5 @@
-//! Decisions A1 to A9 on host-made states and stores, a small test for each.
+//! Decisions on states and stores that no opening leads to: lines, meters, kept readings and ids.
+//! A small test for each.
 
 mod common;
 
@@ -15,9 +16,9 @@ fn step_over(lines: u32, places: usize) -> u32 {
     call(&mut state, &mut store, &text, &mut [0; AREA_BYTES]).0
 }
 
-// A1: the store's length is judged by whatever number of lines the state has.
+// The store's length is judged by whatever number of lines the state has.
 #[test]
-fn a1_short_store_before_bad_lines() {
+fn short_store_before_bad_lines() {
     assert_eq!(step_over(9, 2_048), 3);
     assert_eq!(step_over(9, 2_303), 3);
     assert_eq!(step_over(9, 2_304), 4);
@@ -28,9 +29,9 @@ fn a1_short_store_before_bad_lines() {
     assert_eq!(step_over(2, 512), 0);
 }
 
-// A1: the opening's refusal 3 comes after 1 and 2.
+// The opening's refusal 3 comes after 1 and 2.
 #[test]
-fn a1_opening_over_a_short_store() {
+fn opening_over_a_short_store() {
     let mut store = vec![placed('S', 1, 2, 3); 511];
     let before = store.clone();
     assert_eq!(open(USUAL.as_bytes(), &mut store).unwrap_err() as u32, 3);
@@ -44,17 +45,17 @@ fn a1_opening_over_a_short_store() {
     assert_eq!(store[512..], [placed('T', 4, 5, 6); 2]);
 }
 
-// A2: a store in columns is as long as its shortest column.
+// A store in columns is as long as its shortest column.
 #[test]
-fn a2_shortest_column() {
+fn shortest_column() {
     assert_eq!(store_length([9, 8, 7, 6, 7, 8]), 6);
     assert_eq!(store_length([512, 512, 512, 512, 512, 511]), 511);
     assert_eq!(store_length([0, 512, 512, 512, 512, 512]), 0);
 }
 
-// A3: heads past the last line are not looked at and come back as they were.
+// Heads past the last line are not looked at and come back as they were.
 #[test]
-fn a3_heads_past_the_lines() {
+fn heads_past_the_lines() {
     let mut bench = Bench::open(USUAL);
     assert_eq!(bench.state.heads, [Head::default(); 8]);
     let junk = Head {
@@ -70,9 +71,9 @@ fn a3_heads_past_the_lines() {
     assert_eq!(bench.state.heads[2..], [junk; 6]);
 }
 
-// A4: the meters of operator and checkpoint both have to be in shape.
+// The meters of operator and checkpoint both have to be in shape.
 #[test]
-fn a4_meters_of_both() {
+fn meters_of_both() {
     let shapes = [
         (meter(32_768, 0, 0), 0),
         (meter(32_769, 0, 0), 4),
@@ -94,9 +95,9 @@ fn a4_meters_of_both() {
     }
 }
 
-// A5: a stable bucket is worked from the operator, and the checkpoint becomes what it leaves.
+// A stable bucket is worked from the operator, and the checkpoint becomes what it leaves.
 #[test]
-fn a5_stable_work_starts_at_the_operator() {
+fn stable_work_starts_at_the_operator() {
     let mut bench = Bench::open("lines=1 bucket=100 window=2 hold=50 low=-1000 high=1000\n");
     bench.state.operator.meters[3] = meter(1, 5, 5);
     bench.state.checkpoint.meters[3] = meter(7, 70, 10);
@@ -111,9 +112,9 @@ fn a5_stable_work_starts_at_the_operator() {
     assert_eq!(bench.state.checkpoint.newest, 1);
 }
 
-// A6: a tentative reading in a stable bucket counts, and leaves like the others.
+// A tentative reading in a stable bucket counts, and leaves like the others.
 #[test]
-fn a6_tentative_in_a_stable_bucket() {
+fn tentative_in_a_stable_bucket() {
     let mut bench = Bench::open(SINGLE);
     bench.place(1, placed('T', 1, 10, 2));
     bench.boundaries(100);
@@ -122,9 +123,9 @@ fn a6_tentative_in_a_stable_bucket() {
     assert_eq!(bench.kept(1), []);
 }
 
-// A7: readings below bucket c stay, and are never due.
+// Readings below bucket c stay, and are never due.
 #[test]
-fn a7_readings_below_c() {
+fn readings_below_c() {
     let mut bench = Bench::open(SINGLE);
     (bench.state.c, bench.state.p) = (2, 2);
     bench.place(1, placed('S', 1, 199, 2));
@@ -140,9 +141,9 @@ fn a7_readings_below_c() {
     assert_eq!(bench.kept(1), &stay[..1]);
 }
 
-// A8: an undo at the last id strikes what a host kept above it, a stable reading too.
+// An undo at the last id strikes what a host kept above it, a stable reading too.
 #[test]
-fn a8_undo_at_the_last_id() {
+fn undo_at_the_last_id() {
     let mut bench = Bench::open(SINGLE);
     for id in [3, 5, 6, 9] {
         bench.place(1, placed('S', id, 10, 1));
@@ -161,9 +162,9 @@ fn a8_undo_at_the_last_id() {
     assert_eq!(bench.state.heads[0].last_stable_id, 2);
 }
 
-// A8: a new id is only compared with the last id; it may leave the store out of shape.
+// A new id is only compared with the last id; it may leave the store out of shape.
 #[test]
-fn a8_new_id_below_a_kept_one() {
+fn new_id_below_a_kept_one() {
     let mut bench = Bench::open(SINGLE);
     bench.place(1, placed('S', 8, 10, 1));
     assert_eq!(bench.send(reading(0, 1, 'S', 1, 10, 2)), 0);
@@ -171,9 +172,9 @@ fn a8_new_id_below_a_kept_one() {
     assert_eq!(bench.try_step(0), 4);
 }
 
-// A9: after the greatest id no further reading fits.
+// After the greatest id no further reading fits.
 #[test]
-fn a9_greatest_id() {
+fn greatest_id() {
     let mut bench = Bench::open(SINGLE);
     bench.state.heads[0].last_id = u32::MAX - 1;
     assert_eq!(bench.send(reading(0, 1, 'S', u32::MAX, 10, 2)), 0);

@@ -30,7 +30,7 @@ impl Output {
         &self.results
     }
 
-    /// Whether the latest undo still waits for its closing mark.
+    /// Whether the latest undo still waits for its R, document 01's closing mark.
     pub fn mark_due(&self) -> bool {
         self.mark_due
     }

@@ -1,4 +1,4 @@
-//! Decisions A24 to A26 on the program `merge`, a small test for each.
+//! Decisions on what the program `merge` takes for a line, and what it prints. A small test for each.
 
 mod common;
 
@@ -18,17 +18,17 @@ const NONE: &str = "answer=1 records=0 state=none\n";
 const OPENED: &str = "answer=0 records=0 state=stable\n";
 const NO_FORM: &str = "answer=6 records=0 state=stable\n";
 
-// A24: no input at all, or only a line end, is a settings line without the form.
+// No input at all, or only a line end, is a settings line without the form.
 #[test]
-fn a24_empty_input() {
+fn empty_input() {
     assert_eq!(merged(b""), NONE);
     assert_eq!(merged(b"\n"), NONE);
     assert_eq!(merged(b"\n\n\n"), NONE);
 }
 
-// A25: a last stretch without line end is a line; behind the last line end there is none.
+// A last stretch without line end is a line; behind the last line end there is none.
 #[test]
-fn a25_last_stretch() {
+fn last_stretch() {
     assert_eq!(merged(USUAL.trim_end().as_bytes()), NONE);
     assert_eq!(merged(USUAL.as_bytes()), OPENED);
     let step = String::from_utf8(spell(&plain(0, 0, 'P'))).unwrap();
@@ -40,9 +40,9 @@ fn a25_last_stretch() {
     assert_eq!(merged(format!("{USUAL}\0\n").as_bytes()), cut);
 }
 
-// A25: a line of any length is one line with one answer.
+// However long a line is, it gets one answer, and the one behind it gets its own.
 #[test]
-fn a25_long_lines() {
+fn long_lines() {
     let step = String::from_utf8(spell(&plain(0, 0, 'P'))).unwrap();
     for length in [
         80, 89, 90, 127, 128, 129, 256, 65_535, 65_536, 65_537, 300_000,
@@ -80,9 +80,9 @@ impl Read for Pieces<'_> {
     }
 }
 
-// A25: the pieces in which the input comes make no difference.
+// The pieces in which the input comes make no difference.
 #[test]
-fn a25_pieces_of_any_size() {
+fn pieces_of_any_size() {
     for seed in 0..30 {
         let input = journal(Kind::Malformed, seed, 60);
         let due = merged(&input);
@@ -99,9 +99,9 @@ fn a25_pieces_of_any_size() {
     }
 }
 
-// A26: a refused line prints no records and the state as it was; refused settings end it.
+// A refused line prints no records and the state as it was; refused settings end it.
 #[test]
-fn a26_refused_lines() {
+fn refused_lines() {
     let reading = "now=0 line=1 kind=S id=1 time=10 meter=3 value=7\n";
     let step = "now=50 line=0 kind=P id=0 time=0 meter=0 value=0\n";
     let input = format!("{USUAL}{reading}{step}{reading}x\n");
