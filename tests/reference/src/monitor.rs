@@ -24,8 +24,8 @@ struct Noted {
     arrival: u32,
 }
 
-/// Document 01's day book: it follows a list of calls by the settings, each call's fields and
-/// whether it was accepted, and looks at nothing else of the box.
+/// Document 01's day book: it follows a list of calls by what their lines say and how they were
+/// answered, and knows nothing else of the box but its settings.
 #[derive(Clone, Debug)]
 pub struct Monitor {
     settings: Settings,

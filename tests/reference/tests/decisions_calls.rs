@@ -117,8 +117,8 @@ fn bytes_behind_the_records() {
     assert_eq!((results[63].id, results[63].meter), (64, 63));
 }
 
-// An undo goes back to the last stable id at most; only the clock and its line's last id and kept
-// readings change.
+// An undo goes back to the last stable id at most; it sets its line's last id and the clock, and
+// strikes what the line keeps above it.
 #[test]
 fn what_an_undo_touches() {
     let mut bench = Bench::open(USUAL);

@@ -27,7 +27,7 @@ fn count_past_the_limit() {
     assert_eq!(closing.try_step(0), 0);
 }
 
-// Only the places given up are zeroed; junk behind the kept ones stays.
+// Only the places given up are zeroed; what lies behind the kept readings stays.
 #[test]
 fn junk_stays() {
     let junk = placed('S', 77, 10, 7);

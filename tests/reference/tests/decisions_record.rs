@@ -15,7 +15,7 @@ fn text_of(record: &Record) -> String {
     String::from_utf8(area[..length].to_vec()).unwrap()
 }
 
-// Only the two zero bytes must be zero; any other field is put into text as it stands.
+// Only the two zero bytes must be zero; whatever the other fields hold is spelled.
 #[test]
 fn record_texts() {
     let mut record = Record::undo(7);
@@ -94,7 +94,7 @@ fn areas_of_texts() {
     assert!(area[length..].iter().all(|&byte| byte == UNTOUCHED));
 }
 
-// The writer takes the kind as a byte and refuses all but the six letters.
+// To the writer a kind is any byte, and all but the six letters are refused.
 #[test]
 fn kinds_without_a_letter() {
     for kind in 0..=255 {
@@ -114,7 +114,7 @@ fn kinds_without_a_letter() {
     }
 }
 
-// A written line reads back as written, up to the longest.
+// Reading gives back the call that was written, up to the longest line.
 #[test]
 fn written_lines_read_back() {
     let mut random = Random::new(22);

@@ -139,7 +139,7 @@ fn settings_numbers() {
     }
 }
 
-// The whole text is judged for its form before any limit, up to the longest.
+// No limit is looked at before all of the text has the form, up to the longest.
 #[test]
 fn settings_form_before_limits() {
     let both = USUAL.replace("lines=2", "lines=9");

@@ -5,7 +5,7 @@ use super::reader::Reader;
 use super::LINE_END;
 use crate::refusal::Refusal;
 
-/// The most bytes that a settings line of the form can have.
+/// The length of the longest settings line.
 pub const SETTINGS_LONGEST: usize = 102;
 
 /// What an installer sets, whether within the limits or not.
