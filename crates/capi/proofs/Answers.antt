@@ -2,12 +2,11 @@
 use mathlib.Core.Path.{_≡_, sym, ap, _∙_}
 use mathlib.Core.List.{List}
 use Prim.Native.Nat.{ℕ}
-use Rattle.fields.specs.Written.{writtenAnswer, writtenLength, leaves}
+use lib.ListN.{length}
+use Rattle.fields.specs.Written.{writtenAnswer, writtenLength}
 use Rattle.fields.specs.declared.Written.{Written}
 
--- the writer answered r, which is w by its contract and v by the match
-pub handed-on : (text area left : List ℕ) (r w v : Written) → (r ≡ w) × (left ≡ leaves r text area) → r ≡ v
-    → (writtenAnswer v ≡ writtenAnswer w) × ((writtenLength v ≡ writtenLength w) × (left ≡ leaves w text area))
-handed-on text area left r w v p e =
-    let q = sym e ∙ p .0 in
-    (ap writtenAnswer q, (ap writtenLength q, p .1 ∙ ap (λ (x : Written). leaves x text area) (p .0)))
+-- the writer answered w, which is v by the match
+pub handed-on : {A : Type 0} (number : ℕ) (bytes : List ℕ) (w v : Written) → (writtenAnswer w ≡ number) × ((writtenLength w ≡ length bytes) × A)
+    → w ≡ v → (writtenAnswer v ≡ number) × ((writtenLength v ≡ length bytes) × A)
+handed-on number bytes w v p e = (ap writtenAnswer (sym e) ∙ p .0, (ap writtenLength (sym e) ∙ p .1 .0, p .1 .1))

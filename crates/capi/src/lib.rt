@@ -1,9 +1,10 @@
 // What the front end in C calls: two functions on bytes.
 ghost use mathlib.Core.Path.{_≡_};
-ghost use Rattle.fields.specs.Written.{writtenAnswer, writtenLength, leaves};
+ghost use lib.ListN.{length};
+ghost use Rattle.area.specs.Laid.{inFront};
 ghost use Rattle.journal.specs.JournalLine.{hasForm};
 ghost use Rattle.record.specs.Decoded.{decoded};
-ghost use Rattle.record_text.specs.RecordText.{textOf, writtenText};
+ghost use Rattle.record_text.specs.RecordText.{textAnswer, textWritten};
 use fields::Written;
 
 // The answers, by their numbers.
@@ -25,9 +26,9 @@ pub extern "C" fn beanmorrow_is_journal_line(line: &[u8]) -> bool
 // for an area shorter than this text; at both the length is 0 and the area stays as it is.
 #[no_mangle]
 pub extern "C" fn beanmorrow_record_text(bytes: &[u8], text: &mut [u8], written: &mut usize) -> u32
-    ensures { λ r. ⌜ r ≡ writtenAnswer (writtenText (decoded (now (bytes .entry))) (now (text .entry))) ⌝ }
-    ensures { λ _. ⌜ now (written .exit) ≡ writtenLength (writtenText (decoded (now (bytes .entry))) (now (text .entry))) ⌝ }
-    ensures { λ _. ⌜ now (text .exit) ≡ leaves (writtenText (decoded (now (bytes .entry))) (now (text .entry))) (textOf (decoded (now (bytes .entry)))) (now (text .entry)) ⌝ }
+    ensures { λ r. ⌜ r ≡ textAnswer (decoded (now (bytes .entry))) (now (text .entry)) ⌝ }
+    ensures { λ _. ⌜ now (written .exit) ≡ length (textWritten (decoded (now (bytes .entry))) (now (text .entry))) ⌝ }
+    ensures { λ _. ⌜ now (text .exit) ≡ inFront (textWritten (decoded (now (bytes .entry))) (now (text .entry))) (now (text .entry)) ⌝ }
 {
     match record_text::write_text(bytes, text) {
         Written::Text(n) => {

@@ -93,7 +93,7 @@ callAnswer CallRead.Malformed = 6
 unfoldable pub hasForm : List ℕ → Bool
 hasForm text = eqb (callAnswer (callOf text)) 0
 
--- an answer is exact: it is the call c exactly if the text is the line of c
+-- an answer is exact: a text that is the line of a call is read as that call, and every other text gets 6
 pub record ExactCall (text : List ℕ) (answer : CallRead) : Type 0 where
   pub line : (c : Call) → CallFits c → text ≡ lineText c → answer ≡ CallRead.Accepted c
-  pub only : (c : Call) → answer ≡ CallRead.Accepted c → CallFits c × (text ≡ lineText c)
+  pub only : (callAnswer answer ≡ 6 → ⊥) → (c : Call) × CallFits c × (text ≡ lineText c)

@@ -2,11 +2,10 @@
 ghost use mathlib.Core.Path.{_≡_};
 ghost use Prim.Native.Nat.{_+_, _≤_};
 ghost use lib.ListN.{length};
-ghost use Rattle.area.specs.Laid.{laid};
-ghost use Rattle.fields.specs.Written.{leaves};
-ghost use Rattle.journal.specs.JournalLine.{lineText};
+ghost use Rattle.area.specs.Laid.{laid, inFront};
+ghost use Rattle.fields.specs.Written.{writtenAnswer, writtenLength};
 ghost use Rattle.journal.specs.JournalParts.{callHead, callTail};
-ghost use Rattle.journal_text.specs.JournalText.{writtenCall};
+ghost use Rattle.journal_text.specs.JournalText.{lineAnswer, lineWritten};
 use fields::Written;
 use journal::Call;
 
@@ -36,10 +35,12 @@ fn put_tail(out: &mut [u8], at: usize, c: Call) -> usize
     fields::put_last(out, e3, b" value=", c.value)
 }
 
-// Writes a call's line into the area: its length, or refusal 6 for a kind without a letter, then 5 for an area under the longest line.
+// Writes a call's line into the area and answers its length. A kind that has no letter is refused before an area that the longest line would
+// not fit is; nothing is written then.
 pub fn write_call(c: Call, out: &mut [u8]) -> Written
-    ensures { λ r. ⌜ r ≡ writtenCall c (now (out .entry)) ⌝ }
-    ensures { λ r. ⌜ now (out .exit) ≡ leaves r (lineText c) (now (out .entry)) ⌝ }
+    ensures { λ r. ⌜ writtenAnswer r ≡ lineAnswer c (now (out .entry)) ⌝ }
+    ensures { λ r. ⌜ writtenLength r ≡ length (lineWritten c (now (out .entry))) ⌝ }
+    ensures { λ _. ⌜ now (out .exit) ≡ inFront (lineWritten c (now (out .entry))) (now (out .entry)) ⌝ }
 {
     if journal::is_letter(c.kind) {
         if out.len() < LONGEST_JOURNAL_LINE {

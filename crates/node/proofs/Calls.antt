@@ -13,7 +13,7 @@ use Rattle.journal.specs.declared.Call.{Call}
 use Rattle.journal.specs.declared.CallRead.{CallRead}
 use Rattle.journal.specs.declared.CallRead.the-variants as CallRead
 use Rattle.journal.specs.JournalLine.{lineText, callOf, callAnswer, CallFits}
-use Rattle.journal.proofs.Exact.{exact-call}
+use Rattle.journal.proofs.Exact.{accepted-line}
 use Rattle.store.specs.Lists.{Every}
 use Rattle.protocol.specs.Refusals.{Test, firstFailed, answerTo}
 use Rattle.store.specs.Sizes.{readingsPerLine}
@@ -131,8 +131,8 @@ module _ (st : State) (x : Columns) (text area : List ℕ) where
               host = h;
               call = k;
               read = q;
-              fits = exact-call text .only k q .0;
-              spelled = exact-call text .only k q .1;
+              fits = accepted-line text k q .0;
+              spelled = accepted-line text k q .1;
               answered = eqb-true _ _ t;
               leaves = called-past-host h ∙ ap (calledWith st x area) q ∙ rw t;
             }

@@ -36,8 +36,9 @@ same-settings s t e = cc
 outside-accepted : (s : Settings) → SettingsRead.OutsideLimits ≡ SettingsRead.Accepted s → ⊥
 outside-accepted s e = let z : _≡_ {A = ℕ} 0 1 = cc in omega arith
 
-accepted-malformed : (s : Settings) → SettingsRead.Accepted s ≡ SettingsRead.Malformed → ⊥
-accepted-malformed s e = let z : _≡_ {A = ℕ} 0 1 = cc in omega arith
+accepted-one : (s : Settings) → settingsAnswer (SettingsRead.Accepted s) ≡ 1 → ⊥
+unfolding settingsAnswer
+accepted-one s e = omega (arith, e)
 
 limited-accepted : (s t : Settings) → limited s ≡ SettingsRead.Accepted t → (s ≡ t) × (withinLimits s ≡ true)
 unfolding limited
@@ -59,7 +60,7 @@ pub record Accepts (text : List ℕ) (s : Settings) : Type 0 where
 
 pub settings-accepted : (text : List ℕ) (s : Settings) → settingsOf text ≡ SettingsRead.Accepted s → Accepts text s
 settings-accepted text s e =
-    let found = exact-settings text .only (λ m. accepted-malformed s (sym e ∙ m)) in
+    let found = exact-settings text .only (λ m. accepted-one s (sym (ap settingsAnswer e) ∙ m)) in
     let q = limited-accepted (found .0) s (sym (exact-settings text .line (found .0) (found .1) (found .2)) ∙ e) in
     subst (λ (t : Settings). Accepts text t) (q .0) (record { spelled = found .2; fit = found .1; limits = q .1 })
 

@@ -9,18 +9,38 @@ use lib.Seq.{take-at}
 use borrow.Author.Tests.{lt-ltb, le-ltb}
 use Rattle.area.specs.Laid.{laid, inFront}
 use Rattle.area.proofs.Laid.{laid-front}
+use Rattle.fields.specs.Written.{writtenAnswer, writtenLength}
+use Rattle.fields.specs.declared.Written.{Written}
 use Rattle.fields.specs.declared.Written.the-variants as Written
 use Rattle.record.specs.declared.Record.{Record}
+use Rattle.record.specs.declared.Decoded.{Decoded}
 use Rattle.record.specs.declared.Decoded.the-variants as Decoded
-use Rattle.record_text.specs.RecordText.{recordText, writtenText}
+use Rattle.record_text.specs.RecordText.{recordText, textOf, textAnswer, textWritten}
 
-pub writtenText-short : (r : Record) (area : List ℕ) → length area < length (recordText r) → writtenText (Decoded.Is r) area ≡ Written.ShortArea
-unfolding writtenText
-writtenText-short r area h = rw (lt-ltb (length area) (length (recordText r)) h)
+-- the answer w, and what is left of the area, are those of the definitions
+abbrev pub Answered : Decoded → List ℕ → Written → List ℕ → Type 0
+Answered d area w left =
+    (writtenAnswer w ≡ textAnswer d area) ×
+    ((writtenLength w ≡ length (textWritten d area)) × (left ≡ inFront (textWritten d area) area))
 
-pub writtenText-long : (r : Record) (area : List ℕ) → length (recordText r) ≤ length area → writtenText (Decoded.Is r) area ≡ Written.Text (length (recordText r))
-unfolding writtenText
-writtenText-long r area h = rw (le-ltb (length area) (length (recordText r)) h)
+pub no-record : (area : List ℕ) → Answered Decoded.Malformed area Written.Malformed area
+unfolding writtenAnswer writtenLength textAnswer textWritten inFront
+no-record area = (refl, (refl, refl))
+
+pub short-area : (r : Record) (area : List ℕ) → length area < length (recordText r) → Answered (Decoded.Is r) area Written.ShortArea area
+unfolding writtenAnswer writtenLength textAnswer textWritten inFront
+short-area r area h = rw (lt-ltb (length area) (length (recordText r)) h) (refl, (refl, refl))
+
+pub text-written : (r : Record) (area left : List ℕ) (n : ℕ) → length (recordText r) ≤ length area → n ≡ length (recordText r)
+    → left ≡ inFront (recordText r) area → Answered (Decoded.Is r) area (Written.Text n) left
+unfolding writtenAnswer writtenLength textAnswer textWritten textOf
+text-written r area left n h size whole = rw (le-ltb (length area) (length (recordText r)) h) (refl, (size, whole))
+
+-- an area that has room gets the whole text, which of bytes that are no record is empty
+pub whole-text : (d : Decoded) (area : List ℕ) → length (textOf d) ≤ length area → textWritten d area ≡ textOf d
+unfolding textAnswer textWritten textOf
+whole-text (Decoded.Is r) area h = rw (le-ltb (length area) (length (recordText r)) h)
+whole-text Decoded.Malformed area h = refl
 
 -- a text is read back from where it was laid in front
 take-inFront : (t area : List ℕ) → take (length t) (inFront t area) ≡ t

@@ -3,14 +3,12 @@
 use Prim.Native.Nat.{ℕ}
 use mathlib.Core.Bool.{cond}
 use mathlib.Core.List.{List, [], _∷_}
-use lib.Dec.{ltb}
+use lib.Dec.{ltb, eqb}
 use lib.IntN.{pos}
 use lib.ListN.{length}
 use Rattle.decimal.specs.Decimal.{decimal}
 use Rattle.fields.specs.Keys.{kindKey, idKey, timeKey, meterKey, countKey, sumKey, meanKey, lastKey}
 use Rattle.fields.specs.Line.{field, lineOf}
-use Rattle.fields.specs.declared.Written.{Written}
-use Rattle.fields.specs.declared.Written.the-variants as Written
 use Rattle.record.specs.declared.Record.{Record}
 use Rattle.record.specs.declared.Decoded.{Decoded}
 use Rattle.record.specs.declared.Decoded.the-variants as Decoded
@@ -33,8 +31,12 @@ unfoldable pub textOf : Decoded → List ℕ
 textOf (Decoded.Is r) = recordText r
 textOf Decoded.Malformed = []
 
--- what the writer of a record's text answers: 6 for bytes that are no record, then 5 for an area shorter than this text
-unfoldable pub writtenText : Decoded → List ℕ → Written
-writtenText (Decoded.Is r) area =
-    cond (ltb (length area) (length (recordText r))) Written.ShortArea (Written.Text (length (recordText r)))
-writtenText Decoded.Malformed area = Written.Malformed
+-- document 01's number that the writer of a record's text answers: bytes that are no record are refused first, then an area shorter than
+-- their text
+unfoldable pub textAnswer : Decoded → List ℕ → ℕ
+textAnswer (Decoded.Is r) area = cond (ltb (length area) (length (recordText r))) 5 0
+textAnswer Decoded.Malformed area = 6
+
+-- the bytes that are laid in front of the area: the text, or none where the answer is a refusal
+unfoldable pub textWritten : Decoded → List ℕ → List ℕ
+textWritten d area = cond (eqb (textAnswer d area) 0) (textOf d) []

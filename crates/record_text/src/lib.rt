@@ -2,10 +2,10 @@
 ghost use mathlib.Core.Path.{_≡_};
 ghost use Prim.Native.Nat.{_+_, _≤_};
 ghost use lib.ListN.{length};
-ghost use Rattle.area.specs.Laid.{laid};
-ghost use Rattle.fields.specs.Written.{leaves};
+ghost use Rattle.area.specs.Laid.{laid, inFront};
+ghost use Rattle.fields.specs.Written.{writtenAnswer, writtenLength};
 ghost use Rattle.record.specs.Decoded.{decoded};
-ghost use Rattle.record_text.specs.RecordText.{recordText, textOf, writtenText};
+ghost use Rattle.record_text.specs.RecordText.{recordText, textAnswer, textWritten};
 ghost use Rattle.record_text.specs.Parts.{textHead, textTail};
 use fields::Written;
 use record::Decoded;
@@ -50,8 +50,9 @@ fn put_text(out: &mut [u8], r: Record) -> usize
 
 // Writes a record's text, or answers that the area is shorter than this text. The text is made apart, so that a short area stays as it is.
 fn write_record(r: Record, out: &mut [u8]) -> Written
-    ensures { λ w. ⌜ w ≡ writtenText (Decoded.Is r) (now (out .entry)) ⌝ }
-    ensures { λ w. ⌜ now (out .exit) ≡ leaves w (recordText r) (now (out .entry)) ⌝ }
+    ensures { λ w. ⌜ writtenAnswer w ≡ textAnswer (Decoded.Is r) (now (out .entry)) ⌝ }
+    ensures { λ w. ⌜ writtenLength w ≡ length (textWritten (Decoded.Is r) (now (out .entry))) ⌝ }
+    ensures { λ _. ⌜ now (out .exit) ≡ inFront (textWritten (Decoded.Is r) (now (out .entry))) (now (out .entry)) ⌝ }
 {
     let mut text = [0u8; LONGEST_RECORD_TEXT];
     let n = put_text(&mut text, r);
@@ -65,8 +66,9 @@ fn write_record(r: Record, out: &mut [u8]) -> Written
 // Writes the text of the record that these bytes are into the area: its length, or refusal 6 for bytes that are no record, then 5 for an
 // area shorter than this text.
 pub fn write_text(bytes: &[u8], out: &mut [u8]) -> Written
-    ensures { λ r. ⌜ r ≡ writtenText (decoded (now (bytes .entry))) (now (out .entry)) ⌝ }
-    ensures { λ r. ⌜ now (out .exit) ≡ leaves r (textOf (decoded (now (bytes .entry)))) (now (out .entry)) ⌝ }
+    ensures { λ r. ⌜ writtenAnswer r ≡ textAnswer (decoded (now (bytes .entry))) (now (out .entry)) ⌝ }
+    ensures { λ r. ⌜ writtenLength r ≡ length (textWritten (decoded (now (bytes .entry))) (now (out .entry))) ⌝ }
+    ensures { λ _. ⌜ now (out .exit) ≡ inFront (textWritten (decoded (now (bytes .entry))) (now (out .entry))) (now (out .entry)) ⌝ }
 {
     match record::decode(bytes) {
         Decoded::Is(r) => write_record(r, out),

@@ -9,7 +9,7 @@ use lib.Dec.{eqb}
 use lib.ListN.{length}
 use Rattle.fields.proofs.Spells.{spells-whole, whole-spelled}
 use Rattle.settings.specs.Limits.{SettingsFit}
-use Rattle.settings.specs.SettingsLine.{settingsText, settingsAt, limited, judged, settingsOf, ExactSettings}
+use Rattle.settings.specs.SettingsLine.{settingsText, settingsAt, limited, judged, settingsOf, settingsAnswer, ExactSettings}
 use Rattle.settings.specs.declared.Settings.{Settings}
 use Rattle.settings.specs.declared.SettingsAt.{SettingsAt}
 use Rattle.settings.specs.declared.SettingsAt.the-variants as SettingsAt
@@ -22,11 +22,11 @@ settings-line text s fit p =
     let end : 0 + length (settingsText s) ≡ length text = omega (arith, ap length p) in
     rw (settings-complete text [] 0 s fit (whole-spelled text (settingsText s) p), eq-eqb (0 + length (settingsText s)) (length text) end)
 
-settings-only : (text : List ℕ) (answer : SettingsAt) → settingsAt text 0 ≡ answer → (judged text answer ≡ SettingsRead.Malformed → ⊥) → (s : Settings) × SettingsFit s × (text ≡ settingsText s)
-unfolding judged
+settings-only : (text : List ℕ) (answer : SettingsAt) → settingsAt text 0 ≡ answer → (settingsAnswer (judged text answer) ≡ 1 → ⊥) → (s : Settings) × SettingsFit s × (text ≡ settingsText s)
+unfolding judged settingsAnswer
 settings-only text (SettingsAt.Line s e) q n =
     let found = settings-sound text 0 e s q in
-    (elim (eqb e (length text)) as (λ t. eqb e (length text) ≡ t → (cond t (limited s) SettingsRead.Malformed ≡ SettingsRead.Malformed → ⊥) → (s : Settings) × SettingsFit s × (text ≡ settingsText s)) [
+    (elim (eqb e (length text)) as (λ t. eqb e (length text) ≡ t → (settingsAnswer (cond t (limited s) SettingsRead.Malformed) ≡ 1 → ⊥) → (s : Settings) × SettingsFit s × (text ≡ settingsText s)) [
       | true ↦ λ t m. (s, found .1, spells-whole text (settingsText s) e (found .0) (eqb-true e (length text) t))
       | false ↦ λ t m. absurd (m refl)
     ]) refl n

@@ -61,7 +61,7 @@ settingsAnswer (SettingsRead.Accepted s) = 0
 settingsAnswer SettingsRead.Malformed = 1
 settingsAnswer SettingsRead.OutsideLimits = 2
 
--- an answer is exact: a text that is the line of settings gets what their limits say, and no other text gets anything but Malformed
+-- an answer is exact: a text that is the line of settings gets what their limits say, and every other text gets 1
 pub record ExactSettings (text : List ℕ) (answer : SettingsRead) : Type 0 where
   pub line : (s : Settings) → SettingsFit s → text ≡ settingsText s → answer ≡ limited s
-  pub only : (answer ≡ SettingsRead.Malformed → ⊥) → (s : Settings) × SettingsFit s × (text ≡ settingsText s)
+  pub only : (settingsAnswer answer ≡ 1 → ⊥) → (s : Settings) × SettingsFit s × (text ≡ settingsText s)

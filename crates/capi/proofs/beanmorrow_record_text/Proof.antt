@@ -3,7 +3,7 @@ use borrow.Author.Needs.{needs}
 use Rattle.fields.specs.Written.{writtenAnswer, writtenLength}
 use Rattle.fields.specs.declared.Written.the-variants as Written
 use Rattle.record.specs.Decoded.{decoded}
-use Rattle.record_text.specs.RecordText.{textOf, writtenText}
+use Rattle.record_text.specs.RecordText.{textAnswer, textWritten}
 use Rattle.capi.proofs.Answers.{handed-on}
 use Rattle.capi.proofs.beanmorrow_record_text.Statement.{statement}
 use Rattle.capi.proofs.beanmorrow_record_text.Tie as tie
@@ -28,7 +28,7 @@ unfolding writtenAnswer writtenLength
 returns c =
     let a = c .before .before .before .before .before .before .before .before .before .args in
     let w = c .before .before .before .before .before .write-text in
-    handed-on (textOf (decoded (a .bytes .now))) (a .text .now) (w .last .1 .0) (w .result) (writtenText (decoded (a .bytes .now)) (a .text .now)) (Written.Text (c .before .n .given .0 .0)) (w .ensures) (c .before .n .given .1)
+    handed-on (textAnswer (decoded (a .bytes .now)) (a .text .now)) (textWritten (decoded (a .bytes .now)) (a .text .now)) (w .result) (Written.Text (c .before .n .given .0 .0)) (w .ensures) (c .before .n .given .1)
 
 same-length-2 : tie.Need-same-length-2
 same-length-2 c = search needs
@@ -38,7 +38,7 @@ unfolding writtenAnswer writtenLength
 returns-2 c =
     let a = c .before .before .before .before .before .before .before .before .args in
     let w = c .before .before .before .before .write-text in
-    handed-on (textOf (decoded (a .bytes .now))) (a .text .now) (w .last .1 .0) (w .result) (writtenText (decoded (a .bytes .now)) (a .text .now)) Written.ShortArea (w .ensures) (c .enum-told .given .1)
+    handed-on (textAnswer (decoded (a .bytes .now)) (a .text .now)) (textWritten (decoded (a .bytes .now)) (a .text .now)) (w .result) Written.ShortArea (w .ensures) (c .enum-told .given .1)
 
 same-length-3 : tie.Need-same-length-3
 same-length-3 c = search needs
@@ -48,7 +48,7 @@ unfolding writtenAnswer writtenLength
 returns-3 c =
     let a = c .before .before .before .before .before .before .before .before .args in
     let w = c .before .before .before .before .write-text in
-    handed-on (textOf (decoded (a .bytes .now))) (a .text .now) (w .last .1 .0) (w .result) (writtenText (decoded (a .bytes .now)) (a .text .now)) Written.Malformed (w .ensures) (c .enum-told2 .given .1)
+    handed-on (textAnswer (decoded (a .bytes .now)) (a .text .now)) (textWritten (decoded (a .bytes .now)) (a .text .now)) (w .result) Written.Malformed (w .ensures) (c .enum-told2 .given .1)
 
 pub beanmorrow-record-text-spec : {M : Type 1} → statement M
 beanmorrow-record-text-spec =

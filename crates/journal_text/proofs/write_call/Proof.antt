@@ -2,21 +2,18 @@
 -- Assumes nothing.
 use native.Mathlib.Omega.{arith}
 use borrow.Author.Needs.{needs}
-use mathlib.Core.Path.{_≡_, refl, sym, ap, _∙_}
+use mathlib.Core.Path.{_≡_, sym, ap, _∙_}
 use mathlib.Core.List.{List}
 use Prim.Native.Nat.{ℕ, _+_, _≤_}
-use borrow.Author.Tests.{lt-ltb, le-ltb}
 use lib.ListN.{length, length-append}
 use Rattle.area.specs.Laid.{laid}
 use Rattle.area.proofs.Laid.{laid-laid, laid-front}
-use Rattle.fields.specs.Written.{leaves}
-use Rattle.fields.specs.declared.Written.the-variants as Written
 use Rattle.journal_text.specs.Sizes.{longestJournalLine}
-use Rattle.journal_text.specs.JournalText.{writtenCall}
 use Rattle.journal.specs.JournalLine.{lineText, CallFits}
 use Rattle.journal.specs.JournalParts.{callHead, callTail}
 use Rattle.journal.proofs.JournalLines.{text-parts}
 use Rattle.journal_text.proofs.Lengths.{journal-line-short}
+use Rattle.journal_text.proofs.Answers.{no-letter, short-area, line-written}
 use Rattle.journal_text.proofs.write_call.Statement.{statement}
 use Rattle.journal_text.proofs.write_call.Tie as tie
 
@@ -24,11 +21,10 @@ is-letter-requires : tie.Need-is-letter-requires
 is-letter-requires c κs = tt
 
 returns : tie.Need-returns
-unfolding writtenCall leaves
 returns c =
     let b = c .before .before .before .before in
     let letter = sym (c .before .before .is-letter .ensures) ∙ c .before .if1 .taken in
-    (rw (letter, lt-ltb (length (b .args .out .now)) longestJournalLine (omega (arith, c .if2 .taken))), refl)
+    short-area (b .args .c) (b .args .out .now) letter (c .if2 .taken)
 
 -- a call with a letter fits, so that its line is no longer than the longest
 parts-short : (c : tie.Then1) → length (callHead (c .before .before .before .args .c)) + length (callTail (c .before .before .before .args .c)) ≤ longestJournalLine
@@ -60,7 +56,6 @@ same-length : tie.Need-same-length
 same-length c = c .before .before .put-tail .kept .0 ∙ c .before .before .before .before .before .before .put-head .kept .0
 
 returns-2 : tie.Need-returns-2
-unfolding writtenCall leaves
 returns-2 c =
     let t = c .before .before .before .before .before .before .before .before .before in
     let b = t .before .before .before in
@@ -75,14 +70,14 @@ returns-2 c =
     q .ensures .1
     ∙ ap (λ (l : List ℕ). laid l (p .result) (callTail k)) (p .ensures .1)
     ∙ laid-laid out 0 (p .result) (callHead k) (callTail k) (omega (arith, p .ensures .0))
-    ∙ ap (laid out 0) (sym (text-parts k)) in (
-      rw (letter, le-ltb (length out) longestJournalLine (omega (arith, room))) (ap Written.Text size),
-      whole ∙ laid-front out (lineText k) (omega (arith, parts-short t, room, ap length (text-parts k), length-append (callHead k) (callTail k))),
-    )
+    ∙ ap (laid out 0) (sym (text-parts k)) in
+    let fits : length (lineText k) ≤ length out = omega (arith, parts-short t, room, ap length (text-parts k), length-append (callHead k) (callTail k)) in
+    line-written k out (q .last .0) (q .result) letter (omega (arith, room)) size (whole ∙ laid-front out (lineText k) fits)
 
 returns-3 : tie.Need-returns-3
-unfolding writtenCall leaves
-returns-3 c = let no = sym (c .before .is-letter .ensures) ∙ c .if1 .left in (rw no, refl)
+returns-3 c =
+    let b = c .before .before .before in
+    no-letter (b .args .c) (b .args .out .now) (sym (c .before .is-letter .ensures) ∙ c .if1 .left)
 
 pub write-call-spec : {M : Type 1} → statement M
 write-call-spec =

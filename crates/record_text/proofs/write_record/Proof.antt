@@ -2,14 +2,12 @@
 -- the area has room for it. Assumes nothing.
 use native.Mathlib.Omega.{arith}
 use borrow.Author.Needs.{needs}
-use mathlib.Core.Path.{refl, sym, ap, _∙_}
+use mathlib.Core.Path.{refl}
 use Prim.Native.Nat.{_≤_}
 use lib.ListN.{length, replicate}
-use Rattle.fields.specs.Written.{leaves}
-use Rattle.fields.specs.declared.Written.the-variants as Written
 use Rattle.record_text.specs.RecordText.{recordText}
 use Rattle.record_text.proofs.Longest.{text-short}
-use Rattle.record_text.proofs.Written.{writtenText-short, writtenText-long, copied}
+use Rattle.record_text.proofs.Written.{short-area, text-written, copied}
 use Rattle.record_text.proofs.write_record.Statement.{statement}
 use Rattle.record_text.proofs.write_record.Tie as tie
 
@@ -26,11 +24,10 @@ put-text-requires : tie.Need-put-text-requires
 put-text-requires c κs = room (c .before .before)
 
 returns : tie.Need-returns
-unfolding leaves
 returns c =
     let s = c .before .before .before .before .before in
     let p = c .before .before .put-text in
-    (sym (writtenText-short (s .args .r) (s .args .out .now) (omega (arith, p .ensures .0, c .if1 .taken))), refl)
+    short-area (s .args .r) (s .args .out .now) (omega (arith, p .ensures .0, c .if1 .taken))
 
 sub-put-bytes : tie.Need-sub-put-bytes
 sub-put-bytes c = search needs
@@ -50,15 +47,13 @@ same-length : tie.Need-same-length
 same-length c = c .before .before .put-bytes .kept .0
 
 returns-2 : tie.Need-returns-2
-unfolding leaves
 returns-2 c =
     let s = c .before .before .before .before .before .before .before .before .before .before .before in
     let p = c .before .before .before .before .before .before .before .before .put-text in
     let q = c .before .before .put-bytes in
-    let fits : length (recordText (s .args .r)) ≤ length (s .args .out .now) = rw (p .ensures .0) at (c .before .before .before .before .before .before .if1 .left) in (
-      ap Written.Text (p .ensures .0) ∙ sym (writtenText-long (s .args .r) (s .args .out .now) fits),
-      copied (s .args .out .now) (replicate 123 0) (p .last .0) (q .last .0) (recordText (s .args .r)) (p .result) (p .ensures .0) (room s) fits (p .ensures .1) (q .ensures .1),
-    )
+    let fits : length (recordText (s .args .r)) ≤ length (s .args .out .now) = rw (p .ensures .0) at (c .before .before .before .before .before .before .if1 .left) in
+    text-written (s .args .r) (s .args .out .now) (q .last .0) (p .result) fits (p .ensures .0)
+    (copied (s .args .out .now) (replicate 123 0) (p .last .0) (q .last .0) (recordText (s .args .r)) (p .result) (p .ensures .0) (room s) fits (p .ensures .1) (q .ensures .1))
 
 pub write-record-spec : {M : Type 1} → statement M
 write-record-spec =

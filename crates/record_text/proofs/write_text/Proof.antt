@@ -1,8 +1,7 @@
 -- `record_text::write_text` meets its contract: a record's text is written, and nothing where the bytes are none. Assumes nothing.
 use borrow.Author.Needs.{needs}
-use mathlib.Core.Path.{refl, sym, _∙_}
-use Rattle.fields.specs.Written.{leaves}
-use Rattle.record_text.specs.RecordText.{textOf, writtenText}
+use mathlib.Core.Path.{sym, _∙_}
+use Rattle.record_text.proofs.Written.{no-record}
 use Rattle.record_text.proofs.write_text.Statement.{statement}
 use Rattle.record_text.proofs.write_text.Tie as tie
 
@@ -22,16 +21,14 @@ same-length : tie.Need-same-length
 same-length c = search needs
 
 returns : tie.Need-returns
-unfolding textOf
 returns c =
     let d = sym (c .before .before .before .before .before .before .before .decode .ensures) ∙ c .before .before .before .before .before .r .given .1 in
     rw d (c .before .before .write-record .ensures)
 
 returns-2 : tie.Need-returns-2
-unfolding textOf writtenText leaves
 returns-2 c =
     let d = sym (c .before .before .decode .ensures) ∙ c .enum-told .given .1 in
-    rw d (refl, refl)
+    rw d (no-record (c .before .before .before .before .before .args .out .now))
 
 pub write-text-spec : {M : Type 1} → statement M
 write-text-spec =

@@ -29,7 +29,7 @@ add-result c =
     let s = c .before .before .before .before .before .before .before in
     let w = c .before .before .before .write-text in
     let bounded : AreBytes (s .args .bytes .now) = λ i. omega (arith, c .before .before .before .before .before .shared-slice-known .given i) in
-    let laidDown = text-laid (s .args .out .now) (s .args .bytes .now) (w .last .1 .0) (s .args .at) (w .result) bounded (s .pre) (w .ensures .0) (w .ensures .1) in
+    let laidDown = text-laid (s .args .out .now) (s .args .bytes .now) (w .last .1 .0) (s .args .at) (w .result) bounded (s .pre) (w .ensures .1 .0) (w .ensures .1 .1) in
     omega (arith, laidDown .0, textOf-short (s .args .bytes .now) bounded, c .written-length .ensures, s .pre)
 
 same-length : tie.Need-same-length
@@ -41,7 +41,7 @@ returns c =
     let w = c .before .before .before .write-text in
     let laidDown =
     text-laid (s .args .out .now) (s .args .bytes .now) (w .last .1 .0) (s .args .at) (w .result)
-    (λ i. omega (arith, c .before .before .before .before .before .shared-slice-known .given i)) (s .pre) (w .ensures .0) (w .ensures .1) in
+    (λ i. omega (arith, c .before .before .before .before .before .shared-slice-known .given i)) (s .pre) (w .ensures .1 .0) (w .ensures .1 .1) in
     (ap (λ n. s .args .at + n) (c .written-length .ensures ∙ laidDown .0), laidDown .1)
 
 pub put-text-spec : {M : Type 1} → statement M
