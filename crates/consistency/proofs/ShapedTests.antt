@@ -10,7 +10,7 @@ use borrow.Author.Tests.{le-leb, lt-ltb, eq-eqb, eqb-true}
 use lib.Dec.{leb, ltb, eqb}
 use lib.IntN.{ℤ, pos, negsuc}
 use lib.ListN.{take}
-use Rattle.signed.specs.Mean.{InRange}
+use Rattle.signed.specs.Range.{InRange}
 use Rattle.journal.specs.Kinds.{letterS, letterT}
 use Rattle.store.specs.declared.Reading.{Reading}
 use Rattle.store.specs.Lists.{Every, allOf}

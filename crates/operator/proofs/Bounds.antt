@@ -9,7 +9,7 @@ use borrow.Author.Tests.{leb-true, le-leb, lt-leb, ltb-true}
 use lib.Dec.{leb, leb·suc-suc}
 use lib.IntN.{ℤ, pos, negsuc, negℤ}
 use lib.Signed.{leZ, ltZ}
-use Rattle.signed.specs.Mean.{InRange}
+use Rattle.signed.specs.Range.{InRange}
 use Rattle.store.specs.Lists.{allOf, Every}
 use Rattle.store.proofs.Choices.{and-parts}
 use Rattle.store.proofs.Pairs.{every-to, every-passes}

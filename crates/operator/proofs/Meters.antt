@@ -9,7 +9,7 @@ use native.Mathlib.Nat.{add-zero}
 use lib.IntN.{ℤ}
 use lib.ListN.{length, getD, set}
 use lib.Signed.{mag}
-use Rattle.signed.specs.Mean.{InRange}
+use Rattle.signed.specs.Range.{InRange}
 use Rattle.settings.specs.declared.Settings.{Settings}
 use Rattle.store.specs.declared.Reading.{Reading}
 use Rattle.store.specs.Order.{Placed}

@@ -8,7 +8,7 @@ use borrow.Author.Tests.{ltb-true}
 use lib.Dec.{ltb}
 use lib.IntN.{ℤ, pos, negsuc, subℕ, _+ℤ_}
 use lib.Signed.{mag}
-use Rattle.signed.specs.Mean.{InRange}
+use Rattle.signed.specs.Range.{InRange}
 
 -- a - b, each within its side of the range
 sub-range : (n a b : ℕ) → a ≤ (2 ^ 31 - 1) * n → b ≤ 2 ^ 31 * n → InRange (subℕ a b) n

@@ -6,7 +6,7 @@ ghost use Prim.Native.Nat.{ℕ, _+_, _*_, _<_, _≤_, _^_};
 ghost use lib.ListN.{length};
 ghost use Rattle.area.specs.Laid.{inFront};
 ghost use Rattle.clock.specs.Windows.{windowStart};
-ghost use Rattle.signed.specs.Mean.{InRange};
+ghost use Rattle.signed.specs.Range.{InRange};
 ghost use Rattle.settings.specs.declared.Settings.{Settings as Limits};
 ghost use Rattle.record.specs.Sizes.{recordBytes};
 ghost use Rattle.record.specs.Layout.{allBytes};

@@ -12,7 +12,7 @@ use lib.ListN.{length, getD, drop, drop-of-length-le}
 use lib.Seq.{drop-cons}
 use lib.Signed.{mag}
 use Rattle.settings.specs.declared.Settings.{Settings}
-use Rattle.signed.specs.Mean.{InRange}
+use Rattle.signed.specs.Range.{InRange}
 use Rattle.store.specs.Lists.{Every}
 use Rattle.store.proofs.Choices.{cond-either}
 use Rattle.store.proofs.Pairs.{every-to, every-set, every-at}

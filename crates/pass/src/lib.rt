@@ -3,7 +3,7 @@ ghost use mathlib.Core.Path.{_≡_};
 ghost use mathlib.Core.Bool.{true};
 ghost use Prim.Native.Nat.{_<_, _≤_, _^_};
 ghost use lib.ListN.{length};
-ghost use Rattle.signed.specs.Mean.{InRange};
+ghost use Rattle.signed.specs.Range.{InRange};
 ghost use Rattle.store.specs.Lists.{allOf, Every};
 ghost use Rattle.operator.specs.Meters.{meterCount};
 ghost use Rattle.operator.specs.Bounds.{meterOk};

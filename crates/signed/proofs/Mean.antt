@@ -1,16 +1,18 @@
--- The mean of a sum in range is no larger than the values' bound, so it fits 32 bits; of no value it is 0. By cases on the sign and
--- one bound on a quotient. Assumes nothing.
+-- The mean is the whole number nearest to the quotient, of two equally near the one further from zero, and has the sum's sign. That of a
+-- sum in range is no larger than the values' bound, so it fits 32 bits; of no value it is 0. By cases on the sign and bounds on a quotient.
+-- Assumes nothing.
 use mathlib.Core.Path.{_≡_, refl, ap}
 use mathlib.Core.Bool.{true, false}
 use Prim.Native.Nat.{ℕ, zero, suc, _+_, _-_, _*_, _/_, _<_, _≤_, _^_}
 use native.Mathlib.Omega.{arith}
-use native.Mathlib.Nat.{div-lt-iff-lt-mul}
+use native.Mathlib.Nat.{div-lt-iff-lt-mul, div-mul-le-self}
 use borrow.Author.Tests.{ltb-true, ne-eqb}
 use lib.IntN.{ℤ, pos, negsuc, negℤ, natAbs}
 use lib.Signed.{ltZ}
 use mir.Syntax.{w32}
 use mir.Val.{SFits}
-use Rattle.signed.specs.Mean.{nearest, mean, InRange}
+use Rattle.signed.specs.Mean.{nearest, mean}
+use Rattle.signed.specs.Range.{InRange}
 use Rattle.signed.proofs.Negation.{neg-fits}
 
 -- ---- to the nearest whole
@@ -31,7 +33,28 @@ nearest-le a (suc n) b h =
     div-lt-iff-lt-mul {k = 2 * suc n} {x = 2 * a + suc n} {y = b + 1} (omega arith) .1 (omega arith) in
     rw (nearest-some a (suc n) (omega arith)) (omega arith)
 
+-- q is the whole number nearest to a / n, a half upward: it lies at most half above the quotient, and less than half below
+pub record IsNearest (a n q : ℕ) : Type 0 where
+  pub above : 2 * (q * n) ≤ 2 * a + n
+  pub below : 2 * a + n < 2 * ((q + 1) * n)
+
+pub nearest-nearest : (a n : ℕ) → 0 < n → IsNearest a n (nearest a n)
+nearest-nearest a n p =
+    let q = (2 * a + n) / (2 * n) in
+    let l : q * (2 * n) ≤ 2 * a + n = div-mul-le-self (2 * a + n) (2 * n) in
+    let m : 2 * a + n < (q + 1) * (2 * n) = div-lt-iff-lt-mul {k = 2 * n} {x = 2 * a + n} {y = q + 1} (omega arith) .0 (omega arith) in
+    rw (nearest-some a n p) (record { above = omega (arith, l); below = omega (arith, m) })
+
 -- ---- the mean
+
+-- of a sum that is not below zero, and of one below
+pub mean-nearest : (a n : ℕ) → 0 < n → (q : ℕ) × (mean (pos a) n ≡ pos q) × IsNearest a n q
+unfolding mean
+mean-nearest a n p = (nearest a n, refl, nearest-nearest a n p)
+
+pub mean-nearest-below-zero : (a n : ℕ) → 0 < n → (q : ℕ) × (mean (negsuc a) n ≡ negℤ (pos q)) × IsNearest (suc a) n q
+unfolding mean
+mean-nearest-below-zero a n p = (nearest (suc a) n, refl, nearest-nearest (suc a) n p)
 
 pub mean-none : (z : ℤ) → mean z 0 ≡ pos 0
 unfolding mean

@@ -1,3 +1,4 @@
 -- Definitions on signed numbers.
 pub mod Mean
+pub mod Range
 pub mod Twos

@@ -1,5 +1,5 @@
 -- The mean of a sum over a count (document 01, section 'Buckets and the operator'). Assumes nothing.
-use Prim.Native.Nat.{ℕ, suc, _+_, _-_, _*_, _/_, _^_, _≤_}
+use Prim.Native.Nat.{ℕ, suc, _+_, _*_, _/_}
 use mathlib.Core.Bool.{cond}
 use lib.Dec.{eqb}
 use lib.IntN.{ℤ, pos, negsuc, negℤ}
@@ -12,8 +12,3 @@ nearest a n = cond (eqb n 0) 0 ((2 * a + n) / (2 * n))
 unfoldable pub mean : ℤ → ℕ → ℤ
 mean (pos a) count = pos (nearest a count)
 mean (negsuc a) count = negℤ (pos (nearest (suc a) count))
-
--- the sums that so many values of 32 bits can have: -2^31 × count to (2^31 - 1) × count
-abbrev pub InRange : ℤ → ℕ → Type 0
-InRange (pos a) count = a ≤ (2 ^ 31 - 1) * count
-InRange (negsuc a) count = suc a ≤ 2 ^ 31 * count

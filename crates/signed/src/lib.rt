@@ -2,7 +2,8 @@
 ghost use mathlib.Core.Path.{_≡_};
 ghost use Prim.Native.Nat.{_*_, _<_, _≤_, _^_};
 ghost use lib.IntN.{natAbs};
-ghost use Rattle.signed.specs.Mean.{nearest, mean, InRange};
+ghost use Rattle.signed.specs.Mean.{nearest, mean};
+ghost use Rattle.signed.specs.Range.{InRange};
 ghost use Rattle.signed.specs.Twos.{twos, signedOf};
 
 // The magnitude of a number, also of -2^63.
@@ -40,7 +41,7 @@ pub fn mean_of(sum: i64, count: u32) -> i32
     }
 }
 
-// The word of 32 bits that stands for a signed number, and of 64.
+// The word of 32 bits that stands for a signed number.
 pub fn bits32(x: i32) -> u32
     ensures { λ r. ⌜ r ≡ twos 32 x ⌝ }
 {
@@ -51,6 +52,7 @@ pub fn bits32(x: i32) -> u32
     }
 }
 
+// The word of 64 bits that stands for a signed number, also for -2^63.
 pub fn bits64(x: i64) -> u64
     ensures { λ r. ⌜ r ≡ twos 64 x ⌝ }
 {
@@ -61,7 +63,7 @@ pub fn bits64(x: i64) -> u64
     }
 }
 
-// The signed number that a word of 32 bits stands for, and one of 64.
+// The signed number that a word of 32 bits stands for.
 pub fn signed32(word: u32) -> i32
     ensures { λ r. ⌜ r ≡ signedOf 32 word ⌝ }
 {
@@ -72,6 +74,7 @@ pub fn signed32(word: u32) -> i32
     }
 }
 
+// The signed number that a word of 64 bits stands for.
 pub fn signed64(word: u64) -> i64
     ensures { λ r. ⌜ r ≡ signedOf 64 word ⌝ }
 {

@@ -1,5 +1,5 @@
 // Signed numbers: mean, magnitude and two's complement.
-ghost use Rattle.signed.specs.Mean.{InRange};
+ghost use Rattle.signed.specs.Range.{InRange};
 use crate::text::answer_integer;
 use crate::text::answer_number;
 use crate::text::print;

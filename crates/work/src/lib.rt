@@ -6,7 +6,7 @@ ghost use Prim.Native.Nat.{ℕ, _≤_, _<_, _^_};
 ghost use lib.ListN.{length};
 ghost use Rattle.area.specs.Laid.{inFront};
 ghost use Rattle.clock.specs.Windows.{windowStart};
-ghost use Rattle.signed.specs.Mean.{InRange};
+ghost use Rattle.signed.specs.Range.{InRange};
 ghost use Rattle.record.specs.Layout.{allBytes};
 ghost use Rattle.store.specs.Lists.{Every};
 ghost use Rattle.store.specs.Order.{inBucket};

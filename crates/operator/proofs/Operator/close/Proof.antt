@@ -7,7 +7,7 @@ use borrow.Author.Needs.{needs}
 use mathlib.Core.List.{List}
 use lib.ListN.{length-take, length-drop}
 use Rattle.area.specs.Laid.{inFront}
-use Rattle.signed.specs.Mean.{InRange}
+use Rattle.signed.specs.Range.{InRange}
 use Rattle.record.proofs.Stores.{record-lent}
 use Rattle.store.proofs.Pairs.{every-at}
 use Rattle.operator.specs.declared.Meter.{Meter}
