@@ -4,7 +4,7 @@ use mathlib.Core.List.{List, [], _∷_, _++_}
 use Prim.Native.Nat.{ℕ, suc, _+_, _<_, _≤_}
 use native.Mathlib.Omega.{arith}
 use native.Mathlib.Nat.{zero-add}
-use lib.ListN.{length, getD, take, drop, set, length-append}
+use lib.ListN.{length, getD, take, set, length-append}
 use lib.Seq.{sets, sets-eq, length-sets, length-take-le, take-suc}
 use Rattle.area.specs.Laid.{laid, inFront}
 

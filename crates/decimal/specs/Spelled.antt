@@ -45,6 +45,7 @@ unfoldable pub negated : Number → Integer
 negated (Number.Value m e) = cond (eqb m 0) Integer.Malformed (Integer.Value (negℤ (pos m)) e)
 negated Number.Malformed = Integer.Malformed
 
+-- the number itself, which is not below zero
 unfoldable pub plain : Number → Integer
 plain (Number.Value m e) = Integer.Value (pos m) e
 plain Number.Malformed = Integer.Malformed
