@@ -13,7 +13,8 @@ use Rattle.settings.specs.declared.Settings.{Settings}
 use Rattle.journal.specs.declared.Call.{Call}
 use Rattle.journal.specs.declared.CallRead.{CallRead}
 use Rattle.journal.specs.declared.CallRead.the-variants as CallRead
-use Rattle.journal.specs.JournalLine.{callOf, callAnswer}
+use Rattle.journal.specs.JournalLine.{callAnswer}
+use Rattle.journal.specs.ReadLine.{callOf}
 use Rattle.store.specs.Lists.{Every}
 use Rattle.store.proofs.Pairs.{every-to}
 use Rattle.operator.specs.declared.Meter.{Meter}

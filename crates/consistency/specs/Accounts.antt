@@ -8,7 +8,7 @@ use lib.ListN.{replicate}
 use Rattle.settings.specs.declared.Settings.{Settings}
 use Rattle.journal.specs.declared.CallRead.{CallRead}
 use Rattle.journal.specs.declared.CallRead.the-variants as CallRead
-use Rattle.journal.specs.JournalLine.{callOf}
+use Rattle.journal.specs.ReadLine.{callOf}
 use Rattle.store.specs.declared.Reading.{Reading}
 use Rattle.protocol.specs.DayBook.{Page, DayBook, emptyBook, bookCall}
 use Rattle.protocol.specs.FailureFree.{stableAfter}

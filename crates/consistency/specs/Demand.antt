@@ -6,7 +6,7 @@ use mathlib.Core.List.{List, [], _∷_, _++_, map}
 use Rattle.settings.specs.declared.Settings.{Settings}
 use Rattle.journal.specs.declared.Call.{Call}
 use Rattle.journal.specs.declared.CallRead.the-variants as CallRead
-use Rattle.journal.specs.JournalLine.{callOf}
+use Rattle.journal.specs.ReadLine.{callOf}
 use Rattle.record.specs.Layout.{bytesOf}
 use Rattle.record.specs.Kinds.{isTentative}
 use Rattle.store.specs.Lists.{Every}

@@ -10,7 +10,11 @@ use lib.Arith.{mod-mul}
 use lib.Dec.{lit<}
 use lib.ListN.{length, getD, take, drop, length-drop}
 use lib.Seq.{drop-cons, drop-drop, take-add, length-take-le, getD-drop}
-use Rattle.endian.specs.LittleEndian.{littleEndian, numberOf, AreBytes}
+use Rattle.endian.specs.LittleEndian.{littleEndian, numberOf}
+
+-- numbers that a slice of bytes can hold: each is below 256
+abbrev pub AreBytes : List ℕ → Type 0
+AreBytes bytes = (i : ℕ) → getD bytes i 0 < 256
 
 pub length-littleEndian : (width x : ℕ) → length (littleEndian width x) ≡ width
 unfolding littleEndian

@@ -1,7 +1,6 @@
 -- A number as so many bytes, the lowest first, and back. Assumes nothing.
-use Prim.Native.Nat.{ℕ, zero, suc, _+_, _*_, _/_, _%_, _<_}
+use Prim.Native.Nat.{ℕ, zero, suc, _+_, _*_, _/_, _%_}
 use mathlib.Core.List.{List, [], _∷_}
-use lib.ListN.{getD}
 
 -- a number's lowest bytes, the lowest first
 unfoldable pub littleEndian : ℕ → ℕ → List ℕ
@@ -12,7 +11,3 @@ littleEndian (suc width) x = x % 256 ∷ littleEndian width (x / 256)
 unfoldable pub numberOf : List ℕ → ℕ
 numberOf [] = 0
 numberOf (b ∷ bytes) = b + 256 * numberOf bytes
-
--- numbers that a slice of bytes can hold: each is below 256
-abbrev pub AreBytes : List ℕ → Type 0
-AreBytes bytes = (i : ℕ) → getD bytes i 0 < 256

@@ -1,7 +1,7 @@
 -- One field read from a place on: its key with what stands before it, then its number. Assumes nothing.
 use Prim.Native.Nat.{ℕ, _+_}
 use mathlib.Core.Bool.{Bool, true, false, cond, _&&_}
-use mathlib.Core.List.{List, [], _∷_}
+use mathlib.Core.List.{List, [], _∷_, _++_}
 use lib.Dec.{eqb}
 use lib.IntN.{ℤ}
 use lib.ListN.{length, getD, drop}
@@ -10,6 +10,13 @@ use Rattle.decimal.specs.declared.Number.the-variants as Number
 use Rattle.decimal.specs.declared.Integer.{Integer}
 use Rattle.decimal.specs.declared.Integer.the-variants as Integer
 use Rattle.decimal.specs.Spelled.{numberAt, integerAt}
+
+-- a key with its `=`: the first field's, and a later one's, behind the space before it
+abbrev pub first : List ℕ → List ℕ
+first key = key ++ 61 ∷ []
+
+abbrev pub later : List ℕ → List ℕ
+later key = 32 ∷ key ++ 61 ∷ []
 
 -- a text begins with these bytes
 unfoldable pub startsWith : List ℕ → List ℕ → Bool

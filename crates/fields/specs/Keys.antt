@@ -1,7 +1,6 @@
--- The keys of the settings line, the journal line and the text of a record, in ASCII. In a line a key comes with its `=` and, behind
--- another field, with the space before it. Assumes nothing.
+-- The keys of the settings line, the journal line and the text of a record, in ASCII. Assumes nothing.
 use Prim.Native.Nat.{ℕ}
-use mathlib.Core.List.{List, [], _∷_, _++_}
+use mathlib.Core.List.{List, [], _∷_}
 
 abbrev pub linesKey : List ℕ
 linesKey = 108 ∷ 105 ∷ 110 ∷ 101 ∷ 115 ∷ []
@@ -53,10 +52,3 @@ meanKey = 109 ∷ 101 ∷ 97 ∷ 110 ∷ []
 
 abbrev pub lastKey : List ℕ
 lastKey = 108 ∷ 97 ∷ 115 ∷ 116 ∷ []
-
--- the first field's key, and a later one's
-abbrev pub first : List ℕ → List ℕ
-first key = key ++ 61 ∷ []
-
-abbrev pub later : List ℕ → List ℕ
-later key = 32 ∷ key ++ 61 ∷ []

@@ -8,7 +8,8 @@ use borrow.Author.Tests.{eq-eqb, eqb-true}
 use lib.Dec.{eqb}
 use lib.ListN.{length}
 use Rattle.fields.proofs.Spells.{spells-whole, whole-spelled}
-use Rattle.journal.specs.JournalLine.{lineText, callAt, whole, callOf, callAnswer, CallFits, ExactCall}
+use Rattle.journal.specs.JournalLine.{lineText, callAnswer, CallFits, ExactCall}
+use Rattle.journal.specs.ReadLine.{callAt, whole, callOf}
 use Rattle.journal.specs.declared.Call.{Call}
 use Rattle.journal.specs.declared.CallAt.{CallAt}
 use Rattle.journal.specs.declared.CallAt.the-variants as CallAt

@@ -1,22 +1,21 @@
 -- A journal line is read exactly if the text has it: field by field, each stretch of the text is the field's, and stretches join to the
 -- line. Assumes nothing.
 use mathlib.Core.Path.{_≡_, refl, ap, subst, _∙_}
-use mathlib.Core.Bool.{true, false, cond}
+use mathlib.Core.Bool.{true}
 use mathlib.Core.List.{List, [], _∷_, _++_, append-assoc}
-use Prim.Native.Nat.{ℕ, _+_, _-_, _<_, _≤_, _^_}
+use Prim.Native.Nat.{ℕ, _+_, _-_, _<_, _^_}
 use native.Mathlib.Omega.{arith}
 use lib.IntN.{pos}
 use lib.ListN.{length, drop, length-append}
 use Rattle.decimal.specs.Decimal.{digits, decimal}
 use Rattle.decimal.specs.Spelled.{isDigit}
-use Rattle.decimal.specs.declared.Number.the-variants as Number
-use Rattle.decimal.specs.declared.Integer.the-variants as Integer
 use Rattle.fields.specs.Line.{field, lineOf}
-use Rattle.fields.specs.Field.{endsLine, numberField, integerField, withNumber, withInteger}
+use Rattle.fields.specs.Field.{endsLine, withNumber, withInteger, first, later}
 use Rattle.fields.proofs.Spells.{Spells, spells-append}
 use Rattle.fields.proofs.Fields.{picked, number-field-sound, number-field-complete, integer-field-sound, integer-field-complete, with-number, with-integer, end-sound, end-complete}
-use Rattle.fields.specs.Keys.{nowKey, lineKey, kindKey, idKey, timeKey, meterKey, valueKey, first, later}
-use Rattle.journal.specs.JournalLine.{lineText, callAt, CallFits}
+use Rattle.fields.specs.Keys.{nowKey, lineKey, kindKey, idKey, timeKey, meterKey, valueKey}
+use Rattle.journal.specs.JournalLine.{lineText, CallFits}
+use Rattle.journal.specs.ReadLine.{callAt}
 use Rattle.journal.specs.JournalParts.{callHead, callTail}
 use Rattle.journal.specs.declared.Call.{Call}
 use Rattle.journal.specs.declared.CallAt.{CallAt}

@@ -1,10 +1,9 @@
 -- A letter field is read exactly if the text has it. Assumes nothing.
 use mathlib.Core.Path.{_≡_, refl, sym, ap, _∙_}
-use mathlib.Core.Bool.{Bool, true, false, cond}
+use mathlib.Core.Bool.{true, false}
 use mathlib.Core.List.{List, [], _∷_, _++_}
 use Prim.Native.Nat.{ℕ, zero, suc, _+_, _<_, _≤_}
 use native.Mathlib.Omega.{arith}
-use native.Mathlib.Numerals.{add-one}
 use borrow.Author.Tests.{ne-eqb, ltb-true, ltb-false}
 use lib.Dec.{ltb}
 use lib.ListN.{length, getD, drop, length-append, List·getD-eq-default}
@@ -15,7 +14,7 @@ use Rattle.fields.specs.Field.{startsWith}
 use Rattle.fields.proofs.Spells.{Spells, spells-rest}
 use Rattle.fields.proofs.Fields.{picked, no-number, field-sound, field-complete, getD-inside}
 use Rattle.journal.specs.Kinds.{letterS, letterT, letterB, letterU, letterR, letterP, isLetter}
-use Rattle.journal.specs.JournalLine.{letterAt, letterField}
+use Rattle.journal.specs.ReadLine.{letterAt, letterField}
 
 -- a byte that is none of the six
 pub no-such-letter : (b : ℕ) → (b ≡ letterS → ⊥) → (b ≡ letterT → ⊥) → (b ≡ letterB → ⊥) → (b ≡ letterU → ⊥) → (b ≡ letterR → ⊥) → (b ≡ letterP → ⊥) → isLetter b ≡ false

@@ -3,7 +3,8 @@ use Prim.Native.Nat.{ℕ}
 use mathlib.Core.List.{List, [], _∷_, _++_}
 use lib.IntN.{pos}
 use Rattle.decimal.specs.Decimal.{decimal}
-use Rattle.fields.specs.Keys.{nowKey, lineKey, kindKey, idKey, timeKey, meterKey, valueKey, first, later}
+use Rattle.fields.specs.Keys.{nowKey, lineKey, kindKey, idKey, timeKey, meterKey, valueKey}
+use Rattle.fields.specs.Field.{first, later}
 use Rattle.journal.specs.declared.Call.{Call}
 
 -- up to the kind

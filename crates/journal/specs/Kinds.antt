@@ -22,6 +22,7 @@ letterR = 82
 abbrev pub letterP : ℕ
 letterP = 80
 
+-- a byte that is one of these letters
 unfoldable pub isLetter : ℕ → Bool
 isLetter kind =
     eqb kind letterS || (eqb kind letterT || (eqb kind letterB || (eqb kind letterU || (eqb kind letterR || eqb kind letterP))))

@@ -1,7 +1,8 @@
 // The journal line: one call, and the reader of its text.
 ghost use mathlib.Core.Path.{_≡_};
 ghost use Rattle.journal.specs.Kinds.{isLetter};
-ghost use Rattle.journal.specs.JournalLine.{letterAt, letterField, callAt, callOf, hasForm, ExactCall};
+ghost use Rattle.journal.specs.JournalLine.{hasForm, ExactCall};
+ghost use Rattle.journal.specs.ReadLine.{letterAt, letterField, callAt, callOf};
 use clock::ArrivalTick;
 use clock::ReadingTime;
 use decimal::Integer;

@@ -6,7 +6,8 @@ use lib.IntN.{pos}
 use lib.ListN.{length}
 use Rattle.area.proofs.Laid.{length-three, length-four}
 use Rattle.decimal.specs.Decimal.{decimal}
-use Rattle.fields.specs.Keys.{nowKey, lineKey, kindKey, idKey, timeKey, meterKey, valueKey, first, later}
+use Rattle.fields.specs.Keys.{nowKey, lineKey, kindKey, idKey, timeKey, meterKey, valueKey}
+use Rattle.fields.specs.Field.{first, later}
 use Rattle.journal.specs.JournalParts.{callHead, callTail}
 use Rattle.journal.specs.declared.Call.{Call}
 

@@ -5,7 +5,8 @@ use Prim.Native.Nat.{ℕ}
 use lib.ListN.{length, take, drop}
 use lib.Seq.{take-at}
 use Rattle.area.specs.Laid.{inFront}
-use Rattle.journal.specs.JournalLine.{lineText, callOf, CallFits}
+use Rattle.journal.specs.JournalLine.{lineText, CallFits}
+use Rattle.journal.specs.ReadLine.{callOf}
 use Rattle.journal.specs.declared.Call.{Call}
 use Rattle.journal.specs.declared.CallRead.the-variants as CallRead
 use Rattle.journal.proofs.Exact.{exact-call}

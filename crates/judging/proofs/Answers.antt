@@ -9,7 +9,8 @@ use lib.Dec.{eqb}
 use Rattle.journal.specs.declared.Call.{Call}
 use Rattle.journal.specs.declared.CallRead.{CallRead}
 use Rattle.journal.specs.declared.CallRead.the-variants as CallRead
-use Rattle.journal.specs.JournalLine.{callOf, callAnswer}
+use Rattle.journal.specs.JournalLine.{callAnswer}
+use Rattle.journal.specs.ReadLine.{callOf}
 use lib.ListN.{length, take}
 use Rattle.store.specs.Sizes.{readingsPerLine}
 use Rattle.store.specs.Lists.{Every}

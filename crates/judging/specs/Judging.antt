@@ -6,7 +6,8 @@ use mathlib.Core.List.{List}
 use lib.Dec.{eqb}
 use Rattle.journal.specs.declared.CallRead.{CallRead}
 use Rattle.journal.specs.declared.CallRead.the-variants as CallRead
-use Rattle.journal.specs.JournalLine.{callOf, callAnswer}
+use Rattle.journal.specs.JournalLine.{callAnswer}
+use Rattle.journal.specs.ReadLine.{callOf}
 use Rattle.store.specs.Columns.{Columns}
 use Rattle.protocol.specs.Refusals.{firstFailed, answerTo}
 use Rattle.node.specs.declared.State.{State}

@@ -12,7 +12,8 @@ use Rattle.area.specs.Laid.{inFront}
 use Rattle.journal.specs.declared.Call.{Call}
 use Rattle.journal.specs.declared.CallRead.{CallRead}
 use Rattle.journal.specs.declared.CallRead.the-variants as CallRead
-use Rattle.journal.specs.JournalLine.{lineText, callOf, callAnswer, CallFits}
+use Rattle.journal.specs.JournalLine.{lineText, callAnswer, CallFits}
+use Rattle.journal.specs.ReadLine.{callOf}
 use Rattle.journal.proofs.Exact.{accepted-line}
 use Rattle.store.specs.Lists.{Every}
 use Rattle.protocol.specs.Refusals.{Test, firstFailed, answerTo}

@@ -11,7 +11,8 @@ use Rattle.settings.specs.declared.Settings.{Settings}
 use Rattle.settings.specs.declared.SettingsRead.{SettingsRead}
 use Rattle.settings.specs.declared.SettingsRead.the-variants as SettingsRead
 use Rattle.settings.specs.Limits.{maxLines, withinLimits, SettingsFit}
-use Rattle.settings.specs.SettingsLine.{settingsText, settingsOf, settingsAnswer, limited}
+use Rattle.settings.specs.SettingsLine.{settingsText, settingsAnswer, limited}
+use Rattle.settings.specs.ReadLine.{settingsOf}
 use Rattle.settings.proofs.Exact.{exact-settings}
 use Rattle.store.specs.declared.Reading.{Reading}
 use Rattle.store.specs.Lists.{Every}

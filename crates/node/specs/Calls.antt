@@ -9,7 +9,8 @@ use Rattle.area.specs.Laid.{inFront}
 use Rattle.journal.specs.declared.Call.{Call}
 use Rattle.journal.specs.declared.CallRead.{CallRead}
 use Rattle.journal.specs.declared.CallRead.the-variants as CallRead
-use Rattle.journal.specs.JournalLine.{callOf, callAnswer}
+use Rattle.journal.specs.JournalLine.{callAnswer}
+use Rattle.journal.specs.ReadLine.{callOf}
 use Rattle.record.specs.Layout.{allBytes}
 use Rattle.protocol.specs.Rules.{Outcome}
 use Rattle.protocol.specs.Refusals.{Test, firstFailed, answerTo}

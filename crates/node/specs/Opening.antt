@@ -9,7 +9,8 @@ use Rattle.settings.specs.declared.Settings.{Settings}
 use Rattle.settings.specs.declared.SettingsRead.{SettingsRead}
 use Rattle.settings.specs.declared.SettingsRead.the-variants as SettingsRead
 use Rattle.settings.specs.Limits.{maxLines}
-use Rattle.settings.specs.SettingsLine.{settingsOf, settingsAnswer}
+use Rattle.settings.specs.SettingsLine.{settingsAnswer}
+use Rattle.settings.specs.ReadLine.{settingsOf}
 use Rattle.protocol.specs.Node.{Node, opened, noLine}
 use Rattle.store.specs.Sizes.{readingsPerLine}
 use Rattle.store.specs.Columns.{withRows, storeLength, Columns, zeroed}

@@ -9,7 +9,8 @@ use lib.ListN.{length, replicate, length-replicate}
 use Rattle.settings.specs.declared.Settings.{Settings}
 use Rattle.settings.specs.declared.SettingsRead.{SettingsRead}
 use Rattle.settings.specs.declared.SettingsRead.the-variants as SettingsRead
-use Rattle.settings.specs.SettingsLine.{settingsOf, settingsAnswer}
+use Rattle.settings.specs.SettingsLine.{settingsAnswer}
+use Rattle.settings.specs.ReadLine.{settingsOf}
 use Rattle.store.specs.Sizes.{readingsPerLine}
 use Rattle.store.specs.Columns.{Columns, storeLength, withRowsAt, zeroed}
 use Rattle.store.proofs.Columns.{withRowsAt-front}

@@ -8,7 +8,7 @@ use native.Mathlib.Nat.{zero-add}
 use lib.ListN.{length, drop, length-append}
 use Rattle.area.specs.Laid.{laid, inFront}
 use Rattle.area.proofs.Laid.{laid-laid, laid-front}
-use Rattle.endian.specs.LittleEndian.{AreBytes}
+use Rattle.endian.proofs.LittleEndian.{AreBytes}
 use Rattle.record.specs.Sizes.{recordBytes}
 use Rattle.record_text.specs.Sizes.{longestRecordText}
 use Rattle.node.specs.Sizes.{recordsPerCall}

@@ -10,11 +10,11 @@ use lib.ListN.{length, getD, take, drop, length-drop}
 use lib.Seq.{take-all, take-add, length-take-le}
 use Rattle.signed.specs.Twos.{twos, signedOf}
 use Rattle.signed.proofs.Twos.{twos-fits, signedOf-twos, signedOf-fits, twos-signedOf}
-use Rattle.endian.specs.LittleEndian.{littleEndian, numberOf, AreBytes}
-use Rattle.endian.proofs.LittleEndian.{numberOf-littleEndian, littleEndian-numberOf, numberOf-bound, areBytes-littleEndian, areBytes-append, areBytes-take, areBytes-drop}
+use Rattle.endian.specs.LittleEndian.{littleEndian, numberOf}
+use Rattle.endian.proofs.LittleEndian.{numberOf-littleEndian, littleEndian-numberOf, numberOf-bound, areBytes-littleEndian, areBytes-append, areBytes-take, areBytes-drop, AreBytes}
 use Rattle.record.specs.declared.Record.{Record}
 use Rattle.record.specs.Layout.{bytesOf}
-use Rattle.record.specs.Decoded.{wordAt, fieldsOf}
+use Rattle.record.specs.Fields.{wordAt, fieldsOf}
 use Rattle.record.specs.Within.{Within}
 
 pub length-bytesOf : (r : Record) → length (bytesOf r) ≡ 32

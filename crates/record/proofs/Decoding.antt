@@ -8,13 +8,14 @@ use native.Mathlib.Omega.{arith}
 use lib.Dec.{eqb}
 use lib.ListN.{length, getD}
 use borrow.Author.Tests.{eqb-true}
-use Rattle.endian.specs.LittleEndian.{AreBytes}
+use Rattle.endian.proofs.LittleEndian.{AreBytes}
 use Rattle.record.specs.declared.Record.{Record}
 use Rattle.record.specs.declared.Decoded.{Decoded}
 use Rattle.record.specs.declared.Decoded.the-variants as Decoded
 use Rattle.record.specs.Kinds.{isRecord}
 use Rattle.record.specs.Layout.{bytesOf}
-use Rattle.record.specs.Decoded.{fieldsOf, isWellFormed, decoded}
+use Rattle.record.specs.Fields.{fieldsOf}
+use Rattle.record.specs.Decoded.{isWellFormed, decoded}
 use Rattle.record.specs.Within.{Within}
 use Rattle.record.proofs.BytesOf.{length-bytesOf, fieldsOf-bytesOf, bytesOf-fieldsOf, within-fieldsOf}
 

@@ -3,4 +3,5 @@ pub mod Sizes
 pub mod Kinds
 pub mod Layout
 pub mod Within
+pub mod Fields
 pub mod Decoded

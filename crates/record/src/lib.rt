@@ -7,7 +7,8 @@ ghost use Rattle.area.specs.Laid.{laid, inFront};
 ghost use Rattle.record.specs.Sizes.{recordBytes};
 ghost use Rattle.record.specs.Kinds.{isStable, isTentative, isResult, isRecord};
 ghost use Rattle.record.specs.Layout.{bytesOf};
-ghost use Rattle.record.specs.Decoded.{fieldsOf, isWellFormed, decoded};
+ghost use Rattle.record.specs.Fields.{fieldsOf};
+ghost use Rattle.record.specs.Decoded.{isWellFormed, decoded};
 use clock::ReadingTime;
 
 // Bytes of one record.
@@ -24,6 +25,7 @@ pub const BOUNDARY: u8 = b'B';
 
 pub const DONE: u8 = b'R';
 
+// The fields of one record; the kind is its letter's byte.
 pub struct Record {
     pub sum: i64,
     pub id: u32,
@@ -41,18 +43,21 @@ pub enum Decoded {
     Malformed,
 }
 
+// Whether a kind is that of a stable result.
 pub fn is_stable(kind: u8) -> bool
     ensures { λ r. ⌜ r ≡ isStable kind ⌝ }
 {
     kind == STABLE
 }
 
+// Whether a kind is that of a tentative result.
 pub fn is_tentative(kind: u8) -> bool
     ensures { λ r. ⌜ r ≡ isTentative kind ⌝ }
 {
     kind == TENTATIVE
 }
 
+// Whether a kind is that of a result.
 pub fn is_result(kind: u8) -> bool
     ensures { λ r. ⌜ r ≡ isResult kind ⌝ }
 {

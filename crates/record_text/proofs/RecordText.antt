@@ -11,7 +11,8 @@ use Rattle.area.specs.Laid.{laid}
 use Rattle.area.proofs.Laid.{laid-laid}
 use Rattle.area.proofs.Runs.{LaidTo}
 use Rattle.decimal.specs.Decimal.{decimal}
-use Rattle.fields.specs.Keys.{timeKey, meterKey, later}
+use Rattle.fields.specs.Keys.{timeKey, meterKey}
+use Rattle.fields.specs.Field.{later}
 use Rattle.fields.specs.Line.{field, lineOf}
 use Rattle.record.specs.Decoded.{decoded}
 use Rattle.record.specs.Kinds.{isRecord}

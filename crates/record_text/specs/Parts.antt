@@ -3,7 +3,8 @@ use Prim.Native.Nat.{ℕ}
 use mathlib.Core.List.{List, [], _∷_, _++_}
 use lib.IntN.{pos}
 use Rattle.decimal.specs.Decimal.{decimal}
-use Rattle.fields.specs.Keys.{kindKey, idKey, timeKey, meterKey, countKey, sumKey, meanKey, lastKey, first, later}
+use Rattle.fields.specs.Keys.{kindKey, idKey, timeKey, meterKey, countKey, sumKey, meanKey, lastKey}
+use Rattle.fields.specs.Field.{first, later}
 use Rattle.record.specs.declared.Record.{Record}
 
 -- up to the meter

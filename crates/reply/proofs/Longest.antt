@@ -2,7 +2,7 @@
 -- A line of each bound is there. Assumes nothing.
 use mathlib.Core.Path.{_≡_, refl}
 use mathlib.Core.Bool.{Bool, true, false, cond}
-use mathlib.Core.List.{[], _∷_}
+use mathlib.Core.List.{[], _∷_, _++_}
 use Prim.Native.Nat.{ℕ, _+_, _≤_, _<_, _^_}
 use native.Mathlib.Omega.{arith}
 use lib.Dec.{eqb}
@@ -11,12 +11,15 @@ use lib.ListN.{length, length-append}
 use Rattle.decimal.specs.Decimal.{digitsWithin, digits, decimal}
 use Rattle.decimal.proofs.Digits.{digits-short}
 use Rattle.decimal.proofs.Decimals.{unsigned32-short}
-use Rattle.endian.specs.LittleEndian.{AreBytes}
+use Rattle.endian.proofs.LittleEndian.{AreBytes}
 use Rattle.protocol.specs.declared.Phase.{Phase}
 use Rattle.protocol.specs.declared.Phase.the-variants as Phase
 use Rattle.node.specs.Sizes.{recordsPerCall}
 use Rattle.node.specs.Calls.{Called}
-use Rattle.reply.specs.Reply.{phaseWord, wordOf, stateField, answerLine, replyText, longestAnswer, longestReply}
+use Rattle.fields.specs.Line.{field, lineOf}
+use Rattle.reply.specs.Sizes.{longestAnswer, longestReply}
+use Rattle.reply.specs.Reply.{phaseWord, wordOf, answerLine, replyText}
+use Rattle.reply.specs.Parts.{answerField, recordsField, stateField}
 use Rattle.reply.proofs.Records.{recordLines-short}
 
 phase-short : (phase : Phase) → length (phaseWord phase) ≤ 10
@@ -38,10 +41,14 @@ unfolding stateField
 state-short lines phase = simp length-append (omega (arith, word-short lines phase))
 
 module _ (answer records lines : ℕ) (phase : Phase) where
+  -- the line is its parts, one behind the other
+  pub answer-parts : answerLine answer records lines phase ≡ answerField answer ++ (recordsField records ++ stateField lines phase)
+  unfolding answerLine lineOf field stateField
+  answer-parts = refl
+
   -- numbers of so many digits
   answer-digits : (k m : ℕ) → length (decimal (pos answer)) ≤ k → length (decimal (pos records)) ≤ m → length (answerLine answer records lines phase) ≤ 34 + k + m
-  unfolding answerLine
-  answer-digits k m p q = simp length-append (omega (arith, state-short lines phase))
+  answer-digits k m p q = rw answer-parts (simp length-append (omega (arith, state-short lines phase)))
 
   -- numbers of 32 bits
   pub answer-short : answer < 2 ^ 32 → records < 2 ^ 32 → length (answerLine answer records lines phase) ≤ longestAnswer
@@ -54,11 +61,11 @@ module _ (answer records lines : ℕ) (phase : Phase) where
       answer-digits 2 2 (digits-short 2 answer (omega arith) (omega arith) (omega arith)) (digits-short 2 records (omega arith) (omega arith) (omega arith))
 
 pub answer-longest : length (answerLine 4294967295 4294967295 1 Phase.Correcting) ≡ longestAnswer
-unfolding answerLine stateField wordOf phaseWord decimal digits digitsWithin
+unfolding answerLine lineOf field wordOf phaseWord decimal digits digitsWithin
 answer-longest = refl
 
 pub answer-longest-few : length (answerLine 14 recordsPerCall 1 Phase.Correcting) ≡ 38
-unfolding answerLine stateField wordOf phaseWord decimal digits digitsWithin
+unfolding answerLine lineOf field wordOf phaseWord decimal digits digitsWithin
 answer-longest-few = refl
 
 pub longestReply-number : longestReply ≡ 8049

@@ -8,8 +8,7 @@ use lib.ListN.{length, take, drop, length-append}
 use lib.Seq.{drop-drop}
 use Rattle.area.proofs.Laid.{laid-laid}
 use Rattle.area.proofs.Runs.{LaidTo}
-use Rattle.endian.specs.LittleEndian.{AreBytes}
-use Rattle.endian.proofs.LittleEndian.{areBytes-take, areBytes-drop}
+use Rattle.endian.proofs.LittleEndian.{areBytes-take, areBytes-drop, AreBytes}
 use Rattle.record.specs.Sizes.{recordBytes}
 use Rattle.record.specs.declared.Decoded.{Decoded}
 use Rattle.record.specs.declared.Decoded.the-variants as Decoded

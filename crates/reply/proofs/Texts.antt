@@ -8,7 +8,7 @@ use lib.Seq.{sets-eq, length-take-le}
 use borrow.Rule.Slice.PartMut.{putMid}
 use Rattle.area.specs.Laid.{laid, inFront}
 use Rattle.area.proofs.Lent.{lent-inFront}
-use Rattle.endian.specs.LittleEndian.{AreBytes}
+use Rattle.endian.proofs.LittleEndian.{AreBytes}
 use Rattle.fields.specs.declared.Written.{Written}
 use Rattle.fields.specs.Written.{writtenLength}
 use Rattle.record.specs.Decoded.{decoded}

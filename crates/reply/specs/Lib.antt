@@ -1,2 +1,4 @@
 -- What a playback prints.
+pub mod Sizes
 pub mod Reply
+pub mod Parts

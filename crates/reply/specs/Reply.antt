@@ -1,21 +1,21 @@
 -- What is printed for a line: the answer line, then the records as text (document 01, section 'On the last tick and past it'). Assumes
 -- nothing.
-use Prim.Native.Nat.{ℕ, zero, suc, _+_, _*_}
+use Prim.Native.Nat.{ℕ, zero, suc}
 use mathlib.Core.Bool.{cond}
 use mathlib.Core.List.{List, [], _∷_, _++_}
 use lib.Dec.{eqb}
 use lib.IntN.{pos}
 use lib.ListN.{take, drop}
 use Rattle.decimal.specs.Decimal.{decimal}
+use Rattle.fields.specs.Line.{field, lineOf}
 use Rattle.record.specs.Sizes.{recordBytes}
 use Rattle.record.specs.Decoded.{decoded}
-use Rattle.record_text.specs.Sizes.{longestRecordText}
 use Rattle.record_text.specs.RecordText.{textOf}
 use Rattle.protocol.specs.declared.Phase.{Phase}
 use Rattle.protocol.specs.declared.Phase.the-variants as Phase
-use Rattle.node.specs.Sizes.{recordsPerCall}
 use Rattle.node.specs.Opening.{Opened}
 use Rattle.node.specs.Calls.{Called}
+pub use Rattle.reply.specs.Sizes.{longestAnswer, longestReply}
 
 -- 'stable', 'failure', 'correcting'
 unfoldable pub phaseWord : Phase → List ℕ
@@ -27,24 +27,23 @@ phaseWord Phase.Correcting = 99 ∷ 111 ∷ 114 ∷ 114 ∷ 101 ∷ 99 ∷ 116 �
 unfoldable pub wordOf : ℕ → Phase → List ℕ
 wordOf lines phase = cond (eqb lines 0) (110 ∷ 111 ∷ 110 ∷ 101 ∷ []) (phaseWord phase)
 
--- 'answer=', ' records=', ' state='
-abbrev pub keyAnswer : List ℕ
-keyAnswer = 97 ∷ 110 ∷ 115 ∷ 119 ∷ 101 ∷ 114 ∷ 61 ∷ []
+-- 'answer', 'records', 'state'
+abbrev pub answerKey : List ℕ
+answerKey = 97 ∷ 110 ∷ 115 ∷ 119 ∷ 101 ∷ 114 ∷ []
 
-abbrev pub keyRecords : List ℕ
-keyRecords = 32 ∷ 114 ∷ 101 ∷ 99 ∷ 111 ∷ 114 ∷ 100 ∷ 115 ∷ 61 ∷ []
+abbrev pub recordsKey : List ℕ
+recordsKey = 114 ∷ 101 ∷ 99 ∷ 111 ∷ 114 ∷ 100 ∷ 115 ∷ []
 
-abbrev pub keyState : List ℕ
-keyState = 32 ∷ 115 ∷ 116 ∷ 97 ∷ 116 ∷ 101 ∷ 61 ∷ []
-
--- the end of the answer line
-unfoldable pub stateField : ℕ → Phase → List ℕ
-stateField lines phase = keyState ++ (wordOf lines phase ++ 10 ∷ [])
+abbrev pub stateKey : List ℕ
+stateKey = 115 ∷ 116 ∷ 97 ∷ 116 ∷ 101 ∷ []
 
 -- the answer line: answer, number of records, and a state's number of lines and phase
 unfoldable pub answerLine : ℕ → ℕ → ℕ → Phase → List ℕ
 answerLine answer records lines phase =
-    (keyAnswer ++ decimal (pos answer)) ++ ((keyRecords ++ decimal (pos records)) ++ stateField lines phase)
+    lineOf
+    (field answerKey (decimal (pos answer)) ∷
+    field recordsKey (decimal (pos records)) ∷
+    field stateKey (wordOf lines phase) ∷ [])
 
 -- the texts of the first n records of an area
 unfoldable pub recordLines : ℕ → List ℕ → List ℕ
@@ -57,10 +56,3 @@ replyText q = answerLine (q .answer) (q .records) (q .state .settings .lines) (q
 
 unfoldable pub openingText : Opened → List ℕ
 openingText q = answerLine (q .answer) 0 (q .state .settings .lines) (q .state .phase)
-
--- bytes of the longest answer line of 32-bit numbers, and of the longest reply
-abbrev pub longestAnswer : ℕ
-longestAnswer = 54
-
-abbrev pub longestReply : ℕ
-longestReply = longestAnswer + recordsPerCall * longestRecordText

@@ -8,12 +8,11 @@ ghost use Rattle.record.specs.Sizes.{recordBytes};
 ghost use Rattle.record.specs.Decoded.{decoded};
 ghost use Rattle.record_text.specs.Sizes.{longestRecordText};
 ghost use Rattle.record_text.specs.RecordText.{textOf};
-ghost use Rattle.reply.specs.Reply.{wordOf, stateField, answerLine, recordLines, longestAnswer};
+ghost use Rattle.reply.specs.Sizes.{longestAnswer};
+ghost use Rattle.reply.specs.Reply.{wordOf, answerLine, recordLines};
+ghost use Rattle.reply.specs.Parts.{stateField};
 use fields::Written;
 use protocol::Phase;
-
-// Bytes of the longest answer line.
-pub const LONGEST_ANSWER: usize = 54;
 
 // Bytes of the longest reply: an answer line and the texts of 65 records.
 pub const LONGEST_REPLY: usize = 8049;

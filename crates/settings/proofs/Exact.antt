@@ -9,7 +9,8 @@ use lib.Dec.{eqb}
 use lib.ListN.{length}
 use Rattle.fields.proofs.Spells.{spells-whole, whole-spelled}
 use Rattle.settings.specs.Limits.{SettingsFit}
-use Rattle.settings.specs.SettingsLine.{settingsText, settingsAt, limited, judged, settingsOf, settingsAnswer, ExactSettings}
+use Rattle.settings.specs.SettingsLine.{settingsText, limited, settingsAnswer, ExactSettings}
+use Rattle.settings.specs.ReadLine.{settingsAt, judged, settingsOf}
 use Rattle.settings.specs.declared.Settings.{Settings}
 use Rattle.settings.specs.declared.SettingsAt.{SettingsAt}
 use Rattle.settings.specs.declared.SettingsAt.the-variants as SettingsAt

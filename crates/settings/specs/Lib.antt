@@ -2,3 +2,4 @@
 pub mod Sizes
 pub mod Limits
 pub mod SettingsLine
+pub mod ReadLine

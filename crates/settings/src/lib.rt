@@ -1,7 +1,8 @@
 // The settings line: what the installer sets.
 ghost use mathlib.Core.Path.{_≡_};
 ghost use Rattle.settings.specs.Limits.{withinLimits};
-ghost use Rattle.settings.specs.SettingsLine.{settingsAt, settingsOf, ExactSettings};
+ghost use Rattle.settings.specs.SettingsLine.{ExactSettings};
+ghost use Rattle.settings.specs.ReadLine.{settingsAt, settingsOf};
 use decimal::Integer;
 use decimal::Number;
 
@@ -19,6 +20,7 @@ pub const MAX_HOLD: u32 = 864_000;
 // The widest unsigned number that a setting may spell.
 const WIDTH: u32 = 4_294_967_295;
 
+// The settings, each as wide as its text may spell it.
 pub struct Settings {
     pub lines: u32,
     pub bucket: u32,

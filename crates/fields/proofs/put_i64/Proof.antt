@@ -1,9 +1,9 @@
 -- `fields::put_i64` meets its contract: the key and behind it the number are one run of bytes. Assumes nothing.
 use native.Mathlib.Omega.{arith}
-use mathlib.Core.Path.{_≡_, ap, _∙_}
-use mathlib.Core.List.{List, _++_}
+use mathlib.Core.Path.{ap, _∙_}
+use mathlib.Core.List.{List}
 use Prim.Native.Nat.{ℕ}
-use lib.ListN.{length, length-append}
+use lib.ListN.{length-append}
 use mir.Facts.{toZ-ofZ}
 use Rattle.area.specs.Laid.{laid}
 use Rattle.area.proofs.Laid.{laid-laid}

@@ -1,9 +1,7 @@
 -- `fields::put_last` meets its contract: the field and behind it the 0A are one run of bytes. Assumes nothing.
 use native.Mathlib.Omega.{arith}
-use mathlib.Core.Path.{_≡_}
 use mathlib.Core.List.{[], _∷_, _++_, append-assoc}
-use Prim.Native.Nat.{_+_}
-use lib.ListN.{length, length-append, length-set}
+use lib.ListN.{length-append, length-set}
 use mir.Facts.{toZ-ofZ}
 use Rattle.decimal.specs.Decimal.{decimal}
 use Rattle.fields.proofs.Behind.{laid-behind}

@@ -6,10 +6,10 @@ use native.Mathlib.Omega.{arith}
 use mir.Facts.{toZ-ofZ}
 use Rattle.decimal.specs.declared.Number.the-variants as Number
 use Rattle.decimal.specs.declared.Integer.the-variants as Integer
-use Rattle.fields.specs.Field.{numberField, integerField, withNumber, withInteger}
-use Rattle.fields.specs.Keys.{nowKey, lineKey, kindKey, idKey, timeKey, meterKey, valueKey, first, later}
+use Rattle.fields.specs.Field.{numberField, integerField, withNumber, withInteger, first, later}
+use Rattle.fields.specs.Keys.{nowKey, lineKey, kindKey, idKey, timeKey, meterKey, valueKey}
 use Rattle.fields.proofs.Fields.{number-field-sound, integer-field-sound, end-inside}
-use Rattle.journal.specs.JournalLine.{letterField, callAt}
+use Rattle.journal.specs.ReadLine.{letterField, callAt}
 use Rattle.journal.proofs.Letters.{letter-byte, letter-field-sound}
 use Rattle.journal.proofs.call_at.Statement.{statement}
 use Rattle.journal.proofs.call_at.Tie as tie

@@ -1,6 +1,6 @@
 -- `journal::has_form` meets its contract, by the answer's case. Assumes nothing.
 use borrow.Author.Needs.{needs}
-use mathlib.Core.Path.{_≡_, sym, _∙_}
+use mathlib.Core.Path.{sym, _∙_}
 use Rattle.journal.specs.JournalLine.{callAnswer, hasForm}
 use Rattle.journal.proofs.has_form.Statement.{statement}
 use Rattle.journal.proofs.has_form.Tie as tie

@@ -1,8 +1,8 @@
 -- `journal::letter_at` meets its contract; past the end of a text stands no letter. Assumes nothing.
 use native.Mathlib.Omega.{arith}
 use borrow.Author.Needs.{needs}
-use mathlib.Core.Path.{_≡_, sym, _∙_}
-use Rattle.journal.specs.JournalLine.{letterAt}
+use mathlib.Core.Path.{sym, _∙_}
+use Rattle.journal.specs.ReadLine.{letterAt}
 use Rattle.journal.proofs.Letters.{letter-past}
 use Rattle.journal.proofs.letter_at.Statement.{statement}
 use Rattle.journal.proofs.letter_at.Tie as tie

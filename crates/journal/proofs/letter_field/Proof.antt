@@ -5,7 +5,7 @@ use mathlib.Core.Path.{_≡_, sym, _∙_}
 use mathlib.Core.Bool.{true, false}
 use lib.ListN.{drop, length-drop}
 use Rattle.fields.specs.Field.{startsWith}
-use Rattle.journal.specs.JournalLine.{letterField}
+use Rattle.journal.specs.ReadLine.{letterField}
 use Rattle.fields.proofs.Keys.{starts-room}
 use Rattle.journal.proofs.letter_field.Statement.{statement}
 use Rattle.journal.proofs.letter_field.Tie as tie

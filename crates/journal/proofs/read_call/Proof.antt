@@ -5,7 +5,8 @@ use mathlib.Core.List.{List}
 use Prim.Native.Nat.{ℕ}
 use borrow.Author.Tests.{eq-eqb, ne-eqb}
 use lib.ListN.{length}
-use Rattle.journal.specs.JournalLine.{whole, callOf, ExactCall}
+use Rattle.journal.specs.JournalLine.{ExactCall}
+use Rattle.journal.specs.ReadLine.{whole, callOf}
 use Rattle.journal.specs.declared.CallRead.{CallRead}
 use Rattle.journal.proofs.Exact.{exact-call}
 use Rattle.journal.proofs.read_call.Statement.{statement}

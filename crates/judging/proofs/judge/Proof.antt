@@ -7,7 +7,7 @@ use borrow.Author.Needs.{needs}
 use lib.ListN.{length, replicate, length-replicate}
 use Rattle.journal.specs.declared.Call.{Call}
 use Rattle.journal.specs.declared.CallRead.the-variants as CallRead
-use Rattle.journal.specs.JournalLine.{callOf}
+use Rattle.journal.specs.ReadLine.{callOf}
 use Rattle.store.specs.Columns.{Columns, columnsOf}
 use Rattle.protocol.specs.Refusals.{firstFailed, answerTo}
 use Rattle.node.specs.View.{view}

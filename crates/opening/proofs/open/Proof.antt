@@ -5,7 +5,7 @@ use native.Mathlib.Omega.{arith}
 use borrow.Author.Needs.{needs}
 use Rattle.settings.specs.declared.Settings.{Settings}
 use Rattle.settings.specs.declared.SettingsRead.the-variants as SettingsRead
-use Rattle.settings.specs.SettingsLine.{settingsOf}
+use Rattle.settings.specs.ReadLine.{settingsOf}
 use Rattle.store.specs.Columns.{Columns, columnsOf}
 use Rattle.node.specs.Opening.{isShort}
 use Rattle.opening.proofs.Openings.{enough-room, opening-malformed, opening-outside, opening-short, opening-done}

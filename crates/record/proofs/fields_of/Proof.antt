@@ -6,7 +6,7 @@ use mir.Syntax.{w32, w64}
 use mir.Val.{SFits, toZ, ofZ}
 use mir.Facts.{toZ-ofZ}
 use Rattle.signed.specs.Twos.{signedOf}
-use Rattle.record.specs.Decoded.{wordAt, fieldsOf}
+use Rattle.record.specs.Fields.{wordAt, fieldsOf}
 use Rattle.record.proofs.Stores.{room-within}
 use Rattle.record.proofs.fields_of.Statement.{statement}
 use Rattle.record.proofs.fields_of.Tie as tie

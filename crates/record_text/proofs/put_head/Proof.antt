@@ -9,7 +9,8 @@ use lib.ListN.{length}
 use Rattle.area.proofs.Runs.{laidTo-front}
 use Rattle.area.proofs.FourRuns.{room-first, room-second, room-third, room-fourth, runs-four}
 use Rattle.decimal.specs.Decimal.{decimal}
-use Rattle.fields.specs.Keys.{kindKey, idKey, timeKey, meterKey, first, later}
+use Rattle.fields.specs.Keys.{kindKey, idKey, timeKey, meterKey}
+use Rattle.fields.specs.Field.{first, later}
 use Rattle.record.specs.declared.Record.{Record}
 use Rattle.record_text.specs.Parts.{textHead}
 use Rattle.record_text.proofs.put_head.Statement.{statement}

@@ -9,7 +9,8 @@ use mir.Val.{SFits}
 use mir.Facts.{toZ-ofZ}
 use Rattle.area.proofs.FourRuns.{room-first, room-second, room-third, room-fourth, runs-four}
 use Rattle.decimal.specs.Decimal.{decimal}
-use Rattle.fields.specs.Keys.{countKey, sumKey, meanKey, lastKey, later}
+use Rattle.fields.specs.Keys.{countKey, sumKey, meanKey, lastKey}
+use Rattle.fields.specs.Field.{later}
 use Rattle.record.specs.declared.Record.{Record}
 use Rattle.record_text.specs.Parts.{textTail}
 use Rattle.record_text.proofs.put_tail.Statement.{statement}

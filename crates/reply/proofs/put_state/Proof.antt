@@ -3,7 +3,9 @@ use borrow.Author.Needs.{needs}
 use mathlib.Core.Path.{refl}
 use mathlib.Core.List.{[], _∷_}
 use Rattle.area.proofs.ThreeRuns.{room-first, room-second, room-third, runs-three}
-use Rattle.reply.specs.Reply.{wordOf, keyState, stateField}
+use Rattle.fields.specs.Field.{later}
+use Rattle.reply.specs.Reply.{wordOf, stateKey}
+use Rattle.reply.specs.Parts.{stateField}
 use Rattle.reply.proofs.put_state.Statement.{statement}
 use Rattle.reply.proofs.put_state.Tie as tie
 
@@ -15,14 +17,14 @@ unfolding stateField
 put-bytes-requires c κs =
     let s = c .before .before .before in
     let a = s .args in
-    room-first (a .out .now) (a .at) keyState (wordOf (a .lines) (a .phase)) (10 ∷ []) (s .pre)
+    room-first (a .out .now) (a .at) (later stateKey) (wordOf (a .lines) (a .phase)) (10 ∷ []) (s .pre)
 
 put-word-requires : tie.Need-put-word-requires
 unfolding stateField
 put-word-requires c κs =
     let s = c .before .before .before .before .before .before .before in
     let a = s .args in
-    room-second (a .out .now) (a .at) keyState (wordOf (a .lines) (a .phase)) (10 ∷ []) (s .pre) (c .before .before .before .put-bytes .ensures)
+    room-second (a .out .now) (a .at) (later stateKey) (wordOf (a .lines) (a .phase)) (10 ∷ []) (s .pre) (c .before .before .before .put-bytes .ensures)
 
 slice-aggregate-put-bytes-2 : tie.Need-slice-aggregate-put-bytes-2
 slice-aggregate-put-bytes-2 c = refl
@@ -32,7 +34,7 @@ unfolding stateField
 put-bytes-requires-2 c κs =
     let s = c .before .before .before .before .before .before .before .before .before .before .before .before in
     let a = s .args in
-    room-third (a .out .now) (a .at) keyState (wordOf (a .lines) (a .phase)) (10 ∷ []) (s .pre)
+    room-third (a .out .now) (a .at) (later stateKey) (wordOf (a .lines) (a .phase)) (10 ∷ []) (s .pre)
     (c .before .before .before .before .before .before .before .before .put-bytes .ensures)
     (c .before .before .before .before .put-word .ensures)
 
@@ -43,7 +45,7 @@ returns : tie.Need-returns
 unfolding stateField
 returns c =
     let a = c .before .before .before .before .before .before .before .before .before .before .before .before .before .before .before .args in
-    runs-three (a .out .now) (a .at) keyState (wordOf (a .lines) (a .phase)) (10 ∷ [])
+    runs-three (a .out .now) (a .at) (later stateKey) (wordOf (a .lines) (a .phase)) (10 ∷ [])
     (c .before .before .before .before .before .before .before .before .before .before .before .put-bytes .ensures)
     (c .before .before .before .before .before .before .before .put-word .ensures)
     (c .before .before .put-bytes2 .ensures)

@@ -3,7 +3,7 @@ use native.Mathlib.Omega.{arith}
 use borrow.Author.Needs.{needs}
 use mathlib.Core.Path.{ap, _∙_}
 use Prim.Native.Nat.{_+_}
-use Rattle.endian.specs.LittleEndian.{AreBytes}
+use Rattle.endian.proofs.LittleEndian.{AreBytes}
 use Rattle.reply.proofs.Records.{textOf-short}
 use Rattle.reply.proofs.Texts.{text-laid}
 use Rattle.reply.proofs.put_text.Statement.{statement}

@@ -4,7 +4,8 @@ use mathlib.Core.List.{List}
 use Prim.Native.Nat.{ℕ}
 use borrow.Author.Tests.{eq-eqb, ne-eqb}
 use lib.ListN.{length}
-use Rattle.settings.specs.SettingsLine.{judged, limited, settingsOf, ExactSettings}
+use Rattle.settings.specs.SettingsLine.{limited, ExactSettings}
+use Rattle.settings.specs.ReadLine.{judged, settingsOf}
 use Rattle.settings.specs.declared.SettingsRead.{SettingsRead}
 use Rattle.settings.proofs.Exact.{exact-settings}
 use Rattle.settings.proofs.read_settings.Statement.{statement}

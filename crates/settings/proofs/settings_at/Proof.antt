@@ -9,10 +9,10 @@ use mir.Val.{Fits}
 use mir.Facts.{toZ-ofZ}
 use Rattle.decimal.specs.declared.Number.the-variants as Number
 use Rattle.decimal.specs.declared.Integer.the-variants as Integer
-use Rattle.fields.specs.Field.{numberField, integerField, withNumber, withInteger}
-use Rattle.fields.specs.Keys.{linesKey, bucketKey, windowKey, holdKey, lowKey, highKey, first, later}
+use Rattle.fields.specs.Field.{numberField, integerField, withNumber, withInteger, first, later}
+use Rattle.fields.specs.Keys.{linesKey, bucketKey, windowKey, holdKey, lowKey, highKey}
 use Rattle.fields.proofs.Fields.{integer-field-sound, end-inside}
-use Rattle.settings.specs.SettingsLine.{settingsAt}
+use Rattle.settings.specs.ReadLine.{settingsAt}
 use Rattle.settings.proofs.settings_at.Statement.{statement}
 use Rattle.settings.proofs.settings_at.Tie as tie
 
