@@ -23,10 +23,10 @@ use Rattle.store.proofs.Pairs.{every-index}
 use Rattle.store.proofs.Columns.{length-rowsFrom, take-rows}
 use Rattle.columns.specs.Tests.{rises}
 use Rattle.shares.proofs.Rows.{ids-share}
-use Rattle.protocol.specs.Kinds.{Kind, kindOf}
+use Rattle.protocol.specs.Kinds.{Kind, kindOf, uses, isStep}
 use Rattle.protocol.specs.Node.{Line, Node, noLine, onLine}
 use Rattle.protocol.specs.Rules.{Outcome, ruleOf, act}
-use Rattle.protocol.specs.Refusals.{firstFailed, lineOf, wrongLine, isFull, testsOf, answerTo}
+use Rattle.protocol.specs.Refusals.{firstFailed, lineOf, wrongLine, isFull, callTests, lineTests, testsOf, answerTo}
 use Rattle.protocol.specs.Calls.{input, done, accepted}
 use Rattle.protocol.proofs.Passed.{none-failed}
 use Rattle.protocol.proofs.Faults.{line-iff}
@@ -47,7 +47,7 @@ use Rattle.node.proofs.OneLine.{line-of, head-small, heads-line, putColumns-lin
 -- ---- step or input
 
 line-passed : (s : Settings) (n : Node) (k : Call) → answerTo s n k ≡ 0 → wrongLine s (kindOf (k .kind)) (k .line) ≡ false
-unfolding answerTo testsOf
+unfolding answerTo testsOf callTests lineTests
 line-passed s n k e = none-failed (testsOf s n k (kindOf (k .kind))) (omega arith) e .1 .0
 
 module _ (s : Settings) (n : Node) (k : Call) where
@@ -56,7 +56,7 @@ module _ (s : Settings) (n : Node) (k : Call) where
 
   -- a call that names no line is a step
   step-done : (kind : Kind) → wrongLine s kind (k .line) ≡ false → k .line ≡ 0 → done s n k kind ≡ act s n (ruleOf s n (k .now))
-  unfolding wrongLine done
+  unfolding wrongLine done isStep uses
   step-done Kind.S e z = absurd (not-none e z)
   step-done Kind.T e z = absurd (not-none e z)
   step-done Kind.B e z = absurd (not-none e z)
@@ -69,7 +69,7 @@ module _ (s : Settings) (n : Node) (k : Call) where
   InputOn kind = ((1 ≤ k .line) × (k .line ≤ s .lines)) × (done s n k kind ≡ input n k kind)
 
   input-done : (kind : Kind) → wrongLine s kind (k .line) ≡ false → (k .line ≡ 0 → ⊥) → InputOn kind
-  unfolding wrongLine done
+  unfolding wrongLine done isStep uses
   input-done Kind.S e h = (line-iff s (k .line) .0 e, refl)
   input-done Kind.T e h = (line-iff s (k .line) .0 e, refl)
   input-done Kind.B e h = (line-iff s (k .line) .0 e, refl)

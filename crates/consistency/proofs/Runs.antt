@@ -19,7 +19,7 @@ use Rattle.store.proofs.Pairs.{every-append}
 use Rattle.store.specs.Lists.{Every}
 use Rattle.protocol.specs.Node.{Node}
 use Rattle.protocol.specs.Calls.{outcomeOf}
-use Rattle.protocol.specs.DayBook.{DayBook, bookCall}
+use Rattle.protocol.specs.Monitor.{Monitor, observe}
 use Rattle.protocol.specs.FailureFree.{stableAfter}
 use Rattle.protocol.specs.Runs.{Event, Trace, isAccepted, next, after}
 use Rattle.node.specs.declared.State.{State}
@@ -48,7 +48,7 @@ pub record Stands (s : Settings) (st : State) (x : Columns) (n : Node) : Type 0 
 
 -- what a trace is measured against
 unfoldable pub accountIn : Trace → Account
-accountIn t = record { book = t .book; stables = t .stables }
+accountIn t = record { monitor = t .monitor; stables = t .stables }
 
 -- what a call did: to the node, the account and the output
 pub record Follows (s : Settings) (t u : Trace) (read : CallRead) (c : Called) : Type 0 where
@@ -79,7 +79,7 @@ shape-facts st x room e =
 
 -- a refused call
 unchanged-account : (s : Settings) (a : Account) (read : CallRead) → accountWith s a read false ≡ a
-unfolding accountWith bookCall stableAfter
+unfolding accountWith observe stableAfter
 unchanged-account s a (CallRead.Accepted k) = refl
 unchanged-account s a CallRead.Malformed = refl
 
@@ -102,14 +102,14 @@ refused-follows s t st x text area stands e =
 -- an accepted call, on what the state and the store stand for
 module _ (st : State) (x : Columns) (text area : List ℕ) (v : AcceptedOn st x text area) (room : Fits st x) (fits : NodeFits (view st x)) where
   accepted-follows :
-      (book : DayBook) (stables : List (List Reading)) (given : List Record) →
-      let t : Trace = record { node = view st x; book = book; stables = stables; output = given } in
+      (monitor : Monitor) (stables : List (List Reading)) (given : List Record) →
+      let t : Trace = record { node = view st x; monitor = monitor; stables = stables; output = given } in
       Follows (st .settings) t (next (st .settings) t (Event.journal (v .call))) (callOf text) (calledOn st x text area)
   unfolding next isAccepted accountIn accountWith
-  accepted-follows book stables given =
+  accepted-follows monitor stables given =
       let s = st .settings in
       let k = v .call in
-      let a : Account = record { book = book; stables = stables } in
+      let a : Account = record { monitor = monitor; stables = stables } in
       let rs = outcomeOf s (view st x) k .records in
       record {
         records = rs;
@@ -163,14 +163,14 @@ call-follows s t b text area stands =
     on-trace : (v : AcceptedOn (b .state) (b .columns) text area) → Follows s t (next s t (Event.journal (v .call))) (callOf text) (calledOn (b .state) (b .columns) text area)
     on-trace v =
         let n = view (b .state) (b .columns) in
-        let first = accepted-follows (b .state) (b .columns) text area v (stands .room) (rw (stands .is) (stands .fits)) (t .book) (t .stables) (t .output) in
-        let same : _≡_ {A = Trace} (record { node = n; book = t .book; stables = t .stables; output = t .output }) t =
-        λ i. record { node = stands .is i; book = t .book; stables = t .stables; output = t .output } in
+        let first = accepted-follows (b .state) (b .columns) text area v (stands .room) (rw (stands .is) (stands .fits)) (t .monitor) (t .stables) (t .output) in
+        let same : _≡_ {A = Trace} (record { node = n; monitor = t .monitor; stables = t .stables; output = t .output }) t =
+        λ i. record { node = stands .is i; monitor = t .monitor; stables = t .stables; output = t .output } in
         subst (λ (z : Trace). Follows s z (next s z (Event.journal (v .call))) (callOf text) (calledOn (b .state) (b .columns) text area)) same
         (subst
         (λ (z : Settings).
-        Follows z (record { node = n; book = t .book; stables = t .stables; output = t .output })
-        (next z (record { node = n; book = t .book; stables = t .stables; output = t .output }) (Event.journal (v .call)))
+        Follows z (record { node = n; monitor = t .monitor; stables = t .stables; output = t .output })
+        (next z (record { node = n; monitor = t .monitor; stables = t .stables; output = t .output }) (Event.journal (v .call)))
         (callOf text) (calledOn (b .state) (b .columns) text area))
         (stands .settings) first)
 

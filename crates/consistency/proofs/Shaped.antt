@@ -21,7 +21,7 @@ use Rattle.operator.specs.declared.Operator.{Operator}
 use Rattle.operator.specs.Meters.{meterCount, noMeter, fresh}
 use Rattle.protocol.specs.declared.Phase.{Phase}
 use Rattle.protocol.specs.declared.Phase.the-variants as Phase
-use Rattle.protocol.specs.Kinds.{Kind, kindOf}
+use Rattle.protocol.specs.Kinds.{Kind, kindOf, uses, isStep}
 use Rattle.protocol.specs.Node.{Line, Node, noLine, opened, isStable, keptOf}
 use Rattle.protocol.specs.declared.Rule.{Rule}
 use Rattle.protocol.specs.declared.Rule.the-variants as Rule
@@ -215,7 +215,7 @@ module _ (s : Settings) (n : Node) (v : Shaped s n) where
   -- ---- a call
 
   done-work : (k : Call) (kind : Kind) → WorkOf s (done s n k kind .node)
-  unfolding done input
+  unfolding done isStep uses input
   done-work k Kind.S = v .work
   done-work k Kind.T = v .work
   done-work k Kind.B = v .work
@@ -224,7 +224,7 @@ module _ (s : Settings) (n : Node) (v : Shaped s n) where
   done-work k Kind.P = step-work (k .now)
 
   done-lines : (k : Call) → answerTo s n k ≡ 0 → (kind : Kind) → kindOf (k .kind) ≡ kind → Every LineShaped (done s n k kind .node .lines)
-  unfolding done input
+  unfolding done isStep uses input
   done-lines k a Kind.S e = lines-shaped s n k a Kind.S e (v .lines)
   done-lines k a Kind.T e = lines-shaped s n k a Kind.T e (v .lines)
   done-lines k a Kind.B e = lines-shaped s n k a Kind.B e (v .lines)

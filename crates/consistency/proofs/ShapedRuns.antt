@@ -21,7 +21,7 @@ use Rattle.operator.specs.declared.Meter.{Meter}
 use Rattle.operator.specs.declared.Operator.{Operator}
 use Rattle.protocol.specs.Kinds.{kindOf}
 use Rattle.protocol.specs.Node.{Node}
-use Rattle.protocol.specs.Refusals.{Test, firstFailed, testsOf, answerTo}
+use Rattle.protocol.specs.Refusals.{Test, firstFailed, callTests, lineTests, testsOf, answerTo}
 use Rattle.store.specs.Sizes.{readingsPerLine}
 use Rattle.node.specs.declared.State.{State}
 use Rattle.node.specs.Sizes.{areaBytes}
@@ -93,7 +93,7 @@ OfStore m = (3 ≤ m) × (m ≤ 4)
 
 module _ (st : State) (x : Columns) (area : List ℕ) (m : ℕ) (h : OfStore m) where
   meaning-otherwise : (s : Settings) (n : Node) (k : Call) → answerTo s n k ≡ m → ⊥
-  unfolding answerTo testsOf
+  unfolding answerTo testsOf callTests lineTests
   meaning-otherwise s n k e = never-answered m (omega arith) (testsOf s n k (kindOf (k .kind))) (omega arith) e
 
   read-otherwise : (read : CallRead) → calledWith st x area read .answer ≡ m → ⊥

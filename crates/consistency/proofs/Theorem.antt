@@ -11,9 +11,9 @@ use Rattle.record.specs.Kinds.{isTentative}
 use Rattle.store.specs.Lists.{Every}
 use Rattle.protocol.specs.Node.{Node, opened}
 use Rattle.protocol.specs.Refusals.{answerTo}
-use Rattle.protocol.specs.DayBook.{stableBuckets, leftToWork}
+use Rattle.protocol.specs.Monitor.{stableBuckets, leftToWork}
 use Rattle.protocol.specs.FailureFree.{failureFree}
-use Rattle.protocol.specs.Undos.{struck, markDue}
+use Rattle.protocol.specs.Undos.{struck, doneDue}
 use Rattle.protocol.specs.Runs.{Event, Trace, start, next, after}
 use Rattle.protocol.specs.Demand.{stableResults, sent, boundaries}
 use Rattle.protocol.specs.Demand as meaning
@@ -23,13 +23,13 @@ use Rattle.node.proofs.Limits.{Limits}
 use Rattle.node.proofs.Opening as opening
 use Rattle.node.proofs.Calls.{accepted-call}
 use Rattle.consistency.specs.Runs.{Box, Input, called, left, leftAfter}
-use Rattle.consistency.specs.Undos.{pieceKind, appliedPieces, struckPieces, stablePieces, markDueIn}
+use Rattle.consistency.specs.Undos.{pieceKind, appliedPieces, struckPieces, stablePieces, doneDueIn}
 use Rattle.consistency.specs.Accounts.{Account, emptyAccount, sentIn, boundariesIn}
 use Rattle.consistency.specs.Demand.{Handed, opening as openingOf, isOpened, boxOf, settingsIn, accountOf, outputOf, failureFreeBytes, remaining, Clean, Steps, Demand3}
 use Rattle.store.proofs.Pairs.{every-right}
 use Rattle.node.proofs.Fits.{opened-fits}
 use Rattle.node.proofs.Records.{Decodes}
-use Rattle.consistency.proofs.Undos.{every-applied, every-struck, appliedPieces-bytesOf, struckPieces-bytesOf, stablePieces-bytesOf, markDueIn-bytesOf, tentative-bytesOf}
+use Rattle.consistency.proofs.Undos.{every-applied, every-struck, appliedPieces-bytesOf, struckPieces-bytesOf, stablePieces-bytesOf, doneDueIn-bytesOf, tentative-bytesOf}
 use Rattle.consistency.proofs.Runs.{Stands, accountIn, eventOf, eventsOf, event-accepted, call-follows, runs}
 use Rattle.consistency.proofs.Refused.{refused}
 use Rattle.consistency.proofs.ShapedRuns.{in-shape}
@@ -87,7 +87,7 @@ mirrors h e is =
 free-bytes : (h : Handed) (is : List Input) → Mirrors (settingsIn h) h is → failureFreeBytes h is ≡ map bytesOf (stableResults (settingsIn h) (traceOf (settingsIn h) h is))
 unfolding failureFreeBytes stableResults accountIn
 free-bytes h is m =
-    ap (λ (a : Account). map bytesOf (failureFree (settingsIn h) (a .stables) (a .book .d) .records)) (m .account)
+    ap (λ (a : Account). map bytesOf (failureFree (settingsIn h) (a .stables) (a .monitor .d) .records)) (m .account)
 
 clean : (h : Handed) → isOpened h → (is : List Input) → Clean h is
 unfolding accountIn
@@ -114,7 +114,7 @@ clean h e is =
           (tentative-bytesOf (struck [] (t .output)) (every-struck Decodes [] (t .output) tt (m .decode)) (c .neverStruck));
       asTheyCame =
           ap stablePieces (m .laid) ∙ stablePieces-bytesOf (t .output) (m .decode) ∙ ap (map bytesOf) (c .asTheyCame) ∙ sym free;
-      worked = subst (λ (a : Account). a .book .d ≤ stableBuckets s (a .book)) (sym (m .account)) (c .worked);
+      worked = subst (λ (a : Account). a .monitor .d ≤ stableBuckets s (a .monitor)) (sym (m .account)) (c .worked);
     }
 
 -- ---- 3
@@ -137,9 +137,9 @@ replicas h g eh eg same is js same-sent same-boundaries none-h none-g =
     meaningProved.demand3 .replicas s (some-bucket h eh) (some-lines h eh) (eventsOf (boxOf h) is) (eventsOf (boxOf g) js)
     (ap sentIn (sym (m .account)) ∙ same-sent ∙ ap sentIn (n .account))
     (ap boundariesIn (sym (m .account)) ∙ same-boundaries ∙ ap boundariesIn (n .account))
-    (ap (λ (a : Account). leftToWork s (a .book)) (sym (m .account)) ∙ none-h)
-    (ap (λ (a : Account). leftToWork s (a .book)) (sym (n .account)) ∙
-    ap (λ (z : Settings). leftToWork z (accountOf g js .book)) same ∙ none-g) in
+    (ap (λ (a : Account). leftToWork s (a .monitor)) (sym (m .account)) ∙ none-h)
+    (ap (λ (a : Account). leftToWork s (a .monitor)) (sym (n .account)) ∙
+    ap (λ (z : Settings). leftToWork z (accountOf g js .monitor)) same ∙ none-g) in
     ap stablePieces (m .laid) ∙ stablePieces-bytesOf (traceOf s h is .output) (m .decode) ∙
     ap (map bytesOf) results ∙
     sym (ap stablePieces (n .laid) ∙ stablePieces-bytesOf (traceOf s g js .output) (n .decode))
@@ -181,8 +181,8 @@ after-append s t (e ∷ es) fs = after-append s (next s t e) es fs
 settled-bytes :
     (h : Handed) → isOpened h → (is js : List Input) →
     let u : Trace = after (settingsIn h) (traceOf (settingsIn h) h is) (eventsOf (leftAfter (boxOf h) is) js) in
-    (leftToWork (settingsIn h) (u .book) ≡ 0) × (markDue false (u .output) ≡ false) →
-    (remaining h (is ++ js) ≡ 0) × (markDueIn false (outputOf h (is ++ js)) ≡ false)
+    (leftToWork (settingsIn h) (u .monitor) ≡ 0) × (doneDue false (u .output) ≡ false) →
+    (remaining h (is ++ js) ≡ 0) × (doneDueIn false (outputOf h (is ++ js)) ≡ false)
 unfolding remaining accountIn
 settled-bytes h e is js settled =
     let s = settingsIn h in
@@ -190,9 +190,9 @@ settled-bytes h e is js settled =
     let same : traceOf s h (is ++ js) ≡ after s (traceOf s h is) (eventsOf (leftAfter (boxOf h) is) js) =
     ap (after s (start s)) (events-append (boxOf h) is js) ∙
     after-append s (start s) (eventsOf (boxOf h) is) (eventsOf (leftAfter (boxOf h) is) js) in (
-      ap (λ (a : Account). leftToWork s (a .book)) (m .account) ∙ ap (λ (t : Trace). leftToWork s (t .book)) same ∙ settled .0,
-      ap (markDueIn false) (m .laid) ∙ markDueIn-bytesOf false (traceOf s h (is ++ js) .output) (m .decode) ∙
-          ap (λ (t : Trace). markDue false (t .output)) same ∙ settled .1,
+      ap (λ (a : Account). leftToWork s (a .monitor)) (m .account) ∙ ap (λ (t : Trace). leftToWork s (t .monitor)) same ∙ settled .0,
+      ap (doneDueIn false) (m .laid) ∙ doneDueIn-bytesOf false (traceOf s h (is ++ js) .output) (m .decode) ∙
+          ap (λ (t : Trace). doneDue false (t .output)) same ∙ settled .1,
     )
 
 -- ---- whole

@@ -12,9 +12,9 @@ use Rattle.record.specs.Layout.{bytesOf}
 use Rattle.store.specs.Lists.{Every, keep}
 use Rattle.store.proofs.Pairs.{every-to, every-append, every-keep}
 use Rattle.store.proofs.Keeping.{keep-through}
-use Rattle.protocol.specs.Undos.{applyOne, applied, struckByOne, struck, markDue}
+use Rattle.protocol.specs.Undos.{applyOne, applied, struckByOne, struck, doneDue}
 use Rattle.protocol.specs.Demand.{stableRecords}
-use Rattle.consistency.specs.Undos.{kindIn, idIn, pieceKind, pieceId, applyPiece, appliedPieces, struckPieces, stablePieces, markDueIn}
+use Rattle.consistency.specs.Undos.{kindIn, idIn, pieceKind, pieceId, applyPiece, appliedPieces, struckPieces, stablePieces, doneDueIn}
 use Rattle.node.proofs.Records.{Decodes}
 
 pub pieceKind-bytesOf : (r : Record) → Decodes r → pieceKind (bytesOf r) ≡ r .kind
@@ -106,7 +106,7 @@ every-struck law acc (r ∷ rs) h k =
     ])
     (every-struck law (applyOne acc r) rs (every-applyOne law acc r h (k .0)) (k .1))
 
--- ---- the stable records, the closing mark, tentative kinds
+-- ---- the stable records, an R that is due, tentative kinds
 
 pub stablePieces-bytesOf : (rs : List Record) → Every Decodes rs → stablePieces (map bytesOf rs) ≡ map bytesOf (stableRecords rs)
 unfolding stablePieces stableRecords
@@ -114,12 +114,12 @@ stablePieces-bytesOf rs h =
     keep-through bytesOf (λ (r : Record). isStable (r .kind)) (λ (b : List ℕ). isStable (pieceKind b)) rs
     (every-to rs (λ (r : Record) (d : Decodes r). ap isStable (pieceKind-bytesOf r d)) h)
 
-pub markDueIn-bytesOf : (due : Bool) (rs : List Record) → Every Decodes rs → markDueIn due (map bytesOf rs) ≡ markDue due rs
-unfolding markDueIn markDue
-markDueIn-bytesOf due [] h = refl
-markDueIn-bytesOf due (r ∷ rs) h =
-    ap (λ (kind : ℕ). markDueIn (cond (eqb kind letterU) true (cond (eqb kind letterR) false due)) (map bytesOf rs)) (pieceKind-bytesOf r (h .0)) ∙
-    markDueIn-bytesOf (cond (eqb (r .kind) letterU) true (cond (eqb (r .kind) letterR) false due)) rs (h .1)
+pub doneDueIn-bytesOf : (due : Bool) (rs : List Record) → Every Decodes rs → doneDueIn due (map bytesOf rs) ≡ doneDue due rs
+unfolding doneDueIn doneDue
+doneDueIn-bytesOf due [] h = refl
+doneDueIn-bytesOf due (r ∷ rs) h =
+    ap (λ (kind : ℕ). doneDueIn (cond (eqb kind letterU) true (cond (eqb kind letterR) false due)) (map bytesOf rs)) (pieceKind-bytesOf r (h .0)) ∙
+    doneDueIn-bytesOf (cond (eqb (r .kind) letterU) true (cond (eqb (r .kind) letterR) false due)) rs (h .1)
 
 pub tentative-bytesOf : (rs : List Record) → Every Decodes rs → Every (λ (r : Record). isTentative (r .kind) ≡ true) rs → Every (λ (b : List ℕ). isTentative (pieceKind b) ≡ true) (map bytesOf rs)
 tentative-bytesOf [] h k = tt

@@ -1,5 +1,5 @@
--- What a list of calls is measured against, from the texts' fields and whether each call was accepted, and from nothing else: the day book
--- and the accepted stable readings (document 01, section 'From the opening on'). Assumes nothing.
+-- What a list of calls is measured against, from the texts' fields and whether each call was accepted, and from nothing else: the monitor,
+-- which is document 01's day book, and the accepted stable readings (section 'From the opening on'). Assumes nothing.
 use Prim.Native.Nat.{ℕ}
 use mathlib.Core.Bool.{Bool}
 use mathlib.Core.List.{List, [], _∷_, map}
@@ -10,22 +10,21 @@ use Rattle.journal.specs.declared.CallRead.{CallRead}
 use Rattle.journal.specs.declared.CallRead.the-variants as CallRead
 use Rattle.journal.specs.ReadLine.{callOf}
 use Rattle.store.specs.declared.Reading.{Reading}
-use Rattle.protocol.specs.DayBook.{Page, DayBook, emptyBook, bookCall}
-use Rattle.protocol.specs.FailureFree.{stableAfter}
-use Rattle.protocol.specs.Demand.{withoutArrival}
+use Rattle.protocol.specs.Monitor.{LineMonitor, Monitor, freshMonitor, observe}
+use Rattle.protocol.specs.FailureFree.{stableAfter, withoutArrival}
 use Rattle.consistency.specs.Runs.{Box, Input, called, left}
 
 pub record Account : Type 0 where
-  pub book : DayBook
+  pub monitor : Monitor
   pub stables : List (List Reading)
 
 unfoldable pub emptyAccount : Settings → Account
-emptyAccount s = record { book = emptyBook s; stables = replicate (s .lines) [] }
+emptyAccount s = record { monitor = freshMonitor s; stables = replicate (s .lines) [] }
 
 -- a text that is no journal line was refused, and changes nothing
 unfoldable pub accountWith : Settings → Account → CallRead → Bool → Account
 accountWith s a (CallRead.Accepted k) isAccepted =
-    record { book = bookCall s (a .book) k isAccepted; stables = stableAfter (a .stables) k isAccepted }
+    record { monitor = observe s (a .monitor) k isAccepted; stables = stableAfter (a .stables) k isAccepted }
 accountWith s a CallRead.Malformed isAccepted = a
 
 -- accepted: the returned answer is 0
@@ -43,4 +42,4 @@ sentIn a = map (map withoutArrival) (a .stables)
 
 -- each line's greatest boundary
 unfoldable pub boundariesIn : Account → List ℕ
-boundariesIn a = map (λ (g : Page). g .boundary) (a .book .pages)
+boundariesIn a = map (λ (g : LineMonitor). g .boundary) (a .monitor .lines)

@@ -11,14 +11,13 @@ use Rattle.record.specs.Layout.{bytesOf}
 use Rattle.record.specs.Kinds.{isTentative}
 use Rattle.store.specs.Lists.{Every}
 use Rattle.protocol.specs.Kinds.{Kind, kindOf}
-use Rattle.protocol.specs.DayBook.{stableBuckets, leftToWork}
+use Rattle.protocol.specs.Monitor.{stableBuckets, leftToWork}
 use Rattle.protocol.specs.FailureFree.{failureFree}
 use Rattle.node.specs.declared.State.{State}
 use Rattle.store.specs.Columns.{Columns}
 use Rattle.node.specs.Opening.{Opened, openedOn}
-use Rattle.node.specs.Calls.{Called}
 use Rattle.consistency.specs.Runs.{Box, Input, called, left, leftAfter, output}
-use Rattle.consistency.specs.Undos.{pieceKind, appliedPieces, struckPieces, stablePieces, markDueIn}
+use Rattle.consistency.specs.Undos.{pieceKind, appliedPieces, struckPieces, stablePieces, doneDueIn}
 use Rattle.consistency.specs.Accounts.{Account, emptyAccount, accountAfter, sentIn, boundariesIn}
 
 -- what is handed to an opening: any earlier state, also one in use, any store, any text
@@ -49,11 +48,11 @@ outputOf h is = output (boxOf h) is
 -- what the producers should be paid from: the failure-free results, in bytes
 unfoldable pub failureFreeBytes : Handed → List Input → List (List ℕ)
 failureFreeBytes h is =
-    map bytesOf (failureFree (settingsIn h) (accountOf h is .stables) (accountOf h is .book .d) .records)
+    map bytesOf (failureFree (settingsIn h) (accountOf h is .stables) (accountOf h is .monitor .d) .records)
 
 -- the stable buckets left to work
 unfoldable pub remaining : Handed → List Input → ℕ
-remaining h is = leftToWork (settingsIn h) (accountOf h is .book)
+remaining h is = leftToWork (settingsIn h) (accountOf h is .monitor)
 
 -- clauses 1 and 2: with its undos applied the output is the failure-free results, and then tentative ones; only tentative ones were
 -- struck; the stable records as they came are the failure-free results; no more buckets were worked than are stable
@@ -63,7 +62,7 @@ pub record Clean (h : Handed) (is : List Input) : Type 0 where
   pub allTentative : Every (λ (b : List ℕ). isTentative (pieceKind b) ≡ true) tentative
   pub neverStruck : Every (λ (b : List ℕ). isTentative (pieceKind b) ≡ true) (struckPieces [] (outputOf h is))
   pub asTheyCame : stablePieces (outputOf h is) ≡ failureFreeBytes h is
-  pub worked : accountOf h is .book .d ≤ stableBuckets (settingsIn h) (accountOf h is .book)
+  pub worked : accountOf h is .monitor .d ≤ stableBuckets (settingsIn h) (accountOf h is .monitor)
 
 -- a list of accepted steps; their clocks and areas are anything
 pub data Steps : Box → ℕ → List Input → Type 0 where
@@ -97,11 +96,11 @@ pub record Demand3 : Type 0 where
       remaining h is ≡ 0 →
       remaining g js ≡ 0 →
       stablePieces (outputOf h is) ≡ stablePieces (outputOf g js)
-  -- 4: with k stable buckets left to work, k + 2 steps leave none, and no closing mark due
+  -- 4: with k stable buckets left to work, k + 2 steps leave none, and every undo has its R behind it
   pub settles :
       (h : Handed) → isOpened h → (is js : List Input) →
       Steps (leftAfter (boxOf h) is) (remaining h is + 2) js →
-      (remaining h (is ++ js) ≡ 0) × (markDueIn false (outputOf h (is ++ js)) ≡ false)
+      (remaining h (is ++ js) ≡ 0) × (doneDueIn false (outputOf h (is ++ js)) ≡ false)
   -- and whatever is refused between changes nothing
   pub refused : (b : Box) (i : Input) → (called b i .answer ≡ 0 → ⊥) → Unchanged b i
   -- 5, beyond the demand: from an opening on no call is refused for a short store or a state out of shape

@@ -7,7 +7,7 @@ use Rattle.journal.specs.Kinds.{letterU, letterR}
 use Rattle.record.specs.declared.Decoded.{Decoded}
 use Rattle.record.specs.declared.Decoded.the-variants as Decoded
 use Rattle.record.specs.Decoded.{decoded}
-use Rattle.record.specs.Kinds.{isResult, isStable, isTentative}
+use Rattle.record.specs.Kinds.{isResult, isStable}
 use Rattle.store.specs.Lists.{keep}
 
 -- the kind and the id of a record in bytes; bytes that are no record have neither
@@ -46,8 +46,8 @@ struckPieces results (b ∷ bs) =
 unfoldable pub stablePieces : List (List ℕ) → List (List ℕ)
 stablePieces = keep (λ (b : List ℕ). isStable (pieceKind b))
 
--- the closing mark is due: an undo has no R behind it
-unfoldable pub markDueIn : Bool → List (List ℕ) → Bool
-markDueIn due [] = due
-markDueIn due (b ∷ bs) =
-    markDueIn (cond (eqb (pieceKind b) letterU) true (cond (eqb (pieceKind b) letterR) false due)) bs
+-- corrections are to be ended (document 01: the closing mark is due): an undo has no R behind it
+unfoldable pub doneDueIn : Bool → List (List ℕ) → Bool
+doneDueIn due [] = due
+doneDueIn due (b ∷ bs) =
+    doneDueIn (cond (eqb (pieceKind b) letterU) true (cond (eqb (pieceKind b) letterR) false due)) bs

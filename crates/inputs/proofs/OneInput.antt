@@ -16,7 +16,7 @@ use Rattle.store.specs.Sizes.{readingsPerLine}
 use Rattle.store.specs.Columns.{Columns, rowsFrom, withRowsAt, withKept}
 use Rattle.store.proofs.Columns.{length-rowsFrom, take-rows}
 use Rattle.shares.proofs.Rows.{kept-all, kept-more}
-use Rattle.protocol.specs.Kinds.{Kind, kindOf}
+use Rattle.protocol.specs.Kinds.{Kind, kindOf, uses}
 use Rattle.protocol.specs.Node.{readingOf, onLine}
 use Rattle.protocol.specs.Refusals.{isFull}
 use Rattle.node.specs.declared.LineHead.{LineHead}
@@ -64,7 +64,7 @@ module _ (head : LineHead) (x : Columns) (base : ℕ) (small : head .kept ≤ re
 
   -- where a reading is not refused, its line has a free place
   pub place-free : (kind : ℕ) → eqb kind letterS || eqb kind letterT ≡ true → isFull (viewLine head (rowsFrom x base readingsPerLine)) (kindOf kind) ≡ false → head .kept < readingsPerLine
-  unfolding isFull
+  unfolding isFull uses
   place-free kind reading =
       let below : leb readingsPerLine (length (viewLine head (rowsFrom x base readingsPerLine) .kept)) ≡ false → head .kept < readingsPerLine = λ e. omega (arith, leb-false readingsPerLine (length (viewLine head (rowsFrom x base readingsPerLine) .kept)) e, length-kept) in
       kind-reading kind (λ b κ. isFull (viewLine head (rowsFrom x base readingsPerLine)) κ ≡ false → head .kept < readingsPerLine) reading

@@ -22,7 +22,7 @@ use Rattle.store.specs.Lists.{Every}
 use Rattle.operator.specs.declared.Operator.{Operator}
 use Rattle.operator.specs.Meters.{meterCount, noMeter, fresh, addAll}
 use Rattle.operator.specs.Work.{close, work}
-use Rattle.protocol.specs.Kinds.{Kind, kindOf}
+use Rattle.protocol.specs.Kinds.{Kind, kindOf, uses, isStep}
 use Rattle.protocol.specs.Node.{Line, Node, noLine, opened, keptOf, readingOf, onLine}
 use Rattle.protocol.specs.declared.Rule.{Rule}
 use Rattle.protocol.specs.declared.Rule.the-variants as Rule
@@ -181,7 +181,7 @@ input-fits n k f kind h =
     }
 
 done-fits : (s : Settings) (n : Node) (k : Call) → CallFits k → NodeFits n → (kind : Kind) → NodeFits (done s n k kind .node)
-unfolding done
+unfolding done isStep uses
 done-fits s n k f h Kind.S = input-fits n k f Kind.S h
 done-fits s n k f h Kind.T = input-fits n k f Kind.T h
 done-fits s n k f h Kind.B = input-fits n k f Kind.B h

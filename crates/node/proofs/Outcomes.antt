@@ -15,9 +15,9 @@ use Rattle.store.specs.Order.{isIn}
 use Rattle.store.specs.Lists.{Every}
 use Rattle.store.proofs.Pairs.{every-to, every-map}
 use Rattle.store.proofs.Keeping.{length-keep}
-use Rattle.protocol.specs.Kinds.{Kind, kindOf}
+use Rattle.protocol.specs.Kinds.{Kind, kindOf, uses, isStep}
 use Rattle.protocol.specs.Node.{Line, Node, noLine, onLine}
-use Rattle.protocol.specs.Refusals.{lineOf, isFull, testsOf, answerTo}
+use Rattle.protocol.specs.Refusals.{lineOf, isFull, callTests, lineTests, testsOf, answerTo}
 use Rattle.protocol.specs.declared.Rule.{Rule}
 use Rattle.protocol.specs.declared.Rule.the-variants as Rule
 use Rattle.protocol.specs.Rules.{Outcome, ruleOf, without, act}
@@ -31,14 +31,14 @@ use Rattle.node.proofs.Shares.{SmallLine}
 
 -- a call that is accepted finds a free place where it takes one
 pub not-full : (s : Settings) (n : Node) (k : Call) → answerTo s n k ≡ 0 → isFull (lineOf n k) (kindOf (k .kind)) ≡ false
-unfolding answerTo testsOf
+unfolding answerTo testsOf callTests lineTests
 not-full s n k e = none-failed (testsOf s n k (kindOf (k .kind))) (omega arith) e .1 .1 .1 .1 .1 .1 .1 .0
 
 -- ---- an input
 
 -- a line that is not full stays within its share
 pub onLine-small : (k : Call) (kind : Kind) (l : Line) → isFull l kind ≡ false → SmallLine l → SmallLine (onLine k kind l)
-unfolding onLine isFull
+unfolding onLine isFull uses
 onLine-small k Kind.S l e h = simp length-append (omega (arith, leb-false))
 onLine-small k Kind.T l e h = simp length-append (omega (arith, leb-false))
 onLine-small k Kind.B l e h = h
@@ -80,7 +80,7 @@ act-small s n Rule.Idle h = h
 -- ---- a call
 
 done-lines : (s : Settings) (n : Node) (k : Call) (kind : Kind) → length (done s n k kind .node .lines) ≡ length (n .lines)
-unfolding done
+unfolding done isStep uses
 done-lines s n k Kind.S = input-lines n k Kind.S
 done-lines s n k Kind.T = input-lines n k Kind.T
 done-lines s n k Kind.B = input-lines n k Kind.B
@@ -89,7 +89,7 @@ done-lines s n k Kind.R = input-lines n k Kind.R
 done-lines s n k Kind.P = act-lines s n (ruleOf s n (k .now))
 
 done-small : (s : Settings) (n : Node) (k : Call) (kind : Kind) → isFull (lineOf n k) kind ≡ false → Every SmallLine (n .lines) → Every SmallLine (done s n k kind .node .lines)
-unfolding done
+unfolding done isStep uses
 done-small s n k Kind.S e h = input-small n k Kind.S e h
 done-small s n k Kind.T e h = input-small n k Kind.T e h
 done-small s n k Kind.B e h = input-small n k Kind.B e h

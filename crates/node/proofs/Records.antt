@@ -24,7 +24,7 @@ use Rattle.store.specs.Order.{inBucket}
 use Rattle.store.proofs.Pairs.{every-to, every-append}
 use Rattle.store.specs.Lists.{Every}
 use Rattle.operator.specs.Results.{plain}
-use Rattle.protocol.specs.Kinds.{Kind, kindOf}
+use Rattle.protocol.specs.Kinds.{Kind, kindOf, uses, isStep}
 use Rattle.protocol.specs.Node.{Line, Node, isStable, keptOf}
 use Rattle.protocol.specs.declared.Rule.{Rule}
 use Rattle.protocol.specs.declared.Rule.the-variants as Rule
@@ -151,7 +151,7 @@ module _ (s : Settings) (n : Node) (fits : NodeFits n) (shape : ShapeFacts s n) 
   -- ---- the records of a call
 
   done-given : (k : Call) (kind : Kind) → Given (done s n k kind .records)
-  unfolding done input
+  unfolding done isStep uses input
   done-given k Kind.S = (omega arith, tt)
   done-given k Kind.T = (omega arith, tt)
   done-given k Kind.B = (omega arith, tt)

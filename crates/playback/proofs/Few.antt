@@ -17,7 +17,7 @@ use Rattle.store.specs.Columns.{Columns}
 use Rattle.store.specs.Order.{inBucket}
 use Rattle.operator.specs.Meters.{meterCount}
 use Rattle.operator.specs.Results.{plain}
-use Rattle.protocol.specs.Kinds.{Kind, kindOf}
+use Rattle.protocol.specs.Kinds.{Kind, kindOf, uses, isStep}
 use Rattle.protocol.specs.Node.{Node, keptOf}
 use Rattle.protocol.specs.declared.Rule.{Rule}
 use Rattle.protocol.specs.declared.Rule.the-variants as Rule
@@ -56,7 +56,7 @@ module _ (s : Settings) (n : Node) (meters : length (n .operator .meters) ≡ me
   act-few Rule.Idle = omega arith
 
   done-few : (k : Call) (kind : Kind) → length (done s n k kind .records) ≤ recordsPerCall
-  unfolding done input
+  unfolding done isStep uses input
   done-few k Kind.S = omega arith
   done-few k Kind.T = omega arith
   done-few k Kind.B = omega arith

@@ -14,7 +14,7 @@ use borrow.Author.Tests.{lt-ltb, le-ltb, lt-leb, eq-eqb, ne-eqb}
 use Rattle.settings.specs.declared.Settings.{Settings}
 use Rattle.journal.specs.declared.Call.{Call}
 use Rattle.store.specs.Lists.{modify}
-use Rattle.protocol.specs.Kinds.{Kind, kindOf}
+use Rattle.protocol.specs.Kinds.{Kind, kindOf, uses, isStep}
 use Rattle.protocol.specs.Node.{Node, noLine, keepsTentative, readingOf, onLine}
 use Rattle.protocol.specs.Refusals.{lineOf, wrongLine, isZero, unusedField, wrongMeter, wrongId}
 use Rattle.protocol.specs.Refusals.{tooEarly, isHeldBack, isFull, answerTo}
@@ -133,7 +133,7 @@ module _ (s : Settings) (n : Node) (k : Call) where
   )
 
   pub accepts-S : kindOf (k .kind) ≡ Kind.S → (answerTo s n k ≡ 0) ↔ (ReadingFits s n k × (keepsTentative (lineOf n k) ≡ false))
-  unfolding wrongLine unusedField wrongMeter wrongId tooEarly isHeldBack isFull
+  unfolding wrongLine isStep uses unusedField wrongMeter wrongId tooEarly isHeldBack isFull
   accepts-S e = (
     λ a. let f = answer-zero Kind.S e .0 a in (reading-iff .0 (reaches-iff .0 (f .0, f .1), f .3, f .4, f .5, f .7), f .6),
     λ r.
@@ -143,7 +143,7 @@ module _ (s : Settings) (n : Node) (k : Call) where
   )
 
   pub accepts-T : kindOf (k .kind) ≡ Kind.T → (answerTo s n k ≡ 0) ↔ ReadingFits s n k
-  unfolding wrongLine unusedField wrongMeter wrongId tooEarly isHeldBack isFull
+  unfolding wrongLine isStep uses unusedField wrongMeter wrongId tooEarly isHeldBack isFull
   accepts-T e = (
     λ a. let f = answer-zero Kind.T e .0 a in reading-iff .0 (reaches-iff .0 (f .0, f .1), f .3, f .4, f .5, f .7),
     λ r.
@@ -153,7 +153,7 @@ module _ (s : Settings) (n : Node) (k : Call) where
   )
 
   pub accepts-B : kindOf (k .kind) ≡ Kind.B → (answerTo s n k ≡ 0) ↔ BoundaryFits s n k
-  unfolding wrongLine unusedField wrongMeter wrongId tooEarly isHeldBack isFull
+  unfolding wrongLine isStep uses unusedField wrongMeter wrongId tooEarly isHeldBack isFull
   accepts-B e = (
     λ a.
         let f = answer-zero Kind.B e .0 a in
@@ -173,7 +173,7 @@ module _ (s : Settings) (n : Node) (k : Call) where
   )
 
   pub accepts-U : kindOf (k .kind) ≡ Kind.U → (answerTo s n k ≡ 0) ↔ UndoFits s n k
-  unfolding wrongLine unusedField wrongMeter wrongId tooEarly isHeldBack isFull
+  unfolding wrongLine isStep uses unusedField wrongMeter wrongId tooEarly isHeldBack isFull
   accepts-U e = (
     λ a.
         let f = answer-zero Kind.U e .0 a in
@@ -195,7 +195,7 @@ module _ (s : Settings) (n : Node) (k : Call) where
   )
 
   pub accepts-R : kindOf (k .kind) ≡ Kind.R → (answerTo s n k ≡ 0) ↔ (Reaches s n k × Bare k × (keepsTentative (lineOf n k) ≡ false))
-  unfolding wrongLine unusedField wrongMeter wrongId tooEarly isHeldBack isFull
+  unfolding wrongLine isStep uses unusedField wrongMeter wrongId tooEarly isHeldBack isFull
   accepts-R e = (
     λ a. let f = answer-zero Kind.R e .0 a in (reaches-iff .0 (f .0, f .1), bare-iff .0 (f .2), f .6),
     λ r.
@@ -204,7 +204,7 @@ module _ (s : Settings) (n : Node) (k : Call) where
   )
 
   pub accepts-P : kindOf (k .kind) ≡ Kind.P → (answerTo s n k ≡ 0) ↔ ((n .clock .0 ≤ k .now .0) × (k .line ≡ 0) × Bare k)
-  unfolding wrongLine unusedField wrongMeter wrongId tooEarly isHeldBack isFull
+  unfolding wrongLine isStep uses unusedField wrongMeter wrongId tooEarly isHeldBack isFull
   accepts-P e = (
     λ a.
         let f = answer-zero Kind.P e .0 a in
@@ -238,9 +238,9 @@ module _ (s : Settings) (n : Node) (k : Call) where
 
   -- an accepted reading stands behind those that its line kept
   pub accepted-S-kept : kindOf (k .kind) ≡ Kind.S → length (n .lines) ≡ s .lines → answerTo s n k ≡ 0 → getD (outcomeOf s n k .node .lines) (k .line - 1) noLine .kept ≡ lineOf n k .kept ++ readingOf k ∷ []
-  unfolding done onLine
+  unfolding done isStep uses onLine
   accepted-S-kept e l h = kept-behind Kind.S (input-changes-line Kind.S e refl h) refl l (accepts-S e .0 h .0 .reaches)
 
   pub accepted-T-kept : kindOf (k .kind) ≡ Kind.T → length (n .lines) ≡ s .lines → answerTo s n k ≡ 0 → getD (outcomeOf s n k .node .lines) (k .line - 1) noLine .kept ≡ lineOf n k .kept ++ readingOf k ∷ []
-  unfolding done onLine
+  unfolding done isStep uses onLine
   accepted-T-kept e l h = kept-behind Kind.T (input-changes-line Kind.T e refl h) refl l (accepts-T e .0 h .reaches)

@@ -15,10 +15,10 @@ use Rattle.journal.specs.declared.Call.{Call}
 use Rattle.journal.specs.Kinds.{letterT}
 use Rattle.store.specs.declared.Reading.{Reading}
 use Rattle.store.specs.Lists.{Every, someOf, modify}
-use Rattle.protocol.specs.Kinds.{Kind, kindOf}
+use Rattle.protocol.specs.Kinds.{Kind, kindOf, uses}
 use Rattle.protocol.specs.Node.{Line, Node, keepsTentative}
 use Rattle.protocol.specs.Refusals.{firstFailed, lineOf, wrongLine, isZero, unusedField, wrongMeter, wrongId}
-use Rattle.protocol.specs.Refusals.{tooEarly, isHeldBack, isFull, testsOf, answerTo}
+use Rattle.protocol.specs.Refusals.{tooEarly, isHeldBack, isFull, callTests, lineTests, testsOf, answerTo}
 
 -- the number of the first fault, counted from j on, 0 if there is none
 unfoldable pub firstFault : ℕ → List Bool → ℕ
@@ -33,7 +33,7 @@ faults s n k kind =
     isFull (lineOf n k) kind ∷ []
 
 pub answer-is-first-fault : (s : Settings) (n : Node) (k : Call) → answerTo s n k ≡ firstFault 7 (faults s n k (kindOf (k .kind)))
-unfolding answerTo testsOf firstFailed firstFault faults
+unfolding answerTo testsOf callTests lineTests firstFailed firstFault faults
 answer-is-first-fault s n k = refl
 
 -- the fault at place i is the first one
@@ -145,7 +145,7 @@ unfolding keepsTentative
 no-tentative-iff l = none-iff (l .kept)
 
 pub full-256 : (l : Line) (kind : Kind) → isFull l kind ≡ true → 256 ≤ length (l .kept)
-unfolding isFull
+unfolding isFull uses
 full-256 l Kind.S e = leb-true 256 (length (l .kept)) e
 full-256 l Kind.T e = leb-true 256 (length (l .kept)) e
 full-256 l Kind.B e = absurd (true≢false (sym e))

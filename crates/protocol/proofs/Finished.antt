@@ -19,7 +19,7 @@ use Rattle.store.proofs.Pairs.{every-to, every-any}
 use Rattle.store.proofs.Keeping.{keep-same}
 use Rattle.protocol.specs.Node.{Line}
 use Rattle.protocol.specs.Rules.{without}
-use Rattle.protocol.specs.DayBook.{Page}
+use Rattle.protocol.specs.Monitor.{LineMonitor}
 use Rattle.protocol.proofs.Tests.{both-ways}
 use Rattle.protocol.proofs.Lists.{keep-twice, keep-implied}
 use Rattle.protocol.proofs.Lines.{isFrom, isTentativeReading, isStableReading, stable-tentative, Agrees}
@@ -49,7 +49,7 @@ below-end length c r room e =
     let h : r .time .0 / length ≡ c = eqb-true _ _ e in
     div-lt-iff-lt-mul room .0 (omega arith)
 
-module _ (s : Settings) (room : 0 < s .bucket) (c : ℕ) (l : Line) (g : Page) (stables : List Reading) (v : Agrees s c l g stables) (finished : suc c * s .bucket ≤ l .boundary .0) where
+module _ (s : Settings) (room : 0 < s .bucket) (c : ℕ) (l : Line) (g : LineMonitor) (stables : List Reading) (v : Agrees s c l g stables) (finished : suc c * s .bucket ≤ l .boundary .0) where
   -- the bucket's readings leave
   pub line-finish : Agrees s (suc c) (without s c l) g stables
   unfolding without

@@ -1,4 +1,4 @@
--- What holds after every list of calls: the node's c, p and phase are the day book's d, t and mark, every line agrees with its page and its
+-- What holds after every list of calls: the node's c, p and phase are the monitor's d, t and mark, every line agrees with the monitor and its
 -- accepted stable readings, and the output is measured against the failure-free run below c. Each call keeps it. Assumes nothing.
 use Prim.Native.Nat.{ℕ, suc, _+_, _*_, _-_, _≤_, _<_}
 use mathlib.Core.Path.{_≡_, refl, sym, _∙_, ap, subst}
@@ -22,40 +22,40 @@ use Rattle.store.proofs.Choices.{and-parts}
 use Rattle.operator.specs.declared.Operator.{Operator}
 use Rattle.operator.specs.Work.{work}
 use Rattle.protocol.specs.declared.Phase.{Phase}
-use Rattle.protocol.specs.Kinds.{Kind, kindOf}
+use Rattle.protocol.specs.Kinds.{Kind, kindOf, uses, isStep}
 use Rattle.protocol.specs.Node.{Line, noLine, isStable, keptOf, onLine}
 use Rattle.protocol.specs.declared.Rule.{Rule}
 use Rattle.protocol.specs.declared.Rule.the-variants as Rule
 use Rattle.protocol.specs.Rules.{isCorrecting, ruleOf, without, boundaryAt, worked, act}
 use Rattle.protocol.specs.Refusals.{lineOf, answerTo}
 use Rattle.protocol.specs.Calls.{input, done as doneBy, accepted, outcomeOf}
-use Rattle.protocol.specs.DayBook.{Page, onPage, bookInput, bookKind, bookCall}
-use Rattle.protocol.specs.FailureFree.{withStable, stableAfter, failureFree}
+use Rattle.protocol.specs.Monitor.{LineMonitor, observeLine, observeInput, observeKind, observe}
+use Rattle.protocol.specs.FailureFree.{stableAfter, failureFree}
 use Rattle.protocol.specs.Runs.{Event, Trace, isAccepted, next, after}
 use Rattle.protocol.proofs.Places.{Each, done, more, each-map, each-modify, length-modify, modify-same}
-use Rattle.protocol.proofs.Lines.{Agrees, line-input}
+use Rattle.protocol.proofs.Lines.{withStable, Agrees, line-input}
 use Rattle.protocol.proofs.Finished.{line-finish, line-bucket}
-use Rattle.protocol.proofs.Rules.{bookAct, book-step, rule-cases, same-rule}
+use Rattle.protocol.proofs.Rules.{monitorAct, monitor-step, rule-cases, same-rule}
 use Rattle.protocol.proofs.Numbers.{work-onward, failureFree-numbered}
-use Rattle.protocol.proofs.FailureFree.{failureFree-same, gather-input}
-use Rattle.protocol.proofs.Output.{Measured, measured-withdraw, measured-stable, measured-mark, measured-tentative, measured-idle}
+use Rattle.protocol.proofs.FailureFree.{failureFree-same, gather-input, accepted-stable, refused-stable}
+use Rattle.protocol.proofs.Output.{Measured, measured-withdraw, measured-stable, measured-done, measured-tentative, measured-idle}
 use Rattle.protocol.proofs.Passed.{Passed, passed}
 
 pub record Invariant (s : Settings) (t : Trace) : Type 0 where
   pub some : 0 < length (t .node .lines)
-  pub same-c : t .node .c ≡ t .book .d
-  pub same-p : t .node .p ≡ t .book .t
-  pub same-mark : isCorrecting (t .node .phase) ≡ t .book .mark
+  pub same-c : t .node .c ≡ t .monitor .d
+  pub same-p : t .node .p ≡ t .monitor .t
+  pub same-mark : isCorrecting (t .node .phase) ≡ t .monitor .mark
   pub order : t .node .c ≤ t .node .p
-  pub lines : Each (Agrees s (t .node .c)) (t .node .lines) (t .book .pages) (t .stables)
+  pub lines : Each (Agrees s (t .node .c)) (t .node .lines) (t .monitor .lines) (t .stables)
   pub output : Measured (t .node .c) (t .node .p) (t .node .phase) (t .node .operator) (t .node .checkpoint) (failureFree s (t .stables) (t .node .c)) (t .output)
 
 -- bucket c is stable: every line's boundary finishes it
 module _ (s : Settings) (c : ℕ) where
-  Finished : Line → Page → List Reading → Type 0
+  Finished : Line → LineMonitor → List Reading → Type 0
   Finished l g rs = Agrees s c l g rs × (suc c * s .bucket ≤ l .boundary .0)
 
-  each-finished : {ls : List Line} {gs : List Page} {zs : List (List Reading)} → isStable s c ls ≡ true → Each (Agrees s c) ls gs zs → Each Finished ls gs zs
+  each-finished : {ls : List Line} {gs : List LineMonitor} {zs : List (List Reading)} → isStable s c ls ≡ true → Each (Agrees s c) ls gs zs → Each Finished ls gs zs
   unfolding isStable allOf finishes bucketEnd Finished
   each-finished e done = done
   each-finished e (more {a = l} r rs) =
@@ -63,13 +63,13 @@ module _ (s : Settings) (c : ℕ) where
       more (r, omega arith) (each-finished (and-parts (leb (c * s .bucket + s .bucket) (l .boundary .0)) _ e .1) rs)
 
   module _ (room : 0 < s .bucket) where
-    each-gather : {ls : List Line} {gs : List Page} {zs : List (List Reading)} (n : ℕ) → Each Finished ls gs zs → gather (s .bucket) c n (keptOf ls) ≡ gather (s .bucket) c n zs
+    each-gather : {ls : List Line} {gs : List LineMonitor} {zs : List (List Reading)} (n : ℕ) → Each Finished ls gs zs → gather (s .bucket) c n (keptOf ls) ≡ gather (s .bucket) c n zs
     unfolding gather keptOf Finished
     each-gather n done = refl
     each-gather n (more {a = l} {b = g} {c = rs} r rest) =
         rw (line-bucket s room c l g rs (r .0) (r .1), each-gather (suc n) rest)
 
-    each-without : {ls : List Line} {gs : List Page} {zs : List (List Reading)} → Each Finished ls gs zs → Each (Agrees s (suc c)) (map (without s c) ls) gs zs
+    each-without : {ls : List Line} {gs : List LineMonitor} {zs : List (List Reading)} → Each Finished ls gs zs → Each (Agrees s (suc c)) (map (without s c) ls) gs zs
     unfolding Finished
     each-without v = each-map (without s c) (λ l g rs r. line-finish s room c l g rs (r .0) (r .1)) v
 
@@ -78,7 +78,7 @@ Stepped : Settings → Trace → ArrivalTick → Rule → Trace
 Stepped s t now q =
     record {
       node = accepted now (act s (t .node) q) .node;
-      book = bookAct (t .book) q;
+      monitor = monitorAct (t .monitor) q;
       stables = t .stables;
       output = t .output ++ accepted now (act s (t .node) q) .records;
     }
@@ -88,7 +88,7 @@ Called : Settings → Trace → Call → Kind → Trace
 Called s t k kind =
     record {
       node = accepted (k .now) (doneBy s (t .node) k kind) .node;
-      book = bookKind s (t .book) k kind;
+      monitor = observeKind s (t .monitor) k kind;
       stables = modify (withStable k kind) (k .line - 1) (t .stables);
       output = t .output ++ accepted (k .now) (doneBy s (t .node) k kind) .records;
     }
@@ -103,8 +103,8 @@ measured-bucket s c p phase operator checkpoint zs out rs e q v =
     (work-onward s letterS c (inBucket (s .bucket) c zs) (failureFree s zs c .operator)) s c)
 
 module _ (s : Settings) (room : 0 < s .bucket) (t : Trace) (v : Invariant s t) where
-  input-kept : (k : Call) (kind : Kind) → kindOf (k .kind) ≡ kind → Passed (t .node) k kind → Invariant s (record { node = accepted (k .now) (input (t .node) k kind) .node; book = bookInput (t .book) k kind; stables = modify (withStable k kind) (k .line - 1) (t .stables); output = t .output ++ accepted (k .now) (input (t .node) k kind) .records })
-  unfolding accepted input bookInput lineOf
+  input-kept : (k : Call) (kind : Kind) → kindOf (k .kind) ≡ kind → Passed (t .node) k kind → Invariant s (record { node = accepted (k .now) (input (t .node) k kind) .node; monitor = observeInput (t .monitor) k kind; stables = modify (withStable k kind) (k .line - 1) (t .stables); output = t .output ++ accepted (k .now) (input (t .node) k kind) .records })
+  unfolding accepted input observeInput lineOf
   input-kept k kind e h =
       record {
         some = subst (λ n. 0 < n) (sym (length-modify (onLine k kind) (k .line - 1) (t .node .lines))) (v .some);
@@ -113,7 +113,7 @@ module _ (s : Settings) (room : 0 < s .bucket) (t : Trace) (v : Invariant s t) w
         same-mark = v .same-mark;
         order = v .order;
         lines =
-            each-modify (onLine k kind) (onPage k kind) (withStable k kind) noLine (k .line - 1)
+            each-modify (onLine k kind) (observeLine k kind) (withStable k kind) noLine (k .line - 1)
             (λ g rs r. line-input s room (t .node .c) k (lineOf (t .node) k) g rs r kind e (h .id) (h .time) (h .free)) (v .lines);
         output =
             rw (
@@ -125,7 +125,7 @@ module _ (s : Settings) (room : 0 < s .bucket) (t : Trace) (v : Invariant s t) w
       }
 
   withdraw-kept : (now : ArrivalTick) → Invariant s (Stepped s t now Rule.Withdraw)
-  unfolding Stepped accepted act bookAct isCorrecting
+  unfolding Stepped accepted act monitorAct isCorrecting
   withdraw-kept now =
       record {
         some = v .some;
@@ -139,7 +139,7 @@ module _ (s : Settings) (room : 0 < s .bucket) (t : Trace) (v : Invariant s t) w
       }
 
   stable-kept : (now : ArrivalTick) → isStable s (t .node .c) (t .node .lines) ≡ true → t .node .p ≡ t .node .c → Invariant s (Stepped s t now Rule.WorkStable)
-  unfolding Stepped accepted act bookAct worked inBucket
+  unfolding Stepped accepted act monitorAct worked inBucket
   stable-kept now e q =
       record {
         some = rw (length-map (t .node .lines) (without s (t .node .c))) (v .some);
@@ -153,9 +153,9 @@ module _ (s : Settings) (room : 0 < s .bucket) (t : Trace) (v : Invariant s t) w
             (ap sort (each-gather s (t .node .c) room 1 (each-finished s (t .node .c) e (v .lines)))) q (v .output);
       }
 
-  mark-kept : (now : ArrivalTick) → Invariant s (Stepped s t now Rule.EndCorrection)
-  unfolding Stepped accepted act bookAct isCorrecting
-  mark-kept now =
+  end-kept : (now : ArrivalTick) → Invariant s (Stepped s t now Rule.EndCorrection)
+  unfolding Stepped accepted act monitorAct isCorrecting
+  end-kept now =
       record {
         some = v .some;
         same-c = v .same-c;
@@ -163,11 +163,11 @@ module _ (s : Settings) (room : 0 < s .bucket) (t : Trace) (v : Invariant s t) w
         same-mark = refl;
         order = v .order;
         lines = v .lines;
-        output = measured-mark _ _ _ _ _ _ _ (v .output) (record { 0 = 0 });
+        output = measured-done _ _ _ _ _ _ _ (v .output) (record { 0 = 0 });
       }
 
   tentative-kept : (now : ArrivalTick) → isCorrecting (t .node .phase) ≡ false → Invariant s (Stepped s t now Rule.WorkTentative)
-  unfolding Stepped accepted act bookAct isCorrecting worked
+  unfolding Stepped accepted act monitorAct isCorrecting worked
   tentative-kept now m =
       record {
         some = v .some;
@@ -182,7 +182,7 @@ module _ (s : Settings) (room : 0 < s .bucket) (t : Trace) (v : Invariant s t) w
       }
 
   idle-kept : (now : ArrivalTick) → Invariant s (Stepped s t now Rule.Idle)
-  unfolding Stepped accepted act bookAct
+  unfolding Stepped accepted act monitorAct
   idle-kept now =
       record {
         some = v .some;
@@ -199,14 +199,14 @@ module _ (s : Settings) (room : 0 < s .bucket) (t : Trace) (v : Invariant s t) w
   step-kept now =
       rule-cases _ _ _ _ (λ (q : Rule). Invariant s (Stepped s t now q)) (λ a b. withdraw-kept now)
       (λ a b. let h : t .node .p ≤ t .node .c = ltb-false _ _ b in stable-kept now a (omega (arith, v .order)))
-      (λ a m. mark-kept now) (λ a m d. tentative-kept now m) (λ a m. idle-kept now)
+      (λ a m. end-kept now) (λ a m d. tentative-kept now m) (λ a m. idle-kept now)
 
   no-new-stable : (k : Call) → modify (withStable k Kind.P) (k .line - 1) (t .stables) ≡ t .stables
   unfolding withStable
   no-new-stable k = modify-same (withStable k Kind.P) (λ rs. refl) (k .line - 1) (t .stables)
 
   called-kept : (k : Call) (kind : Kind) → kindOf (k .kind) ≡ kind → Passed (t .node) k kind → Invariant s (Called s t k kind)
-  unfolding Called doneBy bookKind Stepped
+  unfolding Called doneBy observeKind isStep uses Stepped
   called-kept k Kind.S e h = input-kept k Kind.S e h
   called-kept k Kind.T e h = input-kept k Kind.T e h
   called-kept k Kind.B e h = input-kept k Kind.B e h
@@ -215,13 +215,13 @@ module _ (s : Settings) (room : 0 < s .bucket) (t : Trace) (v : Invariant s t) w
   called-kept k Kind.P e h =
       rw (
         no-new-stable k,
-        book-step s (t .book) (k .now .0),
-        ← (same-rule s room (t .node) (t .book) (t .stables) (k .now) (v .some) (v .same-c) (v .same-p) (v .same-mark) (v .order) (v .lines)),
+        monitor-step s (t .monitor) (k .now .0),
+        ← (same-rule s room (t .node) (t .monitor) (t .stables) (k .now) (v .some) (v .same-c) (v .same-p) (v .same-mark) (v .order) (v .lines)),
       )
       (step-kept (k .now))
 
   journal-kept : (k : Call) → Invariant s (next s t (Event.journal k))
-  unfolding next outcomeOf bookCall stableAfter isAccepted Called
+  unfolding next outcomeOf observe isAccepted Called
   journal-kept k =
       (elim (eqb (answerTo s (t .node) k) 0) as
       (λ b.
@@ -229,14 +229,15 @@ module _ (s : Settings) (room : 0 < s .bucket) (t : Trace) (v : Invariant s t) w
       Invariant s
       (record {
         node = cond b (accepted (k .now) (doneBy s (t .node) k (kindOf (k .kind)))) (record { node = t .node; records = [] }) .node;
-        book = cond b (bookKind s (t .book) k (kindOf (k .kind))) (t .book);
-        stables = cond b (modify (withStable k (kindOf (k .kind))) (k .line - 1) (t .stables)) (t .stables);
+        monitor = cond b (observeKind s (t .monitor) k (kindOf (k .kind))) (t .monitor);
+        stables = stableAfter (t .stables) k b;
         output =
             t .output ++
             cond b (accepted (k .now) (doneBy s (t .node) k (kindOf (k .kind)))) (record { node = t .node; records = [] }) .records;
       })) [
-        | true ↦ λ e. called-kept k (kindOf (k .kind)) refl (passed s (t .node) k (eqb-true _ _ e))
-        | false ↦ λ e. rw (append-nil (t .output)) v
+        | true ↦ λ e.
+            rw (accepted-stable (t .stables) k) (called-kept k (kindOf (k .kind)) refl (passed s (t .node) k (eqb-true _ _ e)))
+        | false ↦ λ e. rw (append-nil (t .output), refused-stable (t .stables) k) v
       ])
       refl
 

@@ -30,6 +30,10 @@ second-test false false false true e h = cc
 second-test false false false false true h = cc
 second-test false false false false false h = cc
 
+pub S-kind : (letter : ℕ) → eqb letter letterS ≡ true → kindOf letter ≡ Kind.S
+unfolding kindOf
+S-kind letter e = rw e
+
 pub kind-S : (letter : ℕ) → kindOf letter ≡ Kind.S → letter ≡ letterS
 unfolding kindOf byTests
 kind-S letter h = eqb-true _ _ (first-test (eqb letter letterS) (eqb letter letterT) (eqb letter letterB) (eqb letter letterU) (eqb letter letterR) h)

@@ -1,5 +1,5 @@
--- One line of the node against its page of the day book and its accepted stable readings. All three are parts of the readings that were
--- accepted on the line and not undone: the node keeps those of bucket c or later, the page has an entry for each, and the accepted
+-- One line of the node against what the monitor has of it and its accepted stable readings. All three are parts of the readings that were
+-- accepted on the line and not undone: the node keeps those of bucket c or later, the monitor has an entry for each, and the accepted
 -- stable ones are those that are not tentative. Refusals 11 to 13 keep it so. Assumes nothing.
 use Prim.Native.Nat.{ℕ, _+_, _*_, _/_, _≤_, _<_}
 use mathlib.Core.Path.{_≡_, refl, sym, _∙_, ap}
@@ -18,11 +18,11 @@ use Rattle.store.specs.Lists.{Every, keep, someOf}
 use Rattle.store.proofs.Choices.{not-both, and-parts}
 use Rattle.store.proofs.Pairs.{every-to, every-append, every-keep}
 use Rattle.store.proofs.Keeping.{keep-map}
-use Rattle.protocol.specs.Kinds.{Kind, kindOf}
+use Rattle.protocol.specs.Kinds.{Kind, kindOf, uses}
 use Rattle.protocol.specs.Node.{Line, keepsTentative, readingOf, onLine}
 use Rattle.protocol.specs.Refusals.{wrongId, tooEarly, isHeldBack}
-use Rattle.protocol.specs.DayBook.{Entry, Page, entryOf, onPage}
-use Rattle.protocol.specs.FailureFree.{stableReading, withStable}
+use Rattle.protocol.specs.Monitor.{Entry, LineMonitor, entryOf, observeLine}
+use Rattle.protocol.specs.FailureFree.{stableReading}
 use Rattle.protocol.proofs.Lists.{every-from-kept, keep-last, keep-but-last, keep-swap, keep-implied, none-passes}
 use Rattle.protocol.proofs.Letters.{kind-S, kind-T}
 
@@ -36,12 +36,21 @@ isTentativeReading r = eqb (r .kind) letterT
 unfoldable pub isStableReading : Reading → Bool
 isStableReading r = not (isTentativeReading r)
 
--- what the day book writes down of a reading
+-- what the monitor has of a reading
 unfoldable pub entryOfReading : Reading → Entry
 entryOfReading r = record { id = r .id; time = r .time .0; arrival = r .arrival .0 }
 
--- the line agrees with its page and its accepted stable readings, c being the first bucket not yet worked as stable
-pub record Agrees (s : Settings) (c : ℕ) (l : Line) (g : Page) (stables : List Reading) : Type 0 where
+-- a line's stable readings, after an accepted call of this kind
+unfoldable pub withStable : Call → Kind → List Reading → List Reading
+withStable k Kind.S rs = rs ++ stableReading k ∷ []
+withStable k Kind.T rs = rs
+withStable k Kind.B rs = rs
+withStable k Kind.U rs = rs
+withStable k Kind.R rs = rs
+withStable k Kind.P rs = rs
+
+-- the line agrees with the monitor and its accepted stable readings, c being the first bucket not yet worked as stable
+pub record Agrees (s : Settings) (c : ℕ) (l : Line) (g : LineMonitor) (stables : List Reading) : Type 0 where
   -- accepted and not undone
   pub all : List Reading
   pub boundary : l .boundary .0 ≡ g .boundary
@@ -85,7 +94,7 @@ none-tentative : (rs : List Reading) → someOf (λ (r : Reading). eqb (r .kind)
 unfolding isTentativeReading
 none-tentative rs e = none-passes (λ (r : Reading). eqb (r .kind) letterT) rs e
 
-module _ (s : Settings) (room : 0 < s .bucket) (c : ℕ) (k : Call) (l : Line) (g : Page) (stables : List Reading) (v : Agrees s c l g stables) where
+module _ (s : Settings) (room : 0 < s .bucket) (c : ℕ) (k : Call) (l : Line) (g : LineMonitor) (stables : List Reading) (v : Agrees s c l g stables) where
   after-start : l .boundary .0 ≤ k .time .0 → isFrom (s .bucket) c (readingOf k) ≡ true
   unfolding readingOf
   after-start inTime = from-start (s .bucket) c (readingOf k) room (omega (arith, v .past))
@@ -96,8 +105,8 @@ module _ (s : Settings) (room : 0 < s .bucket) (c : ℕ) (k : Call) (l : Line) (
   more-kept : l .boundary .0 ≤ k .time .0 → l .kept ++ readingOf k ∷ [] ≡ keep (isFrom (s .bucket) c) (v .all ++ readingOf k ∷ [])
   more-kept inTime = rw (v .kept) (sym (keep-last (isFrom (s .bucket) c) (v .all) (readingOf k) (after-start inTime)))
 
-  stable-call : k .kind ≡ letterS → wrongId l (k .id) Kind.S ≡ false → tooEarly l (k .time .0) Kind.S ≡ false → Agrees s c (onLine k Kind.S l) (onPage k Kind.S g) (withStable k Kind.S stables)
-  unfolding onLine onPage withStable wrongId tooEarly readingOf
+  stable-call : k .kind ≡ letterS → wrongId l (k .id) Kind.S ≡ false → tooEarly l (k .time .0) Kind.S ≡ false → Agrees s c (onLine k Kind.S l) (observeLine k Kind.S g) (withStable k Kind.S stables)
+  unfolding onLine observeLine withStable wrongId tooEarly uses readingOf
   stable-call e wrong early =
       let new : k .id ≡ l .lastId + 1 = eqb-true _ _ (not-false _ wrong) in
       record {
@@ -117,8 +126,8 @@ module _ (s : Settings) (room : 0 < s .bucket) (c : ℕ) (k : Call) (l : Line) (
         past = v .past;
       }
 
-  tentative-call : k .kind ≡ letterT → wrongId l (k .id) Kind.T ≡ false → tooEarly l (k .time .0) Kind.T ≡ false → Agrees s c (onLine k Kind.T l) (onPage k Kind.T g) (withStable k Kind.T stables)
-  unfolding onLine onPage withStable wrongId tooEarly readingOf
+  tentative-call : k .kind ≡ letterT → wrongId l (k .id) Kind.T ≡ false → tooEarly l (k .time .0) Kind.T ≡ false → Agrees s c (onLine k Kind.T l) (observeLine k Kind.T g) (withStable k Kind.T stables)
+  unfolding onLine observeLine withStable wrongId tooEarly uses readingOf
   tentative-call e wrong early =
       let new : k .id ≡ l .lastId + 1 = eqb-true _ _ (not-false _ wrong) in
       record {
@@ -134,8 +143,8 @@ module _ (s : Settings) (room : 0 < s .bucket) (c : ℕ) (k : Call) (l : Line) (
       }
 
   -- refusal 11: an undo leaves every stable reading
-  undo-call : wrongId l (k .id) Kind.U ≡ false → Agrees s c (onLine k Kind.U l) (onPage k Kind.U g) (withStable k Kind.U stables)
-  unfolding onLine onPage withStable wrongId entryOfReading
+  undo-call : wrongId l (k .id) Kind.U ≡ false → Agrees s c (onLine k Kind.U l) (observeLine k Kind.U g) (withStable k Kind.U stables)
+  unfolding onLine observeLine withStable wrongId entryOfReading
   undo-call wrong =
       let least : l .lastStableId ≤ k .id = leb-true _ _ (and-parts _ _ (not-false _ wrong) .0) in
       record {
@@ -158,8 +167,8 @@ module _ (s : Settings) (room : 0 < s .bucket) (c : ℕ) (k : Call) (l : Line) (
       }
 
   -- refusal 13: a boundary comes only where no tentative reading is kept, so none is below it
-  boundary-call : tooEarly l (k .time .0) Kind.B ≡ false → isHeldBack l Kind.B ≡ false → Agrees s c (onLine k Kind.B l) (onPage k Kind.B g) (withStable k Kind.B stables)
-  unfolding onLine onPage withStable tooEarly isHeldBack keepsTentative
+  boundary-call : tooEarly l (k .time .0) Kind.B ≡ false → isHeldBack l Kind.B ≡ false → Agrees s c (onLine k Kind.B l) (observeLine k Kind.B g) (withStable k Kind.B stables)
+  unfolding onLine observeLine withStable tooEarly uses isHeldBack keepsTentative
   boundary-call early held =
       record {
         all = v .all;
@@ -181,8 +190,8 @@ module _ (s : Settings) (room : 0 < s .bucket) (c : ℕ) (k : Call) (l : Line) (
       }
 
   -- whatever kind the call is of
-  pub line-input : (kind : Kind) → kindOf (k .kind) ≡ kind → wrongId l (k .id) kind ≡ false → tooEarly l (k .time .0) kind ≡ false → isHeldBack l kind ≡ false → Agrees s c (onLine k kind l) (onPage k kind g) (withStable k kind stables)
-  unfolding onLine onPage withStable
+  pub line-input : (kind : Kind) → kindOf (k .kind) ≡ kind → wrongId l (k .id) kind ≡ false → tooEarly l (k .time .0) kind ≡ false → isHeldBack l kind ≡ false → Agrees s c (onLine k kind l) (observeLine k kind g) (withStable k kind stables)
+  unfolding onLine observeLine withStable
   line-input Kind.S e wrong early held = stable-call (kind-S (k .kind) e) wrong early
   line-input Kind.T e wrong early held = tentative-call (kind-T (k .kind) e) wrong early
   line-input Kind.B e wrong early held = boundary-call early held

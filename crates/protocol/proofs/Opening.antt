@@ -9,9 +9,9 @@ use Rattle.settings.specs.declared.Settings.{Settings}
 use Rattle.store.specs.Lists.{keep}
 use Rattle.protocol.specs.Node.{noLine, opened}
 use Rattle.protocol.specs.Rules.{isCorrecting}
-use Rattle.protocol.specs.DayBook.{emptyBook}
+use Rattle.protocol.specs.Monitor.{freshMonitor}
 use Rattle.protocol.specs.FailureFree.{failureFree}
-use Rattle.protocol.specs.Undos.{applied, struck, markDue}
+use Rattle.protocol.specs.Undos.{applied, struck, doneDue}
 use Rattle.protocol.specs.Runs.{Event, start, after}
 use Rattle.protocol.specs.Demand.{stableRecords}
 use Rattle.protocol.proofs.Places.{Each, done, more}
@@ -38,7 +38,7 @@ each-opened s zero = done
 each-opened s (suc n) = more (line-opened s) (each-opened s n)
 
 at-opening : (s : Settings) → 0 < s .lines → Invariant s (start s)
-unfolding start opened emptyBook failureFree isCorrecting applied struck markDue stableRecords keep
+unfolding start opened freshMonitor failureFree isCorrecting applied struck doneDue stableRecords keep
 at-opening s h =
     record {
       some = rw (length-replicate (s .lines) noLine) h;

@@ -23,19 +23,19 @@ use Rattle.operator.specs.Work.{Worked}
 use Rattle.protocol.specs.declared.Phase.{Phase}
 use Rattle.protocol.specs.declared.Phase.the-variants as Phase
 use Rattle.protocol.specs.Rules.{isCorrecting, boundaryAt}
-use Rattle.protocol.specs.Undos.{applyOne, applied, struckByOne, struck, markDue}
+use Rattle.protocol.specs.Undos.{applyOne, applied, struckByOne, struck, doneDue}
 use Rattle.protocol.specs.Demand.{stableRecords}
 use Rattle.protocol.proofs.Numbers.{Numbered, wider, Onward}
 use Rattle.protocol.proofs.Undos.{
   applied-append,
   struck-append,
-  markDue-append,
+  doneDue-append,
   IsResult,
   stable-result,
   tentative-result,
   applied-results,
   struck-results,
-  markDue-results,
+  doneDue-results,
   undo-applied,
   undo-struck,
 }
@@ -49,7 +49,7 @@ pub record Measured (c p : ℕ) (phase : Phase) (operator checkpoint : Operator)
   pub undone : applied [] output ≡ past .records ++ tentative
   pub numbers : Every (Numbered letterT (checkpoint .number) (operator .number)) tentative
   pub strikes : Every (λ (r : Record). r .kind ≡ letterT) (struck [] output)
-  pub due : markDue false output ≡ isCorrecting phase
+  pub due : doneDue false output ≡ isCorrecting phase
   pub asTheyCame : stableRecords output ≡ past .records
 
 -- stable records of parts of an output
@@ -70,29 +70,29 @@ undo-not-stable : (n : ℕ) (time : ReadingTime) → stableRecords (plain letter
 unfolding stableRecords isStable plain keep
 undo-not-stable n time = refl
 
-mark-not-stable : (n : ℕ) (time : ReadingTime) → stableRecords (plain letterR n time ∷ []) ≡ []
+done-not-stable : (n : ℕ) (time : ReadingTime) → stableRecords (plain letterR n time ∷ []) ≡ []
 unfolding stableRecords isStable plain keep
-mark-not-stable n time = refl
+done-not-stable n time = refl
 
 -- the boundary that follows a window says nothing of results
 pub record Silent (results : List Record) (due : Bool) (rs : List Record) : Type 0 where
   pub applies : applied results rs ≡ results
   pub strikes : struck results rs ≡ []
-  pub marks : markDue due rs ≡ due
+  pub keepsDue : doneDue due rs ≡ due
   pub stables : stableRecords rs ≡ []
 
 boundary-silent : (s : Settings) (j : ℕ) (results : List Record) (due : Bool) → Silent results due (boundaryAt s j)
-unfolding boundaryAt applied struck markDue applyOne struckByOne isResult isStable isTentative plain keep stableRecords
+unfolding boundaryAt applied struck doneDue applyOne struckByOne isResult isStable isTentative plain keep stableRecords
 boundary-silent s j results due =
     elim (closesWindow (s .window) j) as
     (λ b. Silent results due (cond b (plain letterB 0 (record { 0 = bucketEnd (s .bucket) j }) ∷ []) [])) [
-      | true ↦ record { applies = refl; strikes = refl; marks = refl; stables = refl }
-      | false ↦ record { applies = refl; strikes = refl; marks = refl; stables = refl }
+      | true ↦ record { applies = refl; strikes = refl; keepsDue = refl; stables = refl }
+      | false ↦ record { applies = refl; strikes = refl; keepsDue = refl; stables = refl }
     ]
 
-undo-marks : (due : Bool) (n : ℕ) (time : ReadingTime) → markDue due (plain letterU n time ∷ []) ≡ true
-unfolding markDue plain
-undo-marks due n time = refl
+undo-due : (due : Bool) (n : ℕ) (time : ReadingTime) → doneDue due (plain letterU n time ∷ []) ≡ true
+unfolding doneDue plain
+undo-due due n time = refl
 
 module _ (c p : ℕ) (phase : Phase) (operator checkpoint : Operator) (past : Worked) (output : List Record) (v : Measured c p phase operator checkpoint past output) where
   more-struck : (xs : List Record) → Every (λ (r : Record). r .kind ≡ letterT) (struck (applied [] output) xs) → Every (λ (r : Record). r .kind ≡ letterT) (struck [] (output ++ xs))
@@ -122,8 +122,8 @@ module _ (c p : ℕ) (phase : Phase) (operator checkpoint : Operator) (past : Wo
             (rw (v .undone, undo-struck (checkpoint .number) time (past .records) (v .tentative) low high)
             (every-to (v .tentative) (λ r b. b .kind) (v .numbers)));
         due =
-            markDue-append false output (plain letterU (checkpoint .number) time ∷ []) ∙
-            undo-marks (markDue false output) (checkpoint .number) time;
+            doneDue-append false output (plain letterU (checkpoint .number) time ∷ []) ∙
+            undo-due (doneDue false output) (checkpoint .number) time;
         asTheyCame = no-more-stable _ (undo-not-stable (checkpoint .number) time);
       }
     where
@@ -158,8 +158,8 @@ module _ (c p : ℕ) (phase : Phase) (operator checkpoint : Operator) (past : Wo
             rw (struck-results (applied [] output) (w .records) are)
             (boundary-silent s j (applied (applied [] output) (w .records)) false .strikes));
         due =
-            markDue-append false output _ ∙ markDue-append _ (w .records) (boundaryAt s j) ∙ boundary-silent s j [] _ .marks ∙
-            markDue-results _ (w .records) are ∙ v .due;
+            doneDue-append false output _ ∙ doneDue-append _ (w .records) (boundaryAt s j) ∙ boundary-silent s j [] _ .keepsDue ∙
+            doneDue-results _ (w .records) are ∙ v .due;
         asTheyCame =
             stable-append output _ ∙
             ap₂ _++_ (v .asTheyCame)
@@ -173,9 +173,9 @@ module _ (c p : ℕ) (phase : Phase) (operator checkpoint : Operator) (past : Wo
       are : Every IsResult (w .records)
       are = every-to (w .records) stable-result kinds
 
-  pub measured-mark : (time : ReadingTime) → Measured c p Phase.Stable operator checkpoint past (output ++ plain letterR 0 time ∷ [])
-  unfolding isCorrecting applied struck markDue applyOne struckByOne isResult isStable isTentative plain
-  measured-mark time =
+  pub measured-done : (time : ReadingTime) → Measured c p Phase.Stable operator checkpoint past (output ++ plain letterR 0 time ∷ [])
+  unfolding isCorrecting applied struck doneDue applyOne struckByOne isResult isStable isTentative plain
+  measured-done time =
       record {
         atCheckpoint = v .atCheckpoint;
         number = v .number;
@@ -184,8 +184,8 @@ module _ (c p : ℕ) (phase : Phase) (operator checkpoint : Operator) (past : Wo
         undone = applied-append [] output _ ∙ v .undone;
         numbers = v .numbers;
         strikes = none-struck _ refl;
-        due = markDue-append false output _;
-        asTheyCame = no-more-stable _ (mark-not-stable 0 time);
+        due = doneDue-append false output _;
+        asTheyCame = no-more-stable _ (done-not-stable 0 time);
       }
 
   pub measured-tentative : c ≤ p → isCorrecting phase ≡ false → (w : Worked) → Onward letterT operator w → Measured c (suc p) Phase.Failure (w .operator) checkpoint past (output ++ w .records)
@@ -203,7 +203,7 @@ module _ (c p : ℕ) (phase : Phase) (operator checkpoint : Operator) (past : Wo
             every-append _ (v .tentative) (w .records) (every-to (v .tentative) (wider _ _ (le-refl _) (f .rises)) (v .numbers))
             (every-to (w .records) (wider _ _ (v .number) (le-refl _)) (f .each));
         strikes = none-struck _ (struck-results (applied [] output) (w .records) are);
-        due = markDue-append false output (w .records) ∙ markDue-results _ (w .records) are ∙ v .due ∙ m;
+        due = doneDue-append false output (w .records) ∙ doneDue-results _ (w .records) are ∙ v .due ∙ m;
         asTheyCame = no-more-stable _ (none-stable (w .records) kinds);
       }
     where

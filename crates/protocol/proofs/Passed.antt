@@ -8,7 +8,7 @@ use Rattle.journal.specs.declared.Call.{Call}
 use Rattle.store.specs.Lists.{Every}
 use Rattle.protocol.specs.Kinds.{Kind, kindOf}
 use Rattle.protocol.specs.Node.{Node}
-use Rattle.protocol.specs.Refusals.{Test, firstFailed, lineOf, wrongId, tooEarly, isHeldBack, testsOf, answerTo}
+use Rattle.protocol.specs.Refusals.{Test, firstFailed, lineOf, wrongId, tooEarly, isHeldBack, callTests, lineTests, testsOf, answerTo}
 
 pub none-failed : (ts : List Test) → Every (λ (t : Test). t .number ≡ 0 → ⊥) ts → firstFailed ts ≡ 0 → Every (λ (t : Test). t .fails ≡ false) ts
 unfolding firstFailed
@@ -27,7 +27,7 @@ pub record Passed (n : Node) (k : Call) (kind : Kind) : Type 0 where
   pub free : isHeldBack (lineOf n k) kind ≡ false
 
 pub passed : (s : Settings) (n : Node) (k : Call) → answerTo s n k ≡ 0 → Passed n k (kindOf (k .kind))
-unfolding answerTo testsOf
+unfolding answerTo testsOf callTests lineTests
 passed s n k e =
     let h : Every (λ (t : Test). t .fails ≡ false) (testsOf s n k (kindOf (k .kind))) =
     none-failed (testsOf s n k (kindOf (k .kind))) (omega arith) e in

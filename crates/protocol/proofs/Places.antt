@@ -1,4 +1,4 @@
--- Three lists place by place: the node's lines, the day book's pages and the accepted stable readings. A relation that holds at every
+-- Three lists place by place: the node's lines, the monitor's lines and the accepted stable readings. A relation that holds at every
 -- place is kept by a change at one place that keeps it there. Assumes nothing.
 use Prim.Native.Nat.{ℕ, zero, suc}
 use mathlib.Core.Path.{_≡_, refl, ap}

@@ -1,4 +1,4 @@
--- The node and the day book choose the same rule: bucket c is stable where c is below the least boundary divided by the bucket length, and
+-- The node and the monitor choose the same rule: bucket c is stable where c is below the least boundary divided by the bucket length, and
 -- an overdue reading of bucket p or later is kept, since p is at or above c. Assumes nothing.
 use Prim.Native.Nat.{ℕ, suc, _+_, _*_, _/_, _≤_, _<_}
 use mathlib.Core.Path.{_≡_, refl, sym, _∙_, ap, ap₂, subst}
@@ -22,22 +22,22 @@ use Rattle.protocol.specs.Node.{Line, Node, isStable}
 use Rattle.protocol.specs.declared.Rule.{Rule}
 use Rattle.protocol.specs.declared.Rule.the-variants as Rule
 use Rattle.protocol.specs.Rules.{firstRule, isCorrecting, isOverdue, someOverdue, ruleOf}
-use Rattle.protocol.specs.DayBook.{Page, DayBook, leastBoundary, stableBuckets, entryDue, anyDue, bookStep}
+use Rattle.protocol.specs.Monitor.{LineMonitor, Monitor, leastBoundary, stableBuckets, entryDue, anyDue, observeStep}
 use Rattle.protocol.proofs.Tests.{both-ways, leb-min}
 use Rattle.protocol.proofs.Lists.{some-kept}
 use Rattle.protocol.proofs.Places.{Each, done, more}
 use Rattle.protocol.proofs.Lines.{isFrom, entryOfReading, Agrees}
 
--- the rule that the day book's tests give, and what it does to the book
-unfoldable pub bookRule : Settings → DayBook → ℕ → Rule
-bookRule s y now = firstRule (ltb (y .d) (stableBuckets s y)) (ltb (y .d) (y .t)) (y .mark) (anyDue s (y .t) now (y .pages))
+-- the rule that the monitor's tests give, and what it does to the monitor
+unfoldable pub monitorRule : Settings → Monitor → ℕ → Rule
+monitorRule s y now = firstRule (ltb (y .d) (stableBuckets s y)) (ltb (y .d) (y .t)) (y .mark) (anyDue s (y .t) now (y .lines))
 
-unfoldable pub bookAct : DayBook → Rule → DayBook
-bookAct y Rule.Withdraw = record { d = y .d; t = y .d; mark = true; pages = y .pages }
-bookAct y Rule.WorkStable = record { d = suc (y .d); t = suc (y .d); mark = y .mark; pages = y .pages }
-bookAct y Rule.EndCorrection = record { d = y .d; t = y .t; mark = false; pages = y .pages }
-bookAct y Rule.WorkTentative = record { d = y .d; t = suc (y .t); mark = y .mark; pages = y .pages }
-bookAct y Rule.Idle = y
+unfoldable pub monitorAct : Monitor → Rule → Monitor
+monitorAct y Rule.Withdraw = record { d = y .d; t = y .d; mark = true; lines = y .lines }
+monitorAct y Rule.WorkStable = record { d = suc (y .d); t = suc (y .d); mark = y .mark; lines = y .lines }
+monitorAct y Rule.EndCorrection = record { d = y .d; t = y .t; mark = false; lines = y .lines }
+monitorAct y Rule.WorkTentative = record { d = y .d; t = suc (y .t); mark = y .mark; lines = y .lines }
+monitorAct y Rule.Idle = y
 
 -- the five cases of a step, with what the tests were
 pub rule-cases : (a b m d : Bool) (G : Rule → Type 0) → (a ≡ true → b ≡ true → G Rule.Withdraw) → (a ≡ true → b ≡ false → G Rule.WorkStable) → (a ≡ false → m ≡ true → G Rule.EndCorrection) → (a ≡ false → m ≡ false → d ≡ true → G Rule.WorkTentative) → (a ≡ false → m ≡ false → G Rule.Idle) → G (firstRule a b m d)
@@ -48,8 +48,8 @@ rule-cases false b true d G u f k t i = k refl refl
 rule-cases false b false true G u f k t i = t refl refl refl
 rule-cases false b false false G u f k t i = i refl refl
 
--- the book's own chain of tests is the node's chain of rules
-by-tests : (y : DayBook) (a b m d : Bool) → cond a (cond b (bookAct y Rule.Withdraw) (bookAct y Rule.WorkStable)) (cond m (bookAct y Rule.EndCorrection) (cond d (bookAct y Rule.WorkTentative) (bookAct y Rule.Idle))) ≡ bookAct y (firstRule a b m d)
+-- the monitor's own chain of tests is the node's chain of rules
+by-tests : (y : Monitor) (a b m d : Bool) → cond a (cond b (monitorAct y Rule.Withdraw) (monitorAct y Rule.WorkStable)) (cond m (monitorAct y Rule.EndCorrection) (cond d (monitorAct y Rule.WorkTentative) (monitorAct y Rule.Idle))) ≡ monitorAct y (firstRule a b m d)
 unfolding firstRule
 by-tests y true true m d = refl
 by-tests y true false m d = refl
@@ -57,13 +57,13 @@ by-tests y false b true d = refl
 by-tests y false b false true = refl
 by-tests y false b false false = refl
 
-pub book-step : (s : Settings) (y : DayBook) (now : ℕ) → bookStep s y now ≡ bookAct y (bookRule s y now)
-unfolding bookStep bookAct bookRule
-book-step s y now = by-tests y (ltb (y .d) (stableBuckets s y)) (ltb (y .d) (y .t)) (y .mark) (anyDue s (y .t) now (y .pages))
+pub monitor-step : (s : Settings) (y : Monitor) (now : ℕ) → observeStep s y now ≡ monitorAct y (monitorRule s y now)
+unfolding observeStep monitorAct monitorRule
+monitor-step s y now = by-tests y (ltb (y .d) (stableBuckets s y)) (ltb (y .d) (y .t)) (y .mark) (anyDue s (y .t) now (y .lines))
 
 module _ (s : Settings) (c : ℕ) where
-  -- a number at or below every line's boundary is at or below the least of the pages'
-  pub all-least : {ls : List Line} {gs : List Page} {zs : List (List Reading)} (x : ℕ) → 0 < length ls → Each (Agrees s c) ls gs zs → allOf (λ (l : Line). leb x (l .boundary .0)) ls ≡ leb x (leastBoundary gs)
+  -- a number at or below every line's boundary is at or below the least of the lines'
+  pub all-least : {ls : List Line} {gs : List LineMonitor} {zs : List (List Reading)} (x : ℕ) → 0 < length ls → Each (Agrees s c) ls gs zs → allOf (λ (l : Line). leb x (l .boundary .0)) ls ≡ leb x (leastBoundary gs)
   unfolding allOf leastBoundary
   all-least x h done = absurd (not-suc-le-zero h)
   all-least x h (more {a = l} {b = g} r done) =
@@ -73,7 +73,7 @@ module _ (s : Settings) (c : ℕ) where
       ap₂ _&&_ (ap (leb x) (r .boundary)) (all-least x (omega arith) (more q rs)) ∙
       sym (leb-min x (g .boundary) (leastBoundary (g₁ ∷ gs)))
 
-  pub stable-least : {ls : List Line} {gs : List Page} {zs : List (List Reading)} → 0 < s .bucket → 0 < length ls → Each (Agrees s c) ls gs zs → isStable s c ls ≡ ltb c (leastBoundary gs / s .bucket)
+  pub stable-least : {ls : List Line} {gs : List LineMonitor} {zs : List (List Reading)} → 0 < s .bucket → 0 < length ls → Each (Agrees s c) ls gs zs → isStable s c ls ≡ ltb c (leastBoundary gs / s .bucket)
   unfolding isStable finishes bucketEnd
   stable-least {gs} room h v =
       all-least (c * s .bucket + s .bucket) h v ∙
@@ -99,7 +99,7 @@ module _ (s : Settings) (c : ℕ) where
   entries-due p now rs = some-map entryOfReading (entryDue s p (now .0)) rs
 
   -- an overdue reading of bucket p or later is kept
-  pub overdue-kept : {ls : List Line} {gs : List Page} {zs : List (List Reading)} (p : ℕ) (now : ArrivalTick) → c ≤ p → Each (Agrees s c) ls gs zs → someOverdue s p now ls ≡ anyDue s p (now .0) gs
+  pub overdue-kept : {ls : List Line} {gs : List LineMonitor} {zs : List (List Reading)} (p : ℕ) (now : ArrivalTick) → c ≤ p → Each (Agrees s c) ls gs zs → someOverdue s p now ls ≡ anyDue s p (now .0) gs
   unfolding someOf someOverdue anyDue
   overdue-kept p now h done = refl
   overdue-kept p now h (more {b = g} r rs) =
@@ -110,7 +110,7 @@ module _ (s : Settings) (c : ℕ) where
       ap (someOf (entryDue s p (now .0))) (sym (r .entries)))
       (overdue-kept p now h rs)
 
-pub same-rule : (s : Settings) → 0 < s .bucket → (n : Node) (y : DayBook) (zs : List (List Reading)) (now : ArrivalTick) → 0 < length (n .lines) → n .c ≡ y .d → n .p ≡ y .t → isCorrecting (n .phase) ≡ y .mark → n .c ≤ n .p → Each (Agrees s (n .c)) (n .lines) (y .pages) zs → ruleOf s n now ≡ bookRule s y (now .0)
-unfolding ruleOf bookRule stableBuckets
+pub same-rule : (s : Settings) → 0 < s .bucket → (n : Node) (y : Monitor) (zs : List (List Reading)) (now : ArrivalTick) → 0 < length (n .lines) → n .c ≡ y .d → n .p ≡ y .t → isCorrecting (n .phase) ≡ y .mark → n .c ≤ n .p → Each (Agrees s (n .c)) (n .lines) (y .lines) zs → ruleOf s n now ≡ monitorRule s y (now .0)
+unfolding ruleOf monitorRule stableBuckets
 same-rule s room n y zs now h same-c same-p same-mark order v =
     rw (stable-least s (n .c) room h v, overdue-kept s (n .c) (n .p) now order v, same-mark, same-c, same-p)

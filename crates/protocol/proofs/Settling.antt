@@ -1,5 +1,5 @@
--- How many steps are left until no stable bucket is left to work and no closing mark is due: the undo, the buckets, the mark. Every accepted
--- step of the day book takes one off while there is one, and there are at most the buckets and two. Assumes nothing.
+-- How many steps are left until no stable bucket is left to work and no R is due: the undo, the buckets, the R. Every accepted
+-- step takes one off while there is one, and there are at most the buckets and two. Assumes nothing.
 use Prim.Native.Nat.{ℕ, suc, _+_, _-_, _≤_, _<_}
 use mathlib.Core.Path.{_≡_, refl, _∙_}
 use mathlib.Core.Bool.{Bool, true, false, cond}
@@ -9,22 +9,22 @@ use lib.Dec.{ltb}
 use borrow.Author.Tests.{ltb-false, ltb-true, le-ltb}
 use Rattle.settings.specs.declared.Settings.{Settings}
 use Rattle.journal.specs.declared.Call.{Call}
-use Rattle.protocol.specs.Kinds.{Kind, kindOf}
+use Rattle.protocol.specs.Kinds.{Kind, kindOf, uses, isStep}
 use Rattle.protocol.specs.declared.Rule.{Rule}
 use Rattle.protocol.specs.declared.Rule.the-variants as Rule
 use Rattle.protocol.specs.Refusals.{answerTo}
-use Rattle.protocol.specs.DayBook.{DayBook, stableBuckets, leftToWork, bookKind, bookCall}
-use Rattle.protocol.specs.Undos.{markDue}
+use Rattle.protocol.specs.Monitor.{Monitor, stableBuckets, leftToWork, observeKind, observe}
+use Rattle.protocol.specs.Undos.{doneDue}
 use Rattle.protocol.specs.Runs.{Event, Trace, isAccepted, next}
 use Rattle.protocol.specs.Demand.{Steps, rest, step}
-use Rattle.protocol.proofs.Rules.{bookRule, bookAct, book-step, rule-cases}
+use Rattle.protocol.proofs.Rules.{monitorRule, monitorAct, monitor-step, rule-cases}
 use Rattle.protocol.proofs.Invariant.{Invariant, next-kept}
 
 unfoldable pub stepsNeeded : ℕ → ℕ → ℕ → Bool → ℕ
 stepsNeeded m d t mark =
     cond (ltb d m) (cond (ltb d t) (suc (suc (m - d))) (suc (m - d))) (cond mark 1 0)
 
-unfoldable pub stepsLeft : Settings → DayBook → ℕ
+unfoldable pub stepsLeft : Settings → Monitor → ℕ
 stepsLeft s y = stepsNeeded (stableBuckets s y) (y .d) (y .t) (y .mark)
 
 at-most : (a b mark : Bool) (k : ℕ) → cond a (cond b (suc (suc k)) (suc k)) (cond mark 1 0) ≤ k + 2
@@ -33,7 +33,7 @@ at-most true false mark k = omega arith
 at-most false b true k = omega arith
 at-most false b false k = omega arith
 
-pub left-and-two : (s : Settings) (y : DayBook) → stepsLeft s y ≤ leftToWork s y + 2
+pub left-and-two : (s : Settings) (y : Monitor) → stepsLeft s y ≤ leftToWork s y + 2
 unfolding stepsLeft stepsNeeded leftToWork
 left-and-two s y = at-most (ltb (y .d) (stableBuckets s y)) (ltb (y .d) (y .t)) (y .mark) (stableBuckets s y - y .d)
 
@@ -77,31 +77,31 @@ module _ (m d t : ℕ) (mark : Bool) where
       off true h = absurd (omega arith)
       off false h = refl
 
-step-down : (s : Settings) (y : DayBook) (now : ℕ) → stepsLeft s (bookAct y (bookRule s y now)) ≤ stepsLeft s y - 1
-unfolding bookRule stepsLeft bookAct stableBuckets
+step-down : (s : Settings) (y : Monitor) (now : ℕ) → stepsLeft s (monitorAct y (monitorRule s y now)) ≤ stepsLeft s y - 1
+unfolding monitorRule stepsLeft monitorAct stableBuckets
 step-down s y now =
-    rule-cases _ _ _ _ (λ (q : Rule). stepsLeft s (bookAct y q) ≤ stepsLeft s y - 1) (λ a b. withdraw-down _ _ _ _ a b)
+    rule-cases _ _ _ _ (λ (q : Rule). stepsLeft s (monitorAct y q) ≤ stepsLeft s y - 1) (λ a b. withdraw-down _ _ _ _ a b)
     (λ a b. stable-down _ _ _ _ a b) (λ a m. mark-down _ _ _ _ a m) (λ a m d. none-down _ _ _ _ _ a m)
     (λ a m. none-down _ _ _ _ _ a m)
 
--- an accepted step is a step of the day book
-next-book : (s : Settings) (t : Trace) (k : Call) → kindOf (k .kind) ≡ Kind.P → answerTo s (t .node) k ≡ 0 → next s t (Event.journal k) .book ≡ bookAct (t .book) (bookRule s (t .book) (k .now .0))
-unfolding next bookCall isAccepted bookKind
-next-book s t k e a = rw (a, e) (book-step s (t .book) (k .now .0))
+-- an accepted step is a step of the monitor
+next-monitor : (s : Settings) (t : Trace) (k : Call) → kindOf (k .kind) ≡ Kind.P → answerTo s (t .node) k ≡ 0 → next s t (Event.journal k) .monitor ≡ monitorAct (t .monitor) (monitorRule s (t .monitor) (k .now .0))
+unfolding next observe isAccepted observeKind isStep uses
+next-monitor s t k e a = rw (a, e) (monitor-step s (t .monitor) (k .now .0))
 
-steps-down : (s : Settings) → 0 < s .bucket → {n : ℕ} {t u : Trace} → Steps s t n u → Invariant s t → Invariant s u × (stepsLeft s (u .book) ≤ stepsLeft s (t .book) - n)
+steps-down : (s : Settings) → 0 < s .bucket → {n : ℕ} {t u : Trace} → Steps s t n u → Invariant s t → Invariant s u × (stepsLeft s (u .monitor) ≤ stepsLeft s (t .monitor) - n)
 steps-down s room rest v = (v, omega arith)
 steps-down s room {u} (step {t = t} {n = n} k e a q) v =
-    let r : Invariant s u × (stepsLeft s (u .book) ≤ stepsLeft s (next s t (Event.journal k) .book) - n) =
+    let r : Invariant s u × (stepsLeft s (u .monitor) ≤ stepsLeft s (next s t (Event.journal k) .monitor) - n) =
     steps-down s room q (next-kept s room t v (Event.journal k)) in
-    let h : stepsLeft s (next s t (Event.journal k) .book) ≤ stepsLeft s (t .book) - 1 =
-    rw (next-book s t k e a) (step-down s (t .book) (k .now .0)) in
+    let h : stepsLeft s (next s t (Event.journal k) .monitor) ≤ stepsLeft s (t .monitor) - 1 =
+    rw (next-monitor s t k e a) (step-down s (t .monitor) (k .now .0)) in
     (r .0, omega arith)
 
-pub settled : (s : Settings) → 0 < s .bucket → {n : ℕ} (t u : Trace) → Invariant s t → Steps s t n u → stepsLeft s (t .book) ≤ n → (leftToWork s (u .book) ≡ 0) × (markDue false (u .output) ≡ false)
+pub settled : (s : Settings) → 0 < s .bucket → {n : ℕ} (t u : Trace) → Invariant s t → Steps s t n u → stepsLeft s (t .monitor) ≤ n → (leftToWork s (u .monitor) ≡ 0) × (doneDue false (u .output) ≡ false)
 unfolding leftToWork stepsLeft
 settled s room {n} t u v q enough =
-    let r : Invariant s u × (stepsLeft s (u .book) ≤ stepsLeft s (t .book) - n) = steps-down s room q v in
-    let none : (stableBuckets s (u .book) - u .book .d ≡ 0) × (u .book .mark ≡ false) =
-    none-needed (stableBuckets s (u .book)) (u .book .d) (u .book .t) (u .book .mark) (omega (arith, enough, r .1)) in
+    let r : Invariant s u × (stepsLeft s (u .monitor) ≤ stepsLeft s (t .monitor) - n) = steps-down s room q v in
+    let none : (stableBuckets s (u .monitor) - u .monitor .d ≡ 0) × (u .monitor .mark ≡ false) =
+    none-needed (stableBuckets s (u .monitor)) (u .monitor .d) (u .monitor .t) (u .monitor .mark) (omega (arith, enough, r .1)) in
     (none .0, r .0 .output .due ∙ r .0 .same-mark ∙ none .1)

@@ -17,7 +17,7 @@ use Rattle.store.specs.Lists.{allOf}
 use Rattle.store.proofs.Pairs.{every-to}
 use Rattle.operator.specs.Work.{Worked}
 use Rattle.protocol.specs.Node.{Line}
-use Rattle.protocol.specs.DayBook.{Page, leastBoundary, stableBuckets, leftToWork}
+use Rattle.protocol.specs.Monitor.{LineMonitor, leastBoundary, stableBuckets, leftToWork}
 use Rattle.protocol.specs.FailureFree.{failureFree}
 use Rattle.protocol.specs.Undos.{applied, struck}
 use Rattle.protocol.specs.Runs.{Trace, start, after}
@@ -33,15 +33,15 @@ use Rattle.protocol.proofs.Settling.{left-and-two, settled}
 
 -- the buckets worked are below the least boundary
 
-all-past : (s : Settings) (c : ℕ) {ls : List Line} {gs : List Page} {zs : List (List Reading)} → Each (Agrees s c) ls gs zs → allOf (λ (l : Line). leb (c * s .bucket) (l .boundary .0)) ls ≡ true
+all-past : (s : Settings) (c : ℕ) {ls : List Line} {gs : List LineMonitor} {zs : List (List Reading)} → Each (Agrees s c) ls gs zs → allOf (λ (l : Line). leb (c * s .bucket) (l .boundary .0)) ls ≡ true
 unfolding allOf
 all-past s c done = refl
 all-past s c (more {a = l} r rs) = rw (le-leb (c * s .bucket) (l .boundary .0) (r .past), all-past s c rs)
 
-worked-stable : (s : Settings) → 0 < s .bucket → (t : Trace) → Invariant s t → t .book .d ≤ stableBuckets s (t .book)
+worked-stable : (s : Settings) → 0 < s .bucket → (t : Trace) → Invariant s t → t .monitor .d ≤ stableBuckets s (t .monitor)
 unfolding stableBuckets
 worked-stable s room t v =
-    subst (λ n. n ≤ leastBoundary (t .book .pages) / s .bucket) (v .same-c)
+    subst (λ n. n ≤ leastBoundary (t .monitor .lines) / s .bucket) (v .same-c)
     (le-div-iff-mul-le room .1
     (leb-true _ _
     (sym (all-least s (t .node .c) (t .node .c * s .bucket) (v .some) (v .lines)) ∙ all-past s (t .node .c) (v .lines))))
@@ -69,9 +69,9 @@ clean-after s room t v =
           subst (λ n. applied [] (t .output) ≡ failureFree s (t .stables) n .records ++ v .output .tentative) (v .same-c)
           (v .output .undone);
       allStable =
-          every-to (failureFree s (t .stables) (t .book .d) .records)
-          (λ r (b : Numbered letterS 0 (failureFree s (t .stables) (t .book .d) .operator .number) r). stable-letter r (b .kind))
-          (failureFree-numbered s (t .stables) (t .book .d));
+          every-to (failureFree s (t .stables) (t .monitor .d) .records)
+          (λ r (b : Numbered letterS 0 (failureFree s (t .stables) (t .monitor .d) .operator .number) r). stable-letter r (b .kind))
+          (failureFree-numbered s (t .stables) (t .monitor .d));
       allTentative =
           every-to (v .output .tentative)
           (λ r (b : Numbered letterT (t .node .checkpoint .number) (t .node .operator .number) r). tentative-letter r (b .kind))
@@ -88,28 +88,28 @@ least [] = 0
 least (n ∷ []) = n
 least (n ∷ m ∷ ns) = min n (least (m ∷ ns))
 
-least-boundaries : (gs : List Page) → leastBoundary gs ≡ least (map (λ (g : Page). g .boundary) gs)
+least-boundaries : (gs : List LineMonitor) → leastBoundary gs ≡ least (map (λ (g : LineMonitor). g .boundary) gs)
 unfolding leastBoundary least
 least-boundaries [] = refl
 least-boundaries (g ∷ []) = refl
 least-boundaries (g ∷ h ∷ gs) = ap (min (g .boundary)) (least-boundaries (h ∷ gs))
 
-all-worked : (s : Settings) → 0 < s .bucket → (t : Trace) → Invariant s t → leftToWork s (t .book) ≡ 0 → t .book .d ≡ least (boundaries t) / s .bucket
+all-worked : (s : Settings) → 0 < s .bucket → (t : Trace) → Invariant s t → leftToWork s (t .monitor) ≡ 0 → t .monitor .d ≡ least (boundaries t) / s .bucket
 unfolding leftToWork boundaries stableBuckets
 all-worked s room t v e =
-    let none : t .book .d ≡ leastBoundary (t .book .pages) / s .bucket = omega (arith, worked-stable s room t v) in
-    none ∙ ap (λ n. n / s .bucket) (least-boundaries (t .book .pages))
+    let none : t .monitor .d ≡ leastBoundary (t .monitor .lines) / s .bucket = omega (arith, worked-stable s room t v) in
+    none ∙ ap (λ n. n / s .bucket) (least-boundaries (t .monitor .lines))
 
-of-sent : (s : Settings) (t : Trace) → stableResults s t ≡ failureFree s (sent t) (t .book .d) .records
+of-sent : (s : Settings) (t : Trace) → stableResults s t ≡ failureFree s (sent t) (t .monitor .d) .records
 unfolding stableResults sent
-of-sent s t = ap (λ (w : Worked). w .records) (sym (failureFree-without s (t .stables) (t .book .d)))
+of-sent s t = ap (λ (w : Worked). w .records) (sym (failureFree-without s (t .stables) (t .monitor .d)))
 
-same-results : (s : Settings) → 0 < s .bucket → (t u : Trace) → Invariant s t → Invariant s u → sent t ≡ sent u → boundaries t ≡ boundaries u → leftToWork s (t .book) ≡ 0 → leftToWork s (u .book) ≡ 0 → stableResults s t ≡ stableResults s u
+same-results : (s : Settings) → 0 < s .bucket → (t u : Trace) → Invariant s t → Invariant s u → sent t ≡ sent u → boundaries t ≡ boundaries u → leftToWork s (t .monitor) ≡ 0 → leftToWork s (u .monitor) ≡ 0 → stableResults s t ≡ stableResults s u
 same-results s room t u v w same-sent same-boundaries et eu =
-    let same : t .book .d ≡ u .book .d =
+    let same : t .monitor .d ≡ u .monitor .d =
     all-worked s room t v et ∙ ap (λ ns. least ns / s .bucket) same-boundaries ∙ sym (all-worked s room u w eu) in
     of-sent s t ∙ ap (λ n. failureFree s (sent t) n .records) same ∙
-    ap (λ ls. failureFree s ls (u .book .d) .records) same-sent ∙ sym (of-sent s u)
+    ap (λ ls. failureFree s ls (u .monitor .d) .records) same-sent ∙ sym (of-sent s u)
 
 pub demand3 : Demand3
 demand3 =
@@ -123,5 +123,5 @@ demand3 =
       settles =
           λ s room h es t q.
           settled s room (after s (start s) es) t (invariant s room h es) q
-          (omega (arith, left-and-two s (after s (start s) es .book)));
+          (omega (arith, left-and-two s (after s (start s) es .monitor)));
     }

@@ -14,7 +14,7 @@ use Rattle.store.specs.Lists.{Every}
 use Rattle.store.proofs.Pairs.{every-to}
 use Rattle.store.proofs.Keeping.{keep-append, keep-all, keep-none}
 use Rattle.operator.specs.Results.{plain}
-use Rattle.protocol.specs.Undos.{applyOne, applied, struckByOne, struck, markDue}
+use Rattle.protocol.specs.Undos.{applyOne, applied, struckByOne, struck, doneDue}
 
 pub applied-append : (results xs ys : List Record) → applied results (xs ++ ys) ≡ applied (applied results xs) ys
 unfolding applied
@@ -28,27 +28,27 @@ struck-append results (x ∷ xs) ys =
     rw (struck-append (applyOne results x) xs ys)
     (sym (append-assoc (struckByOne results x) (struck (applyOne results x) xs) (struck (applied (applyOne results x) xs) ys)))
 
-pub markDue-append : (due : Bool) (xs ys : List Record) → markDue due (xs ++ ys) ≡ markDue (markDue due xs) ys
-unfolding markDue
-markDue-append due [] ys = refl
-markDue-append due (x ∷ xs) ys =
-    markDue-append (cond (eqb (x .kind) letterU) true (cond (eqb (x .kind) letterR) false due)) xs ys
+pub doneDue-append : (due : Bool) (xs ys : List Record) → doneDue due (xs ++ ys) ≡ doneDue (doneDue due xs) ys
+unfolding doneDue
+doneDue-append due [] ys = refl
+doneDue-append due (x ∷ xs) ys =
+    doneDue-append (cond (eqb (x .kind) letterU) true (cond (eqb (x .kind) letterR) false due)) xs ys
 
 -- a result, by the tests that go by its kind
 pub record IsResult (r : Record) : Type 0 where
   pub result : isResult (r .kind) ≡ true
   pub noUndo : eqb (r .kind) letterU ≡ false
-  pub noMark : eqb (r .kind) letterR ≡ false
+  pub noDone : eqb (r .kind) letterR ≡ false
 
 pub stable-result : (r : Record) → r .kind ≡ letterS → IsResult r
 unfolding isResult isStable
 stable-result r e =
-    record { result = ap isResult e; noUndo = ap (λ n. eqb n letterU) e; noMark = ap (λ n. eqb n letterR) e }
+    record { result = ap isResult e; noUndo = ap (λ n. eqb n letterU) e; noDone = ap (λ n. eqb n letterR) e }
 
 pub tentative-result : (r : Record) → r .kind ≡ letterT → IsResult r
 unfolding isResult isStable isTentative
 tentative-result r e =
-    record { result = ap isResult e; noUndo = ap (λ n. eqb n letterU) e; noMark = ap (λ n. eqb n letterR) e }
+    record { result = ap isResult e; noUndo = ap (λ n. eqb n letterU) e; noDone = ap (λ n. eqb n letterR) e }
 
 pub applied-results : (results rs : List Record) → Every IsResult rs → applied results rs ≡ results ++ rs
 unfolding applied applyOne
@@ -61,10 +61,10 @@ unfolding struck struckByOne
 struck-results results [] h = refl
 struck-results results (r ∷ rs) h = rw (h .0 .noUndo) (struck-results (applyOne results r) rs (h .1))
 
-pub markDue-results : (due : Bool) (rs : List Record) → Every IsResult rs → markDue due rs ≡ due
-unfolding markDue
-markDue-results due [] h = refl
-markDue-results due (r ∷ rs) h = rw (h .0 .noUndo, h .0 .noMark) (markDue-results due rs (h .1))
+pub doneDue-results : (due : Bool) (rs : List Record) → Every IsResult rs → doneDue due rs ≡ due
+unfolding doneDue
+doneDue-results due [] h = refl
+doneDue-results due (r ∷ rs) h = rw (h .0 .noUndo, h .0 .noDone) (doneDue-results due rs (h .1))
 
 -- an undo at n of results up to n and then results above it
 module _ (n : ℕ) (time : ReadingTime) (xs ys : List Record) (low : Every (λ (r : Record). r .id ≤ n) xs) (high : Every (λ (r : Record). n < r .id) ys) where

@@ -1,13 +1,13 @@
 -- What a call does to the node (document 01, sections 'Clocks, lines and readings' and 'One step'). Assumes nothing.
-use Prim.Native.Nat.{ℕ, _-_}
+use Prim.Native.Nat.{_-_}
 use mathlib.Core.Bool.{cond}
-use mathlib.Core.List.{List, []}
+use mathlib.Core.List.{[]}
 use lib.Dec.{eqb}
 use Rattle.clock.specs.declared.ArrivalTick.{ArrivalTick}
 use Rattle.settings.specs.declared.Settings.{Settings}
 use Rattle.journal.specs.declared.Call.{Call}
 use Rattle.store.specs.Lists.{modify}
-use Rattle.protocol.specs.Kinds.{Kind, kindOf}
+use Rattle.protocol.specs.Kinds.{Kind, kindOf, isStep}
 use Rattle.protocol.specs.Node.{Node, onLine}
 use Rattle.protocol.specs.Rules.{Outcome, ruleOf, act}
 use Rattle.protocol.specs.Refusals.{answerTo}
@@ -31,12 +31,7 @@ input n k kind =
 
 -- what a call of this kind does
 unfoldable pub done : Settings → Node → Call → Kind → Outcome
-done s n k Kind.S = input n k Kind.S
-done s n k Kind.T = input n k Kind.T
-done s n k Kind.B = input n k Kind.B
-done s n k Kind.U = input n k Kind.U
-done s n k Kind.R = input n k Kind.R
-done s n k Kind.P = act s n (ruleOf s n (k .now))
+done s n k kind = cond (isStep kind) (act s n (ruleOf s n (k .now))) (input n k kind)
 
 -- accepting a call sets the clock
 unfoldable pub accepted : ArrivalTick → Outcome → Outcome

@@ -2,8 +2,7 @@
 use Prim.Native.Nat.{ℕ, zero, suc, _+_, _≤_, _<_}
 use mathlib.Core.Path.{_≡_}
 use mathlib.Core.Bool.{true, false}
-use mathlib.Core.List.{List, [], _∷_, _++_, map}
-use Rattle.clock.specs.declared.ArrivalTick.{ArrivalTick}
+use mathlib.Core.List.{List, [], _++_, map}
 use Rattle.settings.specs.declared.Settings.{Settings}
 use Rattle.journal.specs.declared.Call.{Call}
 use Rattle.record.specs.declared.Record.{Record}
@@ -12,14 +11,14 @@ use Rattle.store.specs.declared.Reading.{Reading}
 use Rattle.store.specs.Lists.{Every, keep}
 use Rattle.protocol.specs.Kinds.{Kind, kindOf}
 use Rattle.protocol.specs.Refusals.{answerTo}
-use Rattle.protocol.specs.DayBook.{Page, stableBuckets, leftToWork}
-use Rattle.protocol.specs.FailureFree.{failureFree}
-use Rattle.protocol.specs.Undos.{applied, struck, markDue}
+use Rattle.protocol.specs.Monitor.{LineMonitor, stableBuckets, leftToWork}
+use Rattle.protocol.specs.FailureFree.{withoutArrival, failureFree}
+use Rattle.protocol.specs.Undos.{applied, struck, doneDue}
 use Rattle.protocol.specs.Runs.{Event, Trace, start, next, after}
 
--- the results of the failure-free run through exactly the buckets that the day book has worked as stable
+-- the results of the failure-free run through exactly the buckets that the monitor has as worked
 unfoldable pub stableResults : Settings → Trace → List Record
-stableResults s t = failureFree s (t .stables) (t .book .d) .records
+stableResults s t = failureFree s (t .stables) (t .monitor .d) .records
 
 -- the records of stable results in an output, as they came
 unfoldable pub stableRecords : List Record → List Record
@@ -34,15 +33,10 @@ pub record Clean (s : Settings) (t : Trace) : Type 0 where
   pub allTentative : Every (λ (r : Record). isTentative (r .kind) ≡ true) tentative
   pub neverStruck : Every (λ (r : Record). isTentative (r .kind) ≡ true) (struck [] (t .output))
   pub asTheyCame : stableRecords (t .output) ≡ stableResults s t
-  pub worked : t .book .d ≤ stableBuckets s (t .book)
+  pub worked : t .monitor .d ≤ stableBuckets s (t .monitor)
 
 unfoldable pub boundaries : Trace → List ℕ
-boundaries t = map (λ (g : Page). g .boundary) (t .book .pages)
-
--- a reading but for its arrival
-unfoldable pub withoutArrival : Reading → Reading
-withoutArrival r =
-    record { id = r .id; time = r .time; value = r .value; arrival = record { 0 = 0 }; kind = r .kind; meter = r .meter }
+boundaries t = map (λ (g : LineMonitor). g .boundary) (t .monitor .lines)
 
 unfoldable pub sent : Trace → List (List Reading)
 sent t = map (map withoutArrival) (t .stables)
@@ -60,11 +54,11 @@ pub record Demand3 : Type 0 where
       (s : Settings) → 0 < s .bucket → 0 < s .lines → (es fs : List Event) →
       sent (after s (start s) es) ≡ sent (after s (start s) fs) →
       boundaries (after s (start s) es) ≡ boundaries (after s (start s) fs) →
-      leftToWork s (after s (start s) es .book) ≡ 0 →
-      leftToWork s (after s (start s) fs .book) ≡ 0 →
+      leftToWork s (after s (start s) es .monitor) ≡ 0 →
+      leftToWork s (after s (start s) fs .monitor) ≡ 0 →
       stableRecords (after s (start s) es .output) ≡ stableRecords (after s (start s) fs .output)
-  -- with k left to work, k + 2 steps leave none and no closing mark due
+  -- with k left to work, k + 2 steps leave none and no R due
   pub settles :
       (s : Settings) → 0 < s .bucket → 0 < s .lines → (es : List Event) (t : Trace) →
-      Steps s (after s (start s) es) (leftToWork s (after s (start s) es .book) + 2) t →
-      (leftToWork s (t .book) ≡ 0) × (markDue false (t .output) ≡ false)
+      Steps s (after s (start s) es) (leftToWork s (after s (start s) es .monitor) + 2) t →
+      (leftToWork s (t .monitor) ≡ 0) × (doneDue false (t .output) ≡ false)

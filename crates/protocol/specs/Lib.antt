@@ -1,11 +1,11 @@
--- The node's meaning, apart from bytes and places: lines, rules, refusals 7 to 14; what it is measured against: the day book, the
+-- The node's meaning, apart from bytes and places: lines, rules, refusals 7 to 14; what it is measured against: the monitor, the
 -- failure-free run, undos applied; and demand 3 on it.
 pub mod Kinds
 pub mod Node
 pub mod Rules
 pub mod Refusals
 pub mod Calls
-pub mod DayBook
+pub mod Monitor
 pub mod FailureFree
 pub mod Undos
 pub mod Runs

@@ -26,7 +26,8 @@ pub record Line : Type 0 where
   pub lastStableId : ℕ
   pub kept : List Reading
 
--- buckets below c are worked as stable; work goes on at bucket p
+-- buckets below c are worked as stable; work goes on at bucket p. The operator's number is the newest result's id, the checkpoint's that of
+-- the last stable result; 0 if there is none
 pub record Node : Type 0 where
   pub clock : ArrivalTick
   pub c : ℕ

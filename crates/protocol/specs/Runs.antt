@@ -1,6 +1,5 @@
 -- Lists of calls on the node's meaning, each on what the one before left (document 01, section 'From the opening on'). Assumes nothing.
-use Prim.Native.Nat.{ℕ}
-use mathlib.Core.Bool.{Bool, cond}
+use mathlib.Core.Bool.{Bool}
 use mathlib.Core.List.{List, [], _∷_, _++_}
 use lib.Dec.{eqb}
 use lib.ListN.{replicate}
@@ -9,10 +8,9 @@ use Rattle.journal.specs.declared.Call.{Call}
 use Rattle.record.specs.declared.Record.{Record}
 use Rattle.store.specs.declared.Reading.{Reading}
 use Rattle.protocol.specs.Node.{Node, opened}
-use Rattle.protocol.specs.Rules.{Outcome}
 use Rattle.protocol.specs.Refusals.{answerTo}
 use Rattle.protocol.specs.Calls.{outcomeOf}
-use Rattle.protocol.specs.DayBook.{DayBook, emptyBook, bookCall}
+use Rattle.protocol.specs.Monitor.{Monitor, freshMonitor, observe}
 use Rattle.protocol.specs.FailureFree.{stableAfter}
 
 -- an input of a list: a call that reaches the node, or one that was refused before (3 to 6), which changes nothing
@@ -23,12 +21,12 @@ pub data Event : Type 0 where
 -- the node, what it is measured against, and the output so far
 pub record Trace : Type 0 where
   pub node : Node
-  pub book : DayBook
+  pub monitor : Monitor
   pub stables : List (List Reading)
   pub output : List Record
 
 unfoldable pub start : Settings → Trace
-start s = record { node = opened s; book = emptyBook s; stables = replicate (s .lines) []; output = [] }
+start s = record { node = opened s; monitor = freshMonitor s; stables = replicate (s .lines) []; output = [] }
 
 unfoldable pub isAccepted : Settings → Node → Call → Bool
 isAccepted s n k = eqb (answerTo s n k) 0
@@ -38,7 +36,7 @@ next s t Event.turnedAway = t
 next s t (Event.journal k) =
     record {
       node = outcomeOf s (t .node) k .node;
-      book = bookCall s (t .book) k (isAccepted s (t .node) k);
+      monitor = observe s (t .monitor) k (isAccepted s (t .node) k);
       stables = stableAfter (t .stables) k (isAccepted s (t .node) k);
       output = t .output ++ outcomeOf s (t .node) k .records;
     }

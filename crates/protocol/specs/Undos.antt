@@ -1,5 +1,4 @@
 -- Undos applied to an output, record by record (document 01, section 'From the opening on'). Assumes nothing.
-use Prim.Native.Nat.{ℕ}
 use mathlib.Core.Bool.{Bool, true, false, cond, not}
 use mathlib.Core.List.{List, [], _∷_, _++_}
 use lib.Dec.{leb, eqb}
@@ -27,7 +26,7 @@ unfoldable pub struck : List Record → List Record → List Record
 struck results [] = []
 struck results (r ∷ rs) = struckByOne results r ++ struck (applyOne results r) rs
 
--- the closing mark is due: an undo has no R behind it
-unfoldable pub markDue : Bool → List Record → Bool
-markDue due [] = due
-markDue due (r ∷ rs) = markDue (cond (eqb (r .kind) letterU) true (cond (eqb (r .kind) letterR) false due)) rs
+-- corrections are to be ended (document 01: the closing mark is due): an undo has no R behind it
+unfoldable pub doneDue : Bool → List Record → Bool
+doneDue due [] = due
+doneDue due (r ∷ rs) = doneDue (cond (eqb (r .kind) letterU) true (cond (eqb (r .kind) letterR) false due)) rs

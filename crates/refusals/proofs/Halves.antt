@@ -10,12 +10,11 @@ use Rattle.clock.specs.declared.ArrivalTick.{ArrivalTick}
 use Rattle.settings.specs.declared.Settings.{Settings}
 use Rattle.journal.specs.declared.Call.{Call}
 use Rattle.store.specs.Lists.{Every}
-use Rattle.protocol.specs.Kinds.{Kind, kindOf}
+use Rattle.protocol.specs.Kinds.{Kind, kindOf, uses, isStep}
 use Rattle.protocol.specs.Node.{Line, Node}
-use Rattle.protocol.specs.Refusals.{Test, firstFailed, lineOf, wrongLine, wrongId, tooEarly, isHeldBack, isFull, testsOf, answerTo}
+use Rattle.protocol.specs.Refusals.{Test, firstFailed, lineOf, wrongLine, wrongId, tooEarly, isHeldBack, isFull, callTests, lineTests, testsOf, answerTo}
 use Rattle.protocol.proofs.Passed.{none-failed}
 use Rattle.protocol.proofs.Faults.{line-iff}
-use Rattle.refusals.specs.Tests.{isStep, callTests, lineTests}
 use Rattle.refusals.proofs.Letters.{wrong-line}
 
 -- ---- tests in a row
@@ -56,7 +55,7 @@ module _ (s : Settings) (clock : ArrivalTick) (k : Call) (kind : Kind) (none : f
 
 -- no test of a step's line can fail
 pub step-passes : (l : Line) (k : Call) (kind : Kind) → isStep kind ≡ true → firstFailed (lineTests l k kind) ≡ 0
-unfolding isStep firstFailed lineTests wrongId tooEarly isHeldBack isFull
+unfolding isStep uses firstFailed lineTests wrongId tooEarly isHeldBack isFull
 step-passes l k Kind.S h = absurd (true≢false (sym h))
 step-passes l k Kind.T h = absurd (true≢false (sym h))
 step-passes l k Kind.B h = absurd (true≢false (sym h))
@@ -66,7 +65,7 @@ step-passes l k Kind.P h = refl
 
 module _ (s : Settings) (n : Node) (k : Call) {clock : ArrivalTick} (e : n .clock ≡ clock) where
   in-halves : answerTo s n k ≡ firstFailed (callTests s clock k (kindOf (k .kind)) ++ lineTests (lineOf n k) k (kindOf (k .kind)))
-  unfolding answerTo testsOf callTests lineTests
+  unfolding answerTo testsOf
   in-halves = ap (λ (now : ArrivalTick). firstFailed (callTests s now k (kindOf (k .kind)) ++ lineTests (lineOf n k) k (kindOf (k .kind)))) e
 
   pub answer-early : (firstFailed (callTests s clock k (kindOf (k .kind))) ≡ 0 → ⊥) → firstFailed (callTests s clock k (kindOf (k .kind))) ≡ answerTo s n k

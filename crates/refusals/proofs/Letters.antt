@@ -16,10 +16,9 @@ use Rattle.journal.specs.declared.Call.{Call}
 use Rattle.journal.specs.Kinds.{letterS, letterT, letterB, letterU, letterR}
 use Rattle.store.specs.Sizes.{readingsPerLine}
 use Rattle.columns.specs.Tests.{isReadingKind}
-use Rattle.protocol.specs.Kinds.{Kind, kindOf}
+use Rattle.protocol.specs.Kinds.{Kind, kindOf, uses, isStep}
 use Rattle.protocol.specs.Node.{Line, keepsTentative}
 use Rattle.protocol.specs.Refusals.{wrongLine, isZero, unusedField, wrongMeter, wrongId, tooEarly, isHeldBack, isFull}
-use Rattle.refusals.specs.Tests.{isStep}
 
 -- what holds of a test for a number where the number is this one, and where the test is false, holds of the test
 tested : (letter n : ℕ) (Q : Bool → Type 0) → (letter ≡ n → Q true) → Q false → Q (eqb letter n)
@@ -47,18 +46,13 @@ by-kind P ofS ofT ofB ofU ofR ofP letter =
 -- ---- the call alone
 
 pub step-by-letter : (letter : ℕ) → not (isReadingKind letter || (eqb letter letterB || (eqb letter letterU || eqb letter letterR))) ≡ isStep (kindOf letter)
-unfolding isReadingKind isStep
+unfolding isReadingKind isStep uses
 step-by-letter = by-kind (λ s t b u r kind. not ((s || t) || (b || (u || r))) ≡ isStep kind) refl refl refl refl refl refl
 
 -- a step against the kinds that name a line
 pub wrong-line : (s : Settings) (line : ℕ) (kind : Kind) → cond (isStep kind) (not (eqb line 0)) (not (leb 1 line && leb line (s .lines))) ≡ wrongLine s kind line
-unfolding isStep wrongLine
-wrong-line s line Kind.S = refl
-wrong-line s line Kind.T = refl
-wrong-line s line Kind.B = refl
-wrong-line s line Kind.U = refl
-wrong-line s line Kind.R = refl
-wrong-line s line Kind.P = refl
+unfolding wrongLine
+wrong-line s line kind = refl
 
 -- a number of 32 bits is 0 where its bits are
 pub zero-bits : (z : ℤ) → SFits w32 z → isZero z ≡ eqb (ofZ w32 z) 0
@@ -69,7 +63,7 @@ zero-bits (negsuc n) fits =
     sym (ne-eqb (2 ^ 32 - suc n) 0 (λ e. omega arith))
 
 pub unused-field : (k : Call) {noValue : Bool} → isZero (k .value) ≡ noValue → (letter : ℕ) → cond (isReadingKind letter) false (cond (eqb letter letterB) (not (eqb (k .id) 0 && (eqb (k .meter) 0 && noValue))) (cond (eqb letter letterU) (not (eqb (k .time .0) 0 && (eqb (k .meter) 0 && noValue))) (not (eqb (k .id) 0 && (eqb (k .time .0) 0 && (eqb (k .meter) 0 && noValue)))))) ≡ unusedField k (kindOf letter)
-unfolding isReadingKind unusedField
+unfolding isReadingKind unusedField uses
 unused-field k {noValue} e =
     let boundary : Bool → Bool = λ v. not (eqb (k .id) 0 && (eqb (k .meter) 0 && v)) in
     let undo : Bool → Bool = λ v. not (eqb (k .time .0) 0 && (eqb (k .meter) 0 && v)) in
@@ -77,7 +71,7 @@ unused-field k {noValue} e =
     by-kind (λ s t b u r kind. cond (s || t) false (cond b (boundary noValue) (cond u (undo noValue) (other noValue))) ≡ unusedField k kind) refl refl (ap boundary (sym e)) (ap undo (sym e)) (ap other (sym e)) (ap other (sym e))
 
 pub wrong-meter : (meter letter : ℕ) → isReadingKind letter && leb 64 meter ≡ wrongMeter meter (kindOf letter)
-unfolding isReadingKind wrongMeter
+unfolding isReadingKind wrongMeter uses
 wrong-meter meter = by-kind (λ s t b u r kind. (s || t) && leb 64 meter ≡ wrongMeter meter kind) refl refl refl refl refl refl
 
 -- ---- its line, of which the code knows these numbers
@@ -91,7 +85,7 @@ module _ (l : Line) where
       by-kind (λ s t b u r kind. cond (s || t) (not (eqb id (last + 1))) (u && not (leb stable id && leb id last)) ≡ wrongId l id kind) next next refl inside refl refl
 
   pub too-early : {boundary : ReadingTime} → l .boundary ≡ boundary → (time letter : ℕ) → (isReadingKind letter || eqb letter letterB) && ltb time (boundary .0) ≡ tooEarly l time (kindOf letter)
-  unfolding isReadingKind tooEarly
+  unfolding isReadingKind tooEarly uses
   too-early {boundary} e time =
       let early : ltb time (boundary .0) ≡ ltb time (l .boundary .0) = ap (λ (from : ReadingTime). ltb time (from .0)) (sym e) in
       by-kind (λ s t b u r kind. ((s || t) || b) && ltb time (boundary .0) ≡ tooEarly l time kind) early early early refl refl refl
@@ -102,7 +96,7 @@ module _ (l : Line) where
       by-kind (λ s t b u r kind. cond (s || (b || r)) tentative false ≡ isHeldBack l kind) (sym e) refl (sym e) refl (sym e) refl
 
   pub full : {kept : ℕ} → length (l .kept) ≡ kept → (letter : ℕ) → isReadingKind letter && leb readingsPerLine kept ≡ isFull l (kindOf letter)
-  unfolding isReadingKind isFull
+  unfolding isReadingKind isFull uses
   full {kept} e =
       let none : leb readingsPerLine kept ≡ leb readingsPerLine (length (l .kept)) = ap (leb readingsPerLine) (sym e) in
       by-kind (λ s t b u r kind. (s || t) && leb readingsPerLine kept ≡ isFull l kind) none none refl refl refl refl

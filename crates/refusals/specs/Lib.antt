@@ -1,2 +1,2 @@
--- The tests of a call as the code makes them: first those on the call, then those on its line.
+-- A line as the tests of a call see it.
 pub mod Tests

@@ -2,8 +2,7 @@
 use mathlib.Core.Path.{sym, _∙_}
 use borrow.Author.Tests.{lt-ltb, le-ltb}
 use borrow.Author.Needs.{needs}
-use Rattle.protocol.specs.Refusals.{firstFailed}
-use Rattle.refusals.specs.Tests.{callTests}
+use Rattle.protocol.specs.Refusals.{firstFailed, callTests}
 use Rattle.refusals.proofs.call_refusal.Statement.{statement}
 use Rattle.refusals.proofs.call_refusal.Tie as tie
 

@@ -1,8 +1,7 @@
 -- `refusals::line_refusal` meets its contract: the tests before the one that fails pass, one by one. Assumes nothing.
 use mathlib.Core.Path.{sym, _∙_}
 use borrow.Author.Needs.{needs}
-use Rattle.protocol.specs.Refusals.{firstFailed}
-use Rattle.refusals.specs.Tests.{lineTests}
+use Rattle.protocol.specs.Refusals.{firstFailed, lineTests}
 use Rattle.refusals.proofs.line_refusal.Statement.{statement}
 use Rattle.refusals.proofs.line_refusal.Tie as tie
 
