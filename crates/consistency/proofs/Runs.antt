@@ -5,7 +5,7 @@ use Prim.Native.Nat.{ℕ}
 use mathlib.Core.Path.{_≡_, refl, sym, _∙_, ap, ap₂, subst}
 use mathlib.Core.Bool.{true, false, cond}
 use mathlib.Core.List.{List, [], _∷_, _++_, map, map-append, append-nil, append-assoc}
-use borrow.Author.Tests.{eqb-true, eqb-false}
+use borrow.Author.Tests.{eqb-true, eqb-false, ne-eqb}
 use lib.Dec.{eqb}
 use Rattle.settings.specs.declared.Settings.{Settings}
 use Rattle.journal.specs.declared.Call.{Call}
@@ -140,6 +140,10 @@ eventOf b (Input.journal text area) =
 pub event-accepted : (b : Box) (text area : List ℕ) (k : Call) → callOf text ≡ CallRead.Accepted k → calledOn (b .state) (b .columns) text area .answer ≡ 0 → eventOf b (Input.journal text area) ≡ Event.journal k
 unfolding eventOf eventWith
 event-accepted b text area k read e = rw (e, read)
+
+pub event-refused : (b : Box) (text area : List ℕ) → (calledOn (b .state) (b .columns) text area .answer ≡ 0 → ⊥) → eventOf b (Input.journal text area) ≡ Event.turnedAway
+unfolding eventOf
+event-refused b text area wasRefused = rw (ne-eqb (calledOn (b .state) (b .columns) text area .answer) 0 wasRefused)
 
 pub call-follows :
     (s : Settings) (t : Trace) (b : Box) (text area : List ℕ) → Stands s (b .state) (b .columns) (t .node) →

@@ -30,7 +30,7 @@ use Rattle.store.proofs.Pairs.{every-right}
 use Rattle.node.proofs.Fits.{opened-fits}
 use Rattle.node.proofs.Records.{Decodes}
 use Rattle.consistency.proofs.Undos.{every-applied, every-struck, appliedPieces-bytesOf, struckPieces-bytesOf, stablePieces-bytesOf, doneDueIn-bytesOf, tentative-bytesOf}
-use Rattle.consistency.proofs.Runs.{Stands, accountIn, eventOf, eventsOf, event-accepted, call-follows, runs}
+use Rattle.consistency.proofs.Runs.{Stands, accountIn, eventOf, eventsOf, event-accepted, event-refused, call-follows, runs}
 use Rattle.consistency.proofs.Refused.{refused}
 use Rattle.consistency.proofs.ShapedRuns.{in-shape}
 
@@ -150,7 +150,7 @@ replicas h g eh eg same is js same-sent same-boundaries none-h none-g =
 steps-follow :
     (s : Settings) {b : Box} {n : ℕ} {js : List Input} (t : Trace) → Stands s (b .state) (b .columns) (t .node) →
     Steps b n js → meaning.Steps s t n (after s t (eventsOf b js))
-unfolding after eventsOf called left
+unfolding after eventsOf called left next
 steps-follow s t stands Steps.rest = meaning.Steps.rest
 steps-follow s {b} t stands (Steps.step {n = n} {is = is} text area k read kind accepted more) =
     let st = b .state in
@@ -166,6 +166,13 @@ steps-follow s {b} t stands (Steps.step {n = n} {is = is} text area k read kind 
     meaning.Steps.step k kind answered
     (subst (λ (z : Event). meaning.Steps s (next s t z) n (after s (next s t (eventOf b i)) (eventsOf (left b i) is)))
     (event-accepted b text area k read accepted) rest)
+steps-follow s {b} {n} t stands (Steps.refused {is = is} (Input.journal text area) wasRefused more) =
+    let i = Input.journal text area in
+    let away = event-refused b text area wasRefused in
+    let same : Stands s (left b i .state) (left b i .columns) (t .node) =
+    rw away at (call-follows s t b text area stands .stands) in
+    subst (λ (z : Event). meaning.Steps s t n (after s (next s t z) (eventsOf (left b i) is))) (sym away)
+    (steps-follow s t same more)
 
 events-append : (b : Box) (is js : List Input) → eventsOf b (is ++ js) ≡ eventsOf b is ++ eventsOf (leftAfter b is) js
 unfolding eventsOf leftAfter

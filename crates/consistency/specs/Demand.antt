@@ -64,7 +64,7 @@ pub record Clean (h : Handed) (is : List Input) : Type 0 where
   pub asTheyCame : stablePieces (outputOf h is) ≡ failureFreeBytes h is
   pub worked : accountOf h is .monitor .d ≤ stableBuckets (settingsIn h) (accountOf h is .monitor)
 
--- a list of accepted steps; their clocks and areas are anything
+-- so many accepted steps, and between them nothing but refused calls; the texts, clocks and areas are anything
 pub data Steps : Box → ℕ → List Input → Type 0 where
   rest : {b : Box} → Steps b zero []
   step :
@@ -74,6 +74,7 @@ pub data Steps : Box → ℕ → List Input → Type 0 where
       called b (Input.journal text area) .answer ≡ 0 →
       Steps (left b (Input.journal text area)) n is →
       Steps b (suc n) (Input.journal text area ∷ is)
+  refused : {b : Box} {n : ℕ} {is : List Input} (i : Input) → (called b i .answer ≡ 0 → ⊥) → Steps (left b i) n is → Steps b n (i ∷ is)
 
 -- a call leaves the box and the lent area as they were, and gives no record
 unfoldable pub Unchanged : Box → Input → Type 0
@@ -101,7 +102,7 @@ pub record Demand3 : Type 0 where
       (h : Handed) → isOpened h → (is js : List Input) →
       Steps (leftAfter (boxOf h) is) (remaining h is + 2) js →
       (remaining h (is ++ js) ≡ 0) × (doneDueIn false (outputOf h (is ++ js)) ≡ false)
-  -- and whatever is refused between changes nothing
+  -- whatever is refused changes nothing
   pub refused : (b : Box) (i : Input) → (called b i .answer ≡ 0 → ⊥) → Unchanged b i
   -- 5, beyond the demand: from an opening on no call is refused for a short store or a state out of shape
   pub inShape :
