@@ -18,10 +18,11 @@ use Rattle.journal.specs.declared.CallRead.the-variants as CallRead
 use Rattle.record.specs.Layout.{allBytes}
 use Rattle.store.specs.declared.Reading.{Reading}
 use Rattle.store.specs.Sizes.{readingsPerLine}
-use Rattle.store.specs.Columns.{Columns, storeLength, rowsFrom, withKept, share}
+use Rattle.store.specs.Columns.{Columns, storeLength, rowsFrom}
+use Rattle.store.specs.Parts.{withKept, share}
 use Rattle.store.proofs.Pairs.{every-index}
 use Rattle.store.proofs.Columns.{length-rowsFrom, take-rows}
-use Rattle.columns.specs.Tests.{rises}
+use Rattle.columns.specs.Shape.{rises}
 use Rattle.shares.proofs.Rows.{ids-share}
 use Rattle.protocol.specs.Kinds.{Kind, kindOf, uses, isStep}
 use Rattle.protocol.specs.Node.{Line, Node, noLine, onLine}

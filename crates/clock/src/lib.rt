@@ -1,6 +1,6 @@
 // The box's two clocks, and reading time cut into buckets and windows.
 ghost use mathlib.Core.Path.{_≡_};
-ghost use Prim.Native.Nat.{_<_, _^_};
+ghost use Prim.Native.Nat.{_<_};
 ghost use Rattle.clock.specs.Buckets.{bucketOf, bucketEnd, finishes};
 ghost use Rattle.clock.specs.Windows.{closesWindow, windowStart};
 ghost use Rattle.clock.specs.Hold.{isDue};

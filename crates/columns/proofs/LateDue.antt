@@ -13,7 +13,7 @@ use Rattle.clock.specs.declared.ArrivalTick.{ArrivalTick}
 use Rattle.clock.specs.Buckets.{bucketOf}
 use Rattle.clock.specs.Hold.{isDue}
 use Rattle.store.specs.Lists.{Every}
-use Rattle.store.specs.Columns.{share}
+use Rattle.store.specs.Parts.{share}
 use Rattle.columns.specs.Tests.{someOfBoth, isLateDue}
 use Rattle.store.proofs.Shares.{share-none, share-cons}
 

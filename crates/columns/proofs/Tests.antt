@@ -8,8 +8,9 @@ use native.Mathlib.Omega.{arith}
 use lib.Dec.{ltb}
 use lib.ListN.{length, getD}
 use Rattle.store.specs.Lists.{someOf, allOf}
-use Rattle.store.specs.Columns.{share}
-use Rattle.columns.specs.Tests.{rises, someOfBoth}
+use Rattle.store.specs.Parts.{share}
+use Rattle.columns.specs.Tests.{someOfBoth}
+use Rattle.columns.specs.Shape.{rises}
 use Rattle.store.proofs.Shares.{length-share-le, left, left-all, left-cons, left-none}
 
 -- ---- whether all pass

@@ -1,2 +1,3 @@
 -- Definitions on single columns of the store: tests.
+pub mod Shape
 pub mod Tests

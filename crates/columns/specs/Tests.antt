@@ -1,22 +1,11 @@
 -- Tests that look at single columns. Assumes nothing.
 use Prim.Native.Nat.{ℕ}
-use mathlib.Core.Bool.{Bool, true, false, _&&_, _||_}
+use mathlib.Core.Bool.{Bool, false, _&&_, _||_}
 use mathlib.Core.List.{List, [], _∷_}
-use lib.Dec.{leb, ltb, eqb}
+use lib.Dec.{leb}
 use Rattle.clock.specs.declared.ArrivalTick.{ArrivalTick}
 use Rattle.clock.specs.Buckets.{bucketOf}
 use Rattle.clock.specs.Hold.{isDue}
-use Rattle.journal.specs.Kinds.{letterS, letterT}
-
--- each number above the one before it
-unfoldable pub rises : List ℕ → Bool
-rises [] = true
-rises (a ∷ []) = true
-rises (a ∷ b ∷ bs) = ltb a b && rises (b ∷ bs)
-
--- the kind of a kept reading: S or T
-unfoldable pub isReadingKind : ℕ → Bool
-isReadingKind kind = eqb kind letterS || eqb kind letterT
 
 -- some pair passes the test
 unfoldable pub someOfBoth : {A B : Type 0} → (A → B → Bool) → List A → List B → Bool

@@ -8,8 +8,9 @@ ghost use lib.ListN.{length, replicate};
 ghost use lib.Seq.{sets};
 ghost use Rattle.journal.specs.Kinds.{letterT};
 ghost use Rattle.store.specs.Lists.{someOf, allOf};
-ghost use Rattle.store.specs.Columns.{share};
-ghost use Rattle.columns.specs.Tests.{rises, isReadingKind, someOfBoth, isLateDue};
+ghost use Rattle.store.specs.Parts.{share};
+ghost use Rattle.columns.specs.Tests.{someOfBoth, isLateDue};
+ghost use Rattle.columns.specs.Shape.{rises, isReadingKind};
 use clock::ArrivalTick;
 
 // ---- places zeroed, one function for each type of element

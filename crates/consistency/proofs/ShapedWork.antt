@@ -18,7 +18,7 @@ use Rattle.store.specs.Order.{Placed}
 use Rattle.store.proofs.Pairs.{every-to}
 use Rattle.operator.specs.declared.Meter.{Meter}
 use Rattle.operator.specs.declared.Operator.{Operator}
-use Rattle.operator.specs.Meters.{meterCount, noMeter, addAll}
+use Rattle.operator.specs.Meters.{meterCount, noMeter, clear, addAll}
 use Rattle.operator.specs.Work.{close, work}
 use Rattle.operator.proofs.Closing.{work-number}
 use Rattle.store.specs.Sizes.{readingsPerLine}
@@ -54,7 +54,7 @@ CountedAt s j ms = Every (Counted (readingsPerBucket * (j % s .window))) ms
 pub work-counted :
     (s : Settings) (kind j : ℕ) (rs : List Placed) (o : Operator) → 1 ≤ s .window → Every ValueFits rs → length rs ≤ readingsPerBucket →
     CountedAt s j (o .meters) → CountedAt s (suc j) (work s kind j rs o .operator .meters)
-unfolding work close closesWindow
+unfolding work close clear closesWindow
 work-counted s kind j rs o some values few h =
     (elim (closesWindow (s .window) j) as
     (λ b.

@@ -13,7 +13,8 @@ use Rattle.journal.specs.Kinds.{letterS, letterT, letterB, letterU, letterR}
 use Rattle.store.specs.declared.Reading.{Reading}
 use Rattle.store.specs.Lists.{keep}
 use Rattle.store.specs.Sizes.{readingsPerLine}
-use Rattle.store.specs.Columns.{Columns, rowsFrom, withRowsAt, withKept}
+use Rattle.store.specs.Columns.{Columns, rowsFrom}
+use Rattle.store.specs.Parts.{withRowsAt, withKept}
 use Rattle.store.proofs.Columns.{length-rowsFrom, take-rows}
 use Rattle.shares.proofs.Rows.{kept-all, kept-more}
 use Rattle.protocol.specs.Kinds.{Kind, kindOf, uses}

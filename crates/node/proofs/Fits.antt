@@ -20,7 +20,7 @@ use Rattle.store.specs.Order.{Placed, isIn, inBucket}
 use Rattle.store.proofs.Pairs.{every-to, every-append, every-keep, every-map}
 use Rattle.store.specs.Lists.{Every}
 use Rattle.operator.specs.declared.Operator.{Operator}
-use Rattle.operator.specs.Meters.{meterCount, noMeter, fresh, addAll}
+use Rattle.operator.specs.Meters.{meterCount, noMeter, clear, fresh, addAll}
 use Rattle.operator.specs.Work.{close, work}
 use Rattle.protocol.specs.Kinds.{Kind, kindOf, uses, isStep}
 use Rattle.protocol.specs.Node.{Line, Node, noLine, opened, keptOf, readingOf, onLine}
@@ -118,7 +118,7 @@ line-fits k f Kind.P l h = h
 -- ---- a step
 
 work-fits : (s : Settings) (kind j : ℕ) (rs : List Placed) (o : Operator) → Every ValueFits rs → OperatorFits o → OperatorFits (work s kind j rs o .operator)
-unfolding work close
+unfolding work close clear
 work-fits s kind j rs o f h =
     elim (closesWindow (s .window) j) as
     (λ b. OperatorFits (cond b (close s kind j (addAll s o rs)) (record { operator = addAll s o rs; records = [] }) .operator)) [

@@ -12,7 +12,7 @@ use Rattle.store.specs.Sorted as sorted
 use Rattle.store.specs.Columns.{Columns, rows, rowsFrom}
 use Rattle.store.proofs.Pairs.{every-to, every-map}
 use Rattle.store.proofs.Columns.{take-rows, drop-rows}
-use Rattle.shares.specs.Shares.{keptFrom}
+use Rattle.shares.proofs.Kept.{keptFrom}
 use Rattle.protocol.specs.Node.{Line, keptOf}
 use Rattle.node.specs.View.{viewLine, viewLines, places, view}
 use Rattle.node.specs.declared.LineHead.{LineHead}

@@ -1,15 +1,15 @@
 -- A viewed line in the columns: its kept readings are the first rows of its share. The share of the rows is the rows of the share; the
 -- line is then the one that `line-at` finds. Assumes nothing.
-use Prim.Native.Nat.{ℕ, _+_, _*_, _-_, _≤_, _<_}
+use Prim.Native.Nat.{ℕ, _+_, _*_, _≤_, _<_}
 use mathlib.Core.Path.{_≡_, _∙_, ap}
 use mathlib.Core.List.{List}
 use native.Mathlib.Omega.{arith}
 use lib.ListN.{length, getD, take, drop}
 use lib.Seq.{take-take, getD-take, length-take-le}
-use Rattle.store.specs.declared.Reading.{Reading}
 use Rattle.store.specs.Lists.{Every}
 use Rattle.store.specs.Sizes.{readingsPerLine}
-use Rattle.store.specs.Columns.{Columns, rowsFrom, rows, share}
+use Rattle.store.specs.Columns.{Columns, rowsFrom, rows}
+use Rattle.store.specs.Parts.{share}
 use Rattle.store.proofs.Pairs.{every-index}
 use Rattle.store.proofs.Columns.{share-of-rows}
 use Rattle.protocol.specs.Node.{Line, noLine}

@@ -10,7 +10,8 @@ use lib.Seq.{sets, sets-eq, length-sets, set-append-left, take-set-le, drop-set-
 use Rattle.store.specs.declared.Reading.{Reading}
 use Rattle.store.specs.Lists.{modify}
 use Rattle.store.specs.Sizes.{readingsPerLine}
-use Rattle.store.specs.Columns.{Columns, storeLength, rowAt, rowsFrom, rows, withRows, withRowsAt, withKept, zeroed, share}
+use Rattle.store.specs.Columns.{Columns, storeLength, rowAt, rowsFrom, rows, withRows, zeroed}
+use Rattle.store.specs.Parts.{withRowsAt, withKept, share}
 use Rattle.store.proofs.Columns.{Room, room, column-back, length-rows, share-of-rows}
 use Rattle.protocol.specs.Node.{Line, Node, noLine}
 use Rattle.node.specs.View.{viewLine, viewLines, places, view, headOf, headsWith, shareWith, sharesWith, putColumns}

@@ -24,7 +24,7 @@ use Rattle.node.specs.Sizes.{resultsPerBucket, lastBucket}
 use Rattle.operator.specs.Bounds.{countLimit, meterOk}
 use Rattle.operator.proofs.Meters.{Counted}
 use Rattle.operator.proofs.Bounds.{meters-ok}
-use Rattle.columns.specs.Tests.{rises, isReadingKind}
+use Rattle.columns.specs.Shape.{rises, isReadingKind}
 use Rattle.store.specs.Columns.{Columns}
 use Rattle.node.specs.View.{view}
 use Rattle.node.specs.Shape.{readingOk, idsRise, headOk, keptOk, phaseOk, bucketsOk, numbersOk, inShape}

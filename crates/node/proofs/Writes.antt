@@ -9,7 +9,8 @@ use Rattle.journal.specs.declared.Call.{Call}
 use Rattle.store.specs.declared.Reading.{Reading}
 use Rattle.store.specs.Lists.{modify}
 use Rattle.store.specs.Sizes.{readingsPerLine}
-use Rattle.store.specs.Columns.{Columns, rowsFrom, rows, withRows, withRowsAt, withKept}
+use Rattle.store.specs.Columns.{Columns, rowsFrom, rows, withRows}
+use Rattle.store.specs.Parts.{withRowsAt, withKept}
 use Rattle.store.proofs.Columns.{length-rowsFrom, take-rows}
 use Rattle.shares.proofs.Rows.{kept-more}
 use Rattle.protocol.specs.Kinds.{Kind}

@@ -9,7 +9,7 @@ use Rattle.store.specs.declared.Reading.{Reading}
 use Rattle.store.specs.Sizes.{readingsPerLine}
 use Rattle.store.specs.Lists.{allOf}
 use Rattle.store.specs.Columns.{Columns}
-use Rattle.columns.specs.Tests.{rises, isReadingKind}
+use Rattle.columns.specs.Shape.{rises, isReadingKind}
 use Rattle.operator.specs.Meters.{meterCount}
 use Rattle.operator.specs.Bounds.{meterOk}
 use Rattle.protocol.specs.declared.Phase.{Phase}

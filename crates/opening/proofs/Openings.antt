@@ -12,7 +12,8 @@ use Rattle.settings.specs.declared.SettingsRead.the-variants as SettingsRead
 use Rattle.settings.specs.SettingsLine.{settingsAnswer}
 use Rattle.settings.specs.ReadLine.{settingsOf}
 use Rattle.store.specs.Sizes.{readingsPerLine}
-use Rattle.store.specs.Columns.{Columns, storeLength, withRowsAt, zeroed}
+use Rattle.store.specs.Columns.{Columns, storeLength, zeroed}
+use Rattle.store.specs.Parts.{withRowsAt}
 use Rattle.store.proofs.Columns.{withRowsAt-front}
 use Rattle.node.specs.declared.State.{State}
 use Rattle.node.specs.Opening.{isShort, freshState, openedWith, openedOn}

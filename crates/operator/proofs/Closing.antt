@@ -56,7 +56,7 @@ module _ (s : Settings) (kind j : ℕ) (o : Operator) where
 
   -- a second window closed on the spot gives nothing
   pub close-twice : (i : ℕ) → close s kind i (close s kind j o .operator) .records ≡ []
-  unfolding close windowResults
+  unfolding close windowResults clear
   close-twice i = results-none kind _ 0 _ meterCount
 
 module _ (s : Settings) (kind j : ℕ) (rs : List Placed) (o : Operator) where
@@ -82,7 +82,7 @@ module _ (s : Settings) (kind j : ℕ) (rs : List Placed) (o : Operator) where
 
   -- all meters stay
   pub work-length : length (o .meters) ≡ meterCount → length (work s kind j rs o .operator .meters) ≡ meterCount
-  unfolding work close
+  unfolding work close clear
   work-length h =
       elim (closesWindow (s .window) j) as
       (λ b.

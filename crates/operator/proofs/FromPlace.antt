@@ -11,7 +11,8 @@ use Rattle.store.specs.Lists.{allOf, keep}
 use Rattle.operator.specs.declared.Meter.{Meter}
 use Rattle.operator.specs.declared.NextResult.the-variants as NextResult
 use Rattle.operator.specs.Meters.{noMeter}
-use Rattle.operator.specs.Results.{hasResult, firstResult, nextResult, result, results}
+use Rattle.operator.specs.Results.{hasResult, result, results}
+use Rattle.operator.specs.Parts.{firstResult, nextResult}
 use Rattle.operator.proofs.Results.{givers}
 
 -- an array of structs has its length: what owning it tells is said of the machine values

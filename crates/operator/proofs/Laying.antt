@@ -21,7 +21,8 @@ use Rattle.operator.specs.declared.Meter.{Meter}
 use Rattle.operator.specs.declared.NextResult.the-variants as NextResult
 use Rattle.operator.specs.declared.Operator.{Operator}
 use Rattle.operator.specs.Meters.{meterCount, noMeter, clear}
-use Rattle.operator.specs.Results.{nextResult, result, results}
+use Rattle.operator.specs.Results.{result, results}
+use Rattle.operator.specs.Parts.{nextResult}
 use Rattle.operator.specs.Work.{windowResults, close}
 use Rattle.operator.proofs.Results.{givers, givers-most, results-length}
 use Rattle.operator.proofs.Closing.{window-results-length}

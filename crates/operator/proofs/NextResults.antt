@@ -16,7 +16,8 @@ use Rattle.operator.specs.declared.Meter.{Meter}
 use Rattle.operator.specs.declared.NextResult.{NextResult}
 use Rattle.operator.specs.declared.NextResult.the-variants as NextResult
 use Rattle.operator.specs.Meters.{noMeter}
-use Rattle.operator.specs.Results.{hasResult, nextResult, result, results}
+use Rattle.operator.specs.Results.{hasResult, result, results}
+use Rattle.operator.specs.Parts.{nextResult}
 use Rattle.operator.proofs.FromPlace.{next-from-giver, next-from-other, next-from-end, results-from-giver, results-from-other, results-from-end}
 
 -- meter number i is the first at or above `from` with a result

@@ -1,5 +1,6 @@
 -- Definitions on the operator.
 pub mod Meters
 pub mod Results
+pub mod Parts
 pub mod Work
 pub mod Bounds

@@ -23,10 +23,6 @@ noMeter = record { sum = pos 0; count = 0; last = pos 0 }
 unfoldable pub withValue : ℤ → Meter → Meter
 withValue v m = record { sum = m .sum +ℤ v; count = m .count + 1; last = v }
 
--- a meter with one value more, where a newer value is there already
-unfoldable pub withOlderValue : ℤ → Meter → Meter
-withOlderValue v m = record { sum = m .sum +ℤ v; count = m .count + 1; last = m .last }
-
 -- the operator cleared, its numbering kept
 unfoldable pub clear : Operator → Operator
 clear o = record { meters = replicate meterCount noMeter; number = o .number }

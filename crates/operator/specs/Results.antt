@@ -4,26 +4,14 @@ use mathlib.Core.Bool.{Bool, cond}
 use mathlib.Core.List.{List, [], _∷_}
 use lib.Dec.{ltb}
 use lib.IntN.{pos}
-use lib.ListN.{drop}
 use Rattle.clock.specs.declared.ReadingTime.{ReadingTime}
 use Rattle.signed.specs.Mean.{mean}
 use Rattle.record.specs.declared.Record.{Record}
 use Rattle.operator.specs.declared.Meter.{Meter}
-use Rattle.operator.specs.declared.NextResult.{NextResult}
-use Rattle.operator.specs.declared.NextResult.the-variants as NextResult
 
 -- this meter has a result
 unfoldable pub hasResult : Meter → Bool
 hasResult m = ltb 0 (m .count)
-
--- the first meter with a result, the list's first one having number i
-unfoldable pub firstResult : ℕ → List Meter → NextResult
-firstResult i [] = NextResult.Nothing
-firstResult i (m ∷ ms) = cond (hasResult m) (NextResult.At i) (firstResult (suc i) ms)
-
--- the first meter at or above `from` with a result
-unfoldable pub nextResult : ℕ → List Meter → NextResult
-nextResult from ms = firstResult from (drop from ms)
 
 -- the result of meter number i, of this kind, at the window's start, with this number
 unfoldable pub result : ℕ → ReadingTime → ℕ → ℕ → Meter → Record

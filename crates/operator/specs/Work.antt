@@ -2,13 +2,12 @@
 use Prim.Native.Nat.{ℕ, _+_}
 use mathlib.Core.Bool.{cond}
 use mathlib.Core.List.{List, []}
-use lib.ListN.{length, replicate}
-use Rattle.clock.specs.declared.ReadingTime.{ReadingTime}
+use lib.ListN.{length}
 use Rattle.clock.specs.Windows.{closesWindow, windowStart}
 use Rattle.settings.specs.declared.Settings.{Settings}
 use Rattle.record.specs.declared.Record.{Record}
 use Rattle.store.specs.Order.{Placed}
-use Rattle.operator.specs.Meters.{meterCount, noMeter, addAll}
+use Rattle.operator.specs.Meters.{clear, addAll}
 use Rattle.operator.specs.Results.{results}
 use Rattle.operator.specs.declared.Operator.{Operator}
 
@@ -26,7 +25,7 @@ windowResults s kind j o =
 unfoldable pub close : Settings → ℕ → ℕ → Operator → Worked
 close s kind j o =
     record {
-      operator = record { meters = replicate meterCount noMeter; number = o .number + length (windowResults s kind j o) };
+      operator = record { meters = clear o .meters; number = o .number + length (windowResults s kind j o) };
       records = windowResults s kind j o;
     }
 

@@ -25,7 +25,8 @@ use Rattle.store.proofs.Order.{before-times, not-before-times}
 use Rattle.store.proofs.Sorting.{sort-permutes, sort-sorted}
 use Rattle.operator.specs.declared.Meter.{Meter}
 use Rattle.operator.specs.declared.Operator.{Operator}
-use Rattle.operator.specs.Meters.{meterCount, noMeter, withValue, withOlderValue, isCounted, addAll}
+use Rattle.operator.specs.Meters.{meterCount, noMeter, withValue, isCounted, addAll}
+use Rattle.operator.specs.Parts.{withOlderValue}
 use Rattle.operator.proofs.Values.{countsFor, valuesOf, total, lastOr, countOf, sumOf, countOf-permuted, sumOf-permuted}
 use Rattle.operator.proofs.Adding.{meterOf, set-read, addAll-length, addAll-number}
 use Rattle.operator.proofs.Totals.{addAll-count, addAll-sum, addAll-last}

@@ -5,7 +5,6 @@ ghost use Prim.Native.Nat.{_<_, _≤_, _^_};
 ghost use lib.ListN.{length};
 ghost use Rattle.signed.specs.Range.{InRange};
 ghost use Rattle.store.specs.Lists.{allOf, Every};
-ghost use Rattle.operator.specs.Meters.{meterCount};
 ghost use Rattle.operator.specs.Bounds.{meterOk};
 ghost use Rattle.pass.specs.Pass.{Workable, Passed};
 use operator::Operator;

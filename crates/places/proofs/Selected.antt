@@ -8,7 +8,7 @@ use native.Mathlib.Omega.{arith}
 use native.Mathlib.Nat.{add-zero, sub-zero}
 use lib.ListN.{length, getD, set, length-set}
 use lib.Seq.{sets}
-use Rattle.store.specs.Columns.{share}
+use Rattle.store.specs.Parts.{share}
 use Rattle.places.specs.Places.{placesWhere}
 use Rattle.store.proofs.Shares.{left, left-cons, left-none}
 

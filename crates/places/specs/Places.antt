@@ -3,7 +3,6 @@ use Prim.Native.Nat.{ℕ, suc, _≤_, _<_}
 use mathlib.Core.Bool.{Bool, cond, not}
 use mathlib.Core.List.{List, [], _∷_}
 use lib.Dec.{eqb}
-use Rattle.clock.specs.declared.ReadingTime.{ReadingTime}
 use Rattle.clock.specs.Buckets.{bucketOf}
 
 -- the places, counted from `at`, of what passes the test

@@ -5,7 +5,7 @@ ghost use lib.Dec.{eqb};
 ghost use lib.ListN.{length};
 ghost use lib.Seq.{sets};
 ghost use Rattle.clock.specs.Buckets.{bucketOf};
-ghost use Rattle.store.specs.Columns.{share};
+ghost use Rattle.store.specs.Parts.{share};
 ghost use Rattle.places.specs.Places.{placesWhere, isTimeOf};
 
 // Whether a time is one of bucket j, without a division.

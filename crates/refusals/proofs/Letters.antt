@@ -15,7 +15,7 @@ use Rattle.settings.specs.declared.Settings.{Settings}
 use Rattle.journal.specs.declared.Call.{Call}
 use Rattle.journal.specs.Kinds.{letterS, letterT, letterB, letterU, letterR}
 use Rattle.store.specs.Sizes.{readingsPerLine}
-use Rattle.columns.specs.Tests.{isReadingKind}
+use Rattle.columns.specs.Shape.{isReadingKind}
 use Rattle.protocol.specs.Kinds.{Kind, kindOf, uses, isStep}
 use Rattle.protocol.specs.Node.{Line, keepsTentative}
 use Rattle.protocol.specs.Refusals.{wrongLine, isZero, unusedField, wrongMeter, wrongId, tooEarly, isHeldBack, isFull}

@@ -6,7 +6,7 @@ use lib.Dec.{eqb}
 use lib.ListN.{length}
 use Rattle.journal.specs.Kinds.{letterT}
 use Rattle.store.specs.Lists.{someOf}
-use Rattle.store.specs.Columns.{share}
+use Rattle.store.specs.Parts.{share}
 use Rattle.protocol.specs.Node.{Line, keepsTentative}
 use Rattle.node.specs.declared.LineHead.{LineHead}
 

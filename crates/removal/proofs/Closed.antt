@@ -11,7 +11,8 @@ use lib.Seq.{sets, sets-eq, take-at}
 use Rattle.store.specs.declared.Reading.{Reading}
 use Rattle.store.specs.Lists.{keep}
 use Rattle.store.specs.Order.{isIn}
-use Rattle.store.specs.Columns.{Columns, columnsOf, storeLength, rowAt, rowsFrom, zeroed, withRowsAt, withKept, share}
+use Rattle.store.specs.Columns.{Columns, columnsOf, storeLength, rowAt, rowsFrom, zeroed}
+use Rattle.store.specs.Parts.{withRowsAt, withKept, share}
 use Rattle.store.proofs.Columns.{room, length-rowsFrom}
 use Rattle.store.proofs.Keeping.{length-keep}
 use Rattle.store.proofs.Shares.{length-share}

@@ -7,7 +7,8 @@ ghost use lib.ListN.{length};
 ghost use Rattle.store.specs.Sizes.{readingsPerLine};
 ghost use Rattle.store.specs.Lists.{keep};
 ghost use Rattle.store.specs.Order.{isIn};
-ghost use Rattle.store.specs.Columns.{columnsOf, storeLength, rowsFrom, withKept};
+ghost use Rattle.store.specs.Columns.{columnsOf, storeLength, rowsFrom};
+ghost use Rattle.store.specs.Parts.{withKept};
 ghost use Rattle.places.specs.Places.{PlacesRise};
 ghost use Rattle.compaction.specs.ClosedUp.{closedUp};
 

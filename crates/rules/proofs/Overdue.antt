@@ -10,7 +10,8 @@ use Rattle.clock.specs.declared.ArrivalTick.{ArrivalTick}
 use Rattle.settings.specs.declared.Settings.{Settings}
 use Rattle.store.specs.Sizes.{readingsPerLine}
 use Rattle.store.specs.Lists.{someOf}
-use Rattle.store.specs.Columns.{Columns, storeLength, rows, share}
+use Rattle.store.specs.Columns.{Columns, storeLength, rows}
+use Rattle.store.specs.Parts.{share}
 use Rattle.columns.specs.Tests.{someOfBoth, isLateDue}
 use Rattle.shares.proofs.Kept.{some-late-due}
 use Rattle.protocol.specs.Node.{Line, noLine}

@@ -15,7 +15,7 @@ use Rattle.store.specs.Sizes.{readingsPerLine}
 use Rattle.store.specs.Lists.{allOf}
 use Rattle.store.specs.Columns.{Columns, storeLength, rowsFrom, rows}
 use Rattle.store.proofs.Choices.{and-parts}
-use Rattle.columns.specs.Tests.{isReadingKind}
+use Rattle.columns.specs.Shape.{isReadingKind}
 use Rattle.shares.proofs.Kept.{ids-rise, kinds-are-readings, meters-below}
 use Rattle.operator.specs.Meters.{meterCount}
 use Rattle.protocol.specs.Node.{noLine}

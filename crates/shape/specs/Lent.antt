@@ -6,8 +6,9 @@ use mathlib.Core.List.{List}
 use lib.Dec.{ltb}
 use Rattle.store.specs.Sizes.{readingsPerLine}
 use Rattle.store.specs.Lists.{allOf}
-use Rattle.store.specs.Columns.{Columns, storeLength, share}
-use Rattle.columns.specs.Tests.{rises, isReadingKind}
+use Rattle.store.specs.Columns.{Columns, storeLength}
+use Rattle.store.specs.Parts.{share}
+use Rattle.columns.specs.Shape.{rises, isReadingKind}
 use Rattle.operator.specs.Meters.{meterCount}
 
 -- a store with room for so many lines, whose columns these are

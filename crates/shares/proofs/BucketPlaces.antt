@@ -10,7 +10,7 @@ use lib.Seq.{sets, length-sets, drop-cons}
 use borrow.Rule.Slice.PartMut.{putMid}
 use Rattle.store.specs.Lists.{Every}
 use Rattle.store.specs.Sizes.{readingsPerLine}
-use Rattle.store.specs.Columns.{share}
+use Rattle.store.specs.Parts.{share}
 use Rattle.store.proofs.Pairs.{every-index}
 use Rattle.store.proofs.Runs.{sets-sets}
 use Rattle.store.proofs.Shares.{length-share-le}

@@ -14,13 +14,15 @@ use Rattle.store.specs.declared.Reading.{Reading}
 use Rattle.store.specs.Sizes.{readingsPerLine}
 use Rattle.store.specs.Lists.{keep, someOf, allOf, Every}
 use Rattle.store.specs.Order.{Placed, isIn, gather}
-use Rattle.store.specs.Columns.{Columns, storeLength, rowAt, rowsFrom, share}
+use Rattle.store.specs.Columns.{Columns, storeLength, rowAt, rowsFrom}
+use Rattle.store.specs.Parts.{share}
 use Rattle.store.proofs.Keeping.{some-map}
 use Rattle.store.proofs.Columns.{room}
 use Rattle.store.proofs.Gathering.{place}
-use Rattle.columns.specs.Tests.{rises, isReadingKind, someOfBoth, isLateDue}
+use Rattle.columns.specs.Tests.{someOfBoth, isLateDue}
+use Rattle.columns.specs.Shape.{rises, isReadingKind}
 use Rattle.places.specs.Places.{isTimeOf, placesWhere}
-use Rattle.shares.specs.Shares.{bucketPlaces, keptFrom}
+use Rattle.shares.specs.Shares.{bucketPlaces}
 use Rattle.shares.proofs.Rows.{rows-where, ids-share, times-share, arrivals-share, kinds-share, meters-share}
 
 -- ---- a test on a field
@@ -74,6 +76,11 @@ rows-inside x base n bucket j h = rows-where x (λ (r : Reading). r .time .0) 0 
 readings-placed : (line : ℕ) (rs : List Reading) → map (λ (q : Placed). q .reading) (map (place line) rs) ≡ rs
 readings-placed line [] = refl
 readings-placed line (r ∷ rs) = ap (λ (l : List Reading). r ∷ l) (readings-placed line rs)
+
+-- the readings kept by each line, where the lines keep so many, the first share from `base` on
+unfoldable pub keptFrom : Columns → ℕ → List ℕ → List (List Reading)
+keptFrom x base [] = []
+keptFrom x base (n ∷ ns) = rowsFrom x base n ∷ keptFrom x (base + readingsPerLine) ns
 
 -- the rows at a bucket's places, in shares from `base` on, are the bucket's readings of the lines numbered from `line` on
 pub bucket-rows : (x : Columns) (bucket j base line : ℕ) (ns : List ℕ) → Every (λ n. n ≤ readingsPerLine) ns → base + length ns * readingsPerLine ≤ storeLength x → map (λ (i : ℕ). rowAt x i) (bucketPlaces bucket j (x .times) base ns) ≡ map (λ (q : Placed). q .reading) (gather bucket j line (keptFrom x base ns))

@@ -10,7 +10,8 @@ use lib.ListN.{length, getD, replicate, length-append, length-map}
 use lib.Seq.{sets, set-getD, drop-cons}
 use Rattle.store.specs.declared.Reading.{Reading}
 use Rattle.store.specs.Lists.{keep}
-use Rattle.store.specs.Columns.{Columns, columnsOf, storeLength, rowAt, rowsFrom, zeroed, withRowsAt, withKept, share}
+use Rattle.store.specs.Columns.{Columns, columnsOf, storeLength, rowAt, rowsFrom, zeroed}
+use Rattle.store.specs.Parts.{withRowsAt, withKept, share}
 use Rattle.store.proofs.Choices.{cond-map}
 use Rattle.store.proofs.Columns.{room, length-rowsFrom}
 use Rattle.store.proofs.Runs.{sets-sets}

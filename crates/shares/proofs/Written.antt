@@ -8,7 +8,8 @@ use lib.IntN.{pos}
 use lib.ListN.{length, getD, length-map}
 use lib.Seq.{sets, length-sets}
 use Rattle.store.specs.declared.Reading.{Reading}
-use Rattle.store.specs.Columns.{Columns, storeLength, rowAt, rowsFrom, withRowsAt}
+use Rattle.store.specs.Columns.{Columns, storeLength, rowAt, rowsFrom}
+use Rattle.store.specs.Parts.{withRowsAt}
 use Rattle.store.proofs.Runs.{sets-sets, getD-behind-sets}
 
 -- ---- one run behind another

@@ -7,7 +7,8 @@ ghost use lib.ListN.{length, replicate};
 ghost use lib.Seq.{sets};
 ghost use Rattle.store.specs.Sizes.{readingsPerLine};
 ghost use Rattle.store.specs.Lists.{Every};
-ghost use Rattle.store.specs.Columns.{columnsOf, storeLength, zeroed, withRowsAt};
+ghost use Rattle.store.specs.Columns.{columnsOf, storeLength, zeroed};
+ghost use Rattle.store.specs.Parts.{withRowsAt};
 ghost use Rattle.shares.specs.Shares.{bucketPlaces};
 use store::Reading;
 

@@ -12,7 +12,8 @@ use lib.Seq.{sets, ext-getD, getD-set-same, getD-set-other}
 use borrow.Author.Tests.{eqb-true, eqb-false}
 use Rattle.store.specs.declared.Reading.{Reading}
 use Rattle.store.specs.Lists.{keep}
-use Rattle.store.specs.Columns.{Columns, storeLength, rowAt, rows, rowsFrom, withRowsAt, withKept, zeroed}
+use Rattle.store.specs.Columns.{Columns, storeLength, rowAt, rows, rowsFrom, zeroed}
+use Rattle.store.specs.Parts.{withRowsAt, withKept}
 use Rattle.store.proofs.Columns.{Room, room, length-rows, row-at, share-of-rows}
 use Rattle.slots.specs.Slots.{zeroedFrom, staysOf, closedSlots}
 use Rattle.slots.proofs.Closing.{kept, kept-at-most}

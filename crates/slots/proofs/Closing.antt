@@ -9,7 +9,7 @@ use native.Mathlib.Omega.{arith}
 use lib.ListN.{length, getD, set, take, drop, replicate, length-append, length-replicate, length-drop}
 use lib.Seq.{sets, length-sets, take-suc, getD-drop}
 use Rattle.store.specs.Lists.{keep}
-use Rattle.store.specs.Columns.{share}
+use Rattle.store.specs.Parts.{share}
 use Rattle.store.proofs.Keeping.{keep-append, length-keep-share}
 use Rattle.store.proofs.Runs.{sets-sets, getD-behind-sets}
 use Rattle.slots.proofs.Runs.{set-within-sets, replicate-more}

@@ -1,5 +1,5 @@
 -- A store that is lent as a slice of readings (document 01, section 'Store and output area'). Assumes nothing.
-use Prim.Native.Nat.{ℕ, _+_, _-_}
+use Prim.Native.Nat.{ℕ, _-_}
 use mathlib.Core.Bool.{Bool, cond, not, _&&_}
 use mathlib.Core.List.{List, _++_}
 use lib.Dec.{leb, ltb}
@@ -8,7 +8,8 @@ use lib.Seq.{sets}
 use Rattle.store.specs.declared.Reading.{Reading}
 use Rattle.store.specs.Lists.{keep}
 use Rattle.store.specs.Order.{isIn}
-use Rattle.store.specs.Columns.{zeroed, share}
+use Rattle.store.specs.Columns.{zeroed}
+use Rattle.store.specs.Parts.{share}
 
 -- the slots have the places from `from` up to `to`
 unfoldable pub hasPlaces : ℕ → ℕ → List Reading → Bool

@@ -6,9 +6,9 @@ use mathlib.Core.Bool.{true, false}
 use mathlib.Core.List.{List, [], _∷_, map}
 use native.Mathlib.Omega.{arith}
 use Rattle.store.specs.declared.Reading.{Reading}
-use Rattle.store.specs.Lists.{keep, Every, Pairwise}
+use Rattle.store.specs.Lists.{keep, Every}
+use Rattle.store.specs.Sorted.{Pairwise, isLevel, Distinct, TiesInOrder, Rising}
 use Rattle.store.specs.Order.{Placed, before, isIn, gather}
-use Rattle.store.specs.Sorted.{isLevel, Distinct, TiesInOrder, Rising}
 use Rattle.store.proofs.Choices.{false-unless}
 use Rattle.store.proofs.Order.{by-line, by-id, earlier-before, level-equal}
 use Rattle.store.proofs.Pairs.{every-to, every-any, pairwise-append, pairwise-to, pairwise-any, pairwise-keep, pairwise-map}

@@ -9,7 +9,8 @@ use lib.IntN.{pos}
 use lib.ListN.{length, getD, take, drop, length-append, length-drop, length-map}
 use lib.Seq.{sets, sets-eq, ext-getD, getD-append-add, getD-drop, drop-cons, drop-at}
 use Rattle.store.specs.declared.Reading.{Reading}
-use Rattle.store.specs.Columns.{withRows, withRowsAt, rows, rowsFrom, rowAt, storeLength, Columns, zeroed, share}
+use Rattle.store.specs.Columns.{withRows, rows, rowsFrom, rowAt, storeLength, Columns, zeroed}
+use Rattle.store.specs.Parts.{withRowsAt, share}
 
 -- ---- how long
 

@@ -7,7 +7,7 @@ use mathlib.Core.Bool.{Bool, true, false, true≢false}
 use mathlib.Core.List.{List, [], _∷_, _++_, map, List·Memᴰ, List·Memᴰ·head, List·Memᴰ·tail}
 use lib.ListN.{length, take, drop, length-take}
 use Rattle.store.specs.Lists.{keep, someOf, Every}
-use Rattle.store.specs.Columns.{share}
+use Rattle.store.specs.Parts.{share}
 use Rattle.store.proofs.Choices.{cond-either, cond-map}
 use Rattle.store.proofs.Pairs.{every-to, every-of, every-keep, every-self}
 

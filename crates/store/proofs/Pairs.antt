@@ -5,7 +5,8 @@ use mathlib.Core.Path.{_≡_, refl, subst⁻¹}
 use mathlib.Core.Bool.{Bool, true}
 use lib.ListN.{length, getD, set}
 use mathlib.Core.List.{List, [], _∷_, _++_, map, List·Memᴰ, List·Memᴰ·head, List·Memᴰ·tail}
-use Rattle.store.specs.Lists.{keep, allOf, Every, Pairwise}
+use Rattle.store.specs.Lists.{keep, allOf, Every}
+use Rattle.store.specs.Sorted.{Pairwise}
 use Rattle.store.proofs.Choices.{and-parts, cond-either}
 
 module _ {A : Type 0} where

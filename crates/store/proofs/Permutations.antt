@@ -4,8 +4,8 @@ use Prim.Native.Nat.{suc}
 use mathlib.Core.Path.{_≡_, refl, _∙_, ap}
 use mathlib.Core.List.{List, [], _∷_, List·Memᴰ}
 use lib.ListN.{length}
-use Rattle.store.specs.Lists.{Every, Pairwise}
-use Rattle.store.specs.Sorted.{Permutation, empty, behind, exchange, chain}
+use Rattle.store.specs.Lists.{Every}
+use Rattle.store.specs.Sorted.{Pairwise, Permutation, empty, behind, exchange, chain}
 use Rattle.store.proofs.Pairs.{every-of, every-self}
 
 module _ {A : Type 0} where

@@ -6,7 +6,7 @@ use native.Mathlib.Omega.{arith}
 use native.Mathlib.Nat.{add-zero, sub-zero}
 use lib.ListN.{length, getD, drop, length-take, length-drop}
 use lib.Seq.{drop-cons, length-take-le}
-use Rattle.store.specs.Columns.{share}
+use Rattle.store.specs.Parts.{share}
 
 module _ {A : Type 0} where
   pub length-share : (base n : ℕ) (xs : List A) → base + n ≤ length xs → length (share base n xs) ≡ n

@@ -5,9 +5,8 @@ use mathlib.Core.Bool.{true, false, true≢false}
 use mathlib.Core.Logic.{_⊎_, inl, inr}
 use mathlib.Core.List.{List, [], _∷_, List·Memᴰ, List·Memᴰ·head, List·Memᴰ·tail, List·Memᴰ·cases-cons, List·Memᴰ·not-nil}
 use borrow.Author.Tests.{not-false}
-use Rattle.store.specs.Lists.{Pairwise}
+use Rattle.store.specs.Sorted.{Pairwise, Permutation, chain, isLevel, Sorted, Distinct}
 use Rattle.store.specs.Order.{Placed, before, sort}
-use Rattle.store.specs.Sorted.{Permutation, chain, isLevel, Sorted, Distinct}
 use Rattle.store.proofs.Pairs.{every-of, pairwise-both}
 use Rattle.store.proofs.Permutations.{pairwise-permuted, permutation-back, permutation-holds}
 use Rattle.store.proofs.Order.{exactly-one-before, before-asymmetric, level-turned}

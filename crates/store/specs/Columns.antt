@@ -1,10 +1,9 @@
 -- The lent store: one column for each field of a reading (document 01, section 'Store and output area'). Its length is the shortest
 -- column's. Assumes nothing.
-use Prim.Native.Nat.{ℕ, zero, suc, min, _-_}
+use Prim.Native.Nat.{ℕ, zero, suc, min}
 use mathlib.Core.List.{List, [], _∷_, _++_, map}
 use lib.IntN.{ℤ, pos}
-use lib.ListN.{length, getD, take, drop, replicate}
-use lib.Seq.{sets}
+use lib.ListN.{length, getD, drop}
 use Rattle.store.specs.declared.Reading.{Reading}
 
 pub record Columns : Type 0 where
@@ -62,33 +61,4 @@ withRows x rs =
 -- a place given up
 unfoldable pub zeroed : Reading
 zeroed =
-    record {
-      id = 0;
-      time = record { 0 = 0 };
-      value = pos 0;
-      arrival = record { 0 = 0 };
-      kind = 0;
-      meter = 0;
-    }
-
--- ---- what the store's functions write
-
--- the store with these readings from a place on, and everything else as it was
-unfoldable pub withRowsAt : Columns → ℕ → List Reading → Columns
-withRowsAt x at rs =
-    record {
-      ids = sets (x .ids) at (map (λ (r : Reading). r .id) rs);
-      times = sets (x .times) at (map (λ (r : Reading). r .time .0) rs);
-      values = sets (x .values) at (map (λ (r : Reading). r .value) rs);
-      arrivals = sets (x .arrivals) at (map (λ (r : Reading). r .arrival .0) rs);
-      kinds = sets (x .kinds) at (map (λ (r : Reading). r .kind) rs);
-      meters = sets (x .meters) at (map (λ (r : Reading). r .meter) rs);
-    }
-
--- a share that kept n readings from a place on and now keeps these: exactly the places given up are zeroed
-unfoldable pub withKept : Columns → ℕ → ℕ → List Reading → Columns
-withKept x base n kept = withRowsAt x base (kept ++ replicate (n - length kept) zeroed)
-
--- so many of a column's numbers from a place on
-unfoldable pub share : {A : Type 0} → ℕ → ℕ → List A → List A
-share base n xs = take n (drop base xs)
+    record { id = 0; time = record { 0 = 0 }; value = pos 0; arrival = record { 0 = 0 }; kind = 0; meter = 0 }

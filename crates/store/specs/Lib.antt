@@ -4,3 +4,4 @@ pub mod Lists
 pub mod Order
 pub mod Sorted
 pub mod Columns
+pub mod Parts

@@ -29,8 +29,3 @@ module _ {A : Type 0} where
   abbrev pub Every : (A → Type 0) → List A → Type 0
   Every Q [] = Unit {0}
   Every Q (x ∷ xs) = Q x × Every Q xs
-
-  -- of every two elements the earlier one is so related to the later one
-  abbrev pub Pairwise : (A → A → Type 0) → List A → Type 0
-  Pairwise R [] = Unit {0}
-  Pairwise R (x ∷ xs) = Every (R x) xs × Pairwise R xs

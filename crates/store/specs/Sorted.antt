@@ -6,8 +6,13 @@ use mathlib.Core.Bool.{Bool, true, false, _&&_}
 use mathlib.Core.List.{List, [], _∷_}
 use lib.Dec.{eqb}
 use Rattle.store.specs.declared.Reading.{Reading}
-use Rattle.store.specs.Lists.{Pairwise}
+use Rattle.store.specs.Lists.{Every}
 use Rattle.store.specs.Order.{Placed, before}
+
+-- of every two elements the earlier one is so related to the later one
+abbrev pub Pairwise : {A : Type 0} → (A → A → Type 0) → List A → Type 0
+Pairwise R [] = Unit {0}
+Pairwise R (x ∷ xs) = Every (R x) xs × Pairwise R xs
 
 -- the same elements, each as often, in any order
 pub data Permutation {A : Type 0} : List A → List A → Type 0 where

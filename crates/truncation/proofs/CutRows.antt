@@ -10,11 +10,12 @@ use lib.Dec.{leb, ltb}
 use lib.ListN.{length, take, replicate, length-map}
 use Rattle.store.specs.declared.Reading.{Reading}
 use Rattle.store.specs.Lists.{keep}
-use Rattle.store.specs.Columns.{Columns, storeLength, rowsFrom, zeroed, withRowsAt, withKept, share}
+use Rattle.store.specs.Columns.{Columns, storeLength, rowsFrom, zeroed}
+use Rattle.store.specs.Parts.{withRowsAt, withKept, share}
 use Rattle.store.proofs.Choices.{and-parts}
 use Rattle.store.proofs.Keeping.{keep-map, length-keep}
 use Rattle.store.proofs.Columns.{length-rowsFrom, take-rows}
-use Rattle.columns.specs.Tests.{rises}
+use Rattle.columns.specs.Shape.{rises}
 use Rattle.shares.proofs.Rows.{ids-share, own-rows}
 use Rattle.truncation.proofs.UpTo.{rises-behind}
 

@@ -8,9 +8,9 @@ use lib.Dec.{leb, ltb}
 use borrow.Author.Tests.{ltb-true, le-leb, lt-leb}
 use lib.ListN.{length, getD}
 use Rattle.store.specs.Lists.{keep}
-use Rattle.store.specs.Columns.{share}
+use Rattle.store.specs.Parts.{share}
 use Rattle.store.proofs.Choices.{and-parts}
-use Rattle.columns.specs.Tests.{rises}
+use Rattle.columns.specs.Shape.{rises}
 use Rattle.store.proofs.Shares.{left, left-all, left-cons, left-none}
 
 -- what is not above a limit

@@ -5,8 +5,9 @@ ghost use Prim.Native.Nat.{_+_, _≤_};
 ghost use lib.Dec.{leb};
 ghost use lib.ListN.{length};
 ghost use Rattle.store.specs.Lists.{keep};
-ghost use Rattle.store.specs.Columns.{columnsOf, storeLength, rowsFrom, withKept, share};
-ghost use Rattle.columns.specs.Tests.{rises};
+ghost use Rattle.store.specs.Columns.{columnsOf, storeLength, rowsFrom};
+ghost use Rattle.store.specs.Parts.{withKept, share};
+ghost use Rattle.columns.specs.Shape.{rises};
 
 // How many of a share's ids, which rise, are not above `id`.
 fn count_up_to(ids: &[u32], base: usize, n: usize, id: u32) -> usize

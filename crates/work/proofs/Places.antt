@@ -9,7 +9,7 @@ use lib.ListN.{length, take, drop, length-append}
 use lib.Seq.{sets, sets-eq, take-at}
 use Rattle.store.specs.Sizes.{readingsPerLine}
 use Rattle.store.specs.Lists.{Every}
-use Rattle.store.specs.Columns.{share}
+use Rattle.store.specs.Parts.{share}
 use Rattle.store.proofs.Pairs.{every-append}
 use Rattle.store.proofs.Shares.{length-share-le}
 use Rattle.places.specs.Places.{PlacesRise, isTimeOf, placesWhere}

@@ -1,7 +1,7 @@
 -- `columns::are_readings` meets its contract: what is found so far, with the test of what is left, stays the same. Assumes nothing.
 use Prim.Native.Nat.{_-_}
 use native.Mathlib.Omega.{arith}
-use Rattle.columns.specs.Tests.{isReadingKind}
+use Rattle.columns.specs.Shape.{isReadingKind}
 use Rattle.columns.proofs.Tests.{AllSoFar, all-start, all-turn, all-end}
 use Rattle.columns.proofs.are_readings.Statement.{statement}
 use Rattle.columns.proofs.are_readings.Tie as tie

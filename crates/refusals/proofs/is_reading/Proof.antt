@@ -1,6 +1,6 @@
 -- `refusals::is_reading` meets its contract, which is its expression. Assumes nothing.
 use mathlib.Core.Path.{refl}
-use Rattle.columns.specs.Tests.{isReadingKind}
+use Rattle.columns.specs.Shape.{isReadingKind}
 use Rattle.refusals.proofs.is_reading.Statement.{statement}
 use Rattle.refusals.proofs.is_reading.Tie as tie
 

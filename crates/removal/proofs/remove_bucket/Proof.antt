@@ -6,7 +6,8 @@ use mathlib.Core.Bool.{false}
 use native.Mathlib.Omega.{arith}
 use borrow.Author.Needs.{needs}
 use lib.ListN.{length, replicate}
-use Rattle.store.specs.Columns.{Columns, columnsOf, share}
+use Rattle.store.specs.Columns.{Columns, columnsOf}
+use Rattle.store.specs.Parts.{share}
 use Rattle.store.proofs.Columns.{Room, room}
 use Rattle.places.specs.Places.{placesWhere, isTimeOf}
 use Rattle.removal.proofs.Closed.{selected, selected-rise, outside-kept, kept-whole, closed-rows}

@@ -3,7 +3,8 @@ use mir.Syntax.{w32}
 use mir.Val.{SFits}
 use mir.Facts.{toZ-ofZ}
 use borrow.Author.Needs.{needs}
-use Rattle.store.specs.Columns.{storeLength, withRowsAt}
+use Rattle.store.specs.Columns.{storeLength}
+use Rattle.store.specs.Parts.{withRowsAt}
 use Rattle.shares.proofs.place.Statement.{statement}
 use Rattle.shares.proofs.place.Tie as tie
 

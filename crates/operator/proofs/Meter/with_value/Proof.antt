@@ -6,7 +6,8 @@ use native.Mathlib.Omega.{arith}
 use Prim.Native.Nat.{_+_}
 use lib.IntN.{_+ℤ_}
 use borrow.Author.Needs.{needs}
-use Rattle.operator.specs.Meters.{withValue, withOlderValue}
+use Rattle.operator.specs.Meters.{withValue}
+use Rattle.operator.specs.Parts.{withOlderValue}
 use Rattle.operator.proofs.Sums.{range-fits, add-range}
 use Rattle.operator.proofs.Meter.with_value.Statement.{statement}
 use Rattle.operator.proofs.Meter.with_value.Tie as tie

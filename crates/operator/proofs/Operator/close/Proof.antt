@@ -13,7 +13,7 @@ use Rattle.store.proofs.Pairs.{every-at}
 use Rattle.operator.specs.declared.Meter.{Meter}
 use Rattle.operator.specs.declared.NextResult.the-variants as NextResult
 use Rattle.operator.specs.Meters.{meterCount, noMeter}
-use Rattle.operator.specs.Results.{nextResult}
+use Rattle.operator.specs.Parts.{nextResult}
 use Rattle.operator.proofs.FromPlace.{length-mapped}
 use Rattle.operator.proofs.Laying.{Laying, RoomFor, laying-begins, room-next, laying-next, laying-ends, rest-of-window, close-cleared}
 use Rattle.operator.proofs.Operator.close.Statement.{statement}

@@ -7,7 +7,7 @@ use native.Mathlib.Omega.{arith}
 use borrow.Author.Needs.{needs}
 use lib.ListN.{length}
 use Rattle.operator.specs.Meters.{meterCount, noMeter}
-use Rattle.operator.specs.Results.{nextResult}
+use Rattle.operator.specs.Parts.{nextResult}
 use Rattle.operator.proofs.FromPlace.{length-mapped, next-from-giver, next-from-other, next-from-end}
 use Rattle.operator.proofs.Operator.next_result.Statement.{statement}
 use Rattle.operator.proofs.Operator.next_result.Tie as tie
