@@ -13,23 +13,22 @@ use Rattle.protocol.specs.Node.{Node, opened}
 use Rattle.protocol.specs.Refusals.{answerTo}
 use Rattle.protocol.specs.Monitor.{stableBuckets, leftToWork}
 use Rattle.protocol.specs.FailureFree.{failureFree}
-use Rattle.protocol.specs.Undos.{struck, doneDue}
+use Rattle.protocol.specs.Undos.{applied, struck, stableRecords, doneDue}
 use Rattle.protocol.specs.Runs.{Event, Trace, start, next, after}
-use Rattle.protocol.specs.Demand.{stableResults, sent, boundaries}
+use Rattle.protocol.specs.Demand.{stableResults, itself, sent, boundaries}
 use Rattle.protocol.specs.Demand as meaning
 use Rattle.protocol.proofs.Theorem as meaningProved
 use Rattle.node.specs.View.{view}
 use Rattle.node.proofs.Limits.{Limits}
 use Rattle.node.proofs.Opening as opening
 use Rattle.node.proofs.Calls.{accepted-call}
-use Rattle.consistency.specs.Runs.{Box, Input, called, left, leftAfter}
-use Rattle.consistency.specs.Undos.{pieceKind, appliedPieces, struckPieces, stablePieces, doneDueIn}
+use Rattle.consistency.specs.Runs.{Box, Input, called, left, leftAfter, recordIn}
 use Rattle.consistency.specs.Accounts.{Account, emptyAccount, sentIn, boundariesIn}
 use Rattle.consistency.specs.Demand.{Handed, opening as openingOf, isOpened, boxOf, settingsIn, accountOf, outputOf, failureFreeBytes, remaining, Clean, Steps, Demand3}
 use Rattle.store.proofs.Pairs.{every-right}
 use Rattle.node.proofs.Fits.{opened-fits}
 use Rattle.node.proofs.Records.{Decodes}
-use Rattle.consistency.proofs.Undos.{every-applied, every-struck, appliedPieces-bytesOf, struckPieces-bytesOf, stablePieces-bytesOf, doneDueIn-bytesOf, tentative-bytesOf}
+use Rattle.consistency.proofs.Undos.{every-applied, every-struck, applied-bytesOf, struck-bytesOf, stableRecords-bytesOf, doneDue-bytesOf, tentative-bytesOf}
 use Rattle.consistency.proofs.Runs.{Stands, accountIn, eventOf, eventsOf, event-accepted, event-refused, call-follows, runs}
 use Rattle.consistency.proofs.Refused.{refused}
 use Rattle.consistency.proofs.ShapedRuns.{in-shape}
@@ -97,23 +96,23 @@ clean h e is =
     let m = mirrors h e is in
     let c = meaningProved.demand3 .clean s (some-bucket h e) (some-lines h e) (eventsOf (boxOf h) is) in
     let free = free-bytes h is m in
-    let strikes : struckPieces [] (outputOf h is) ≡ map bytesOf (struck [] (t .output)) =
-    ap (struckPieces []) (m .laid) ∙ struckPieces-bytesOf [] (t .output) tt (m .decode) in
+    let strikes : struck recordIn [] (outputOf h is) ≡ map bytesOf (struck itself [] (t .output)) =
+    ap (struck recordIn []) (m .laid) ∙ struck-bytesOf [] (t .output) tt (m .decode) in
     let all : Every Decodes (stableResults s t ++ c .tentative) =
     subst (Every Decodes) (c .undone) (every-applied Decodes [] (t .output) tt (m .decode)) in
     record {
       tentative = map bytesOf (c .tentative);
       undone =
-          ap (appliedPieces []) (m .laid) ∙ appliedPieces-bytesOf [] (t .output) tt (m .decode) ∙
+          ap (applied recordIn []) (m .laid) ∙ applied-bytesOf [] (t .output) tt (m .decode) ∙
           ap (map bytesOf) (c .undone) ∙ map-append bytesOf (stableResults s t) (c .tentative) ∙
           ap (λ (l : List (List ℕ)). l ++ map bytesOf (c .tentative)) (sym free);
       allTentative =
           tentative-bytesOf (c .tentative) (every-right Decodes (stableResults s t) (c .tentative) all) (c .allTentative);
       neverStruck =
-          subst (Every (λ (b : List ℕ). isTentative (pieceKind b) ≡ true)) (sym strikes)
-          (tentative-bytesOf (struck [] (t .output)) (every-struck Decodes [] (t .output) tt (m .decode)) (c .neverStruck));
+          subst (Every (λ (b : List ℕ). isTentative (recordIn b .kind) ≡ true)) (sym strikes)
+          (tentative-bytesOf (struck itself [] (t .output)) (every-struck Decodes [] (t .output) tt (m .decode)) (c .neverStruck));
       asTheyCame =
-          ap stablePieces (m .laid) ∙ stablePieces-bytesOf (t .output) (m .decode) ∙ ap (map bytesOf) (c .asTheyCame) ∙ sym free;
+          ap (stableRecords recordIn) (m .laid) ∙ stableRecords-bytesOf (t .output) (m .decode) ∙ ap (map bytesOf) (c .asTheyCame) ∙ sym free;
       worked = subst (λ (a : Account). a .monitor .d ≤ stableBuckets s (a .monitor)) (sym (m .account)) (c .worked);
     }
 
@@ -127,7 +126,7 @@ replicas :
     boundariesIn (accountOf h is) ≡ boundariesIn (accountOf g js) →
     remaining h is ≡ 0 →
     remaining g js ≡ 0 →
-    stablePieces (outputOf h is) ≡ stablePieces (outputOf g js)
+    stableRecords recordIn (outputOf h is) ≡ stableRecords recordIn (outputOf g js)
 unfolding sentIn sent boundariesIn boundaries remaining accountIn
 replicas h g eh eg same is js same-sent same-boundaries none-h none-g =
     let s = settingsIn h in
@@ -140,9 +139,9 @@ replicas h g eh eg same is js same-sent same-boundaries none-h none-g =
     (ap (λ (a : Account). leftToWork s (a .monitor)) (sym (m .account)) ∙ none-h)
     (ap (λ (a : Account). leftToWork s (a .monitor)) (sym (n .account)) ∙
     ap (λ (z : Settings). leftToWork z (accountOf g js .monitor)) same ∙ none-g) in
-    ap stablePieces (m .laid) ∙ stablePieces-bytesOf (traceOf s h is .output) (m .decode) ∙
+    ap (stableRecords recordIn) (m .laid) ∙ stableRecords-bytesOf (traceOf s h is .output) (m .decode) ∙
     ap (map bytesOf) results ∙
-    sym (ap stablePieces (n .laid) ∙ stablePieces-bytesOf (traceOf s g js .output) (n .decode))
+    sym (ap (stableRecords recordIn) (n .laid) ∙ stableRecords-bytesOf (traceOf s g js .output) (n .decode))
 
 -- ---- 4
 
@@ -188,8 +187,8 @@ after-append s t (e ∷ es) fs = after-append s (next s t e) es fs
 settled-bytes :
     (h : Handed) → isOpened h → (is js : List Input) →
     let u : Trace = after (settingsIn h) (traceOf (settingsIn h) h is) (eventsOf (leftAfter (boxOf h) is) js) in
-    (leftToWork (settingsIn h) (u .monitor) ≡ 0) × (doneDue false (u .output) ≡ false) →
-    (remaining h (is ++ js) ≡ 0) × (doneDueIn false (outputOf h (is ++ js)) ≡ false)
+    (leftToWork (settingsIn h) (u .monitor) ≡ 0) × (doneDue itself false (u .output) ≡ false) →
+    (remaining h (is ++ js) ≡ 0) × (doneDue recordIn false (outputOf h (is ++ js)) ≡ false)
 unfolding remaining accountIn
 settled-bytes h e is js settled =
     let s = settingsIn h in
@@ -198,8 +197,8 @@ settled-bytes h e is js settled =
     ap (after s (start s)) (events-append (boxOf h) is js) ∙
     after-append s (start s) (eventsOf (boxOf h) is) (eventsOf (leftAfter (boxOf h) is) js) in (
       ap (λ (a : Account). leftToWork s (a .monitor)) (m .account) ∙ ap (λ (t : Trace). leftToWork s (t .monitor)) same ∙ settled .0,
-      ap (doneDueIn false) (m .laid) ∙ doneDueIn-bytesOf false (traceOf s h (is ++ js) .output) (m .decode) ∙
-          ap (λ (t : Trace). doneDue false (t .output)) same ∙ settled .1,
+      ap (doneDue recordIn false) (m .laid) ∙ doneDue-bytesOf false (traceOf s h (is ++ js) .output) (m .decode) ∙
+          ap (λ (t : Trace). doneDue itself false (t .output)) same ∙ settled .1,
     )
 
 -- ---- whole

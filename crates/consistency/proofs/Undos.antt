@@ -1,5 +1,5 @@
--- Undos applied to records in bytes are undos applied to the records, where every record's bytes are read back as the record: kind and id
--- are then the record's, and every test has the same value on both sides. Assumes nothing.
+-- Undos applied to records in bytes are undos applied to the records, where every record's bytes are read back as the record: every
+-- test has the same value on both sides. Assumes nothing.
 use Prim.Native.Nat.{ℕ}
 use mathlib.Core.Path.{_≡_, refl, sym, _∙_, ap, ap₂}
 use mathlib.Core.Bool.{Bool, true, false, cond, not}
@@ -12,18 +12,14 @@ use Rattle.record.specs.Layout.{bytesOf}
 use Rattle.store.specs.Lists.{Every, keep}
 use Rattle.store.proofs.Pairs.{every-to, every-append, every-keep}
 use Rattle.store.proofs.Keeping.{keep-through}
-use Rattle.protocol.specs.Undos.{applyOne, applied, struckByOne, struck, doneDue}
-use Rattle.protocol.specs.Demand.{stableRecords}
-use Rattle.consistency.specs.Undos.{kindIn, idIn, pieceKind, pieceId, applyPiece, appliedPieces, struckPieces, stablePieces, doneDueIn}
+use Rattle.protocol.specs.Undos.{applyOne, applied, struckByOne, struck, stableRecords, doneDue}
+use Rattle.protocol.specs.Demand.{itself}
+use Rattle.consistency.specs.Runs.{readAs, recordIn}
 use Rattle.node.proofs.Records.{Decodes}
 
-pub pieceKind-bytesOf : (r : Record) → Decodes r → pieceKind (bytesOf r) ≡ r .kind
-unfolding pieceKind kindIn
-pieceKind-bytesOf r d = ap kindIn d
-
-pub pieceId-bytesOf : (r : Record) → Decodes r → pieceId (bytesOf r) ≡ r .id
-unfolding pieceId idIn
-pieceId-bytesOf r d = ap idIn d
+recordIn-bytesOf : (r : Record) → Decodes r → recordIn (bytesOf r) ≡ r
+unfolding recordIn readAs
+recordIn-bytesOf r d = ap readAs d
 
 -- ---- a choice, through a function
 
@@ -33,7 +29,7 @@ cond-through f false x y u v p q = q
 
 -- ---- undos applied
 
-pub every-applyOne : (law : Record → Type 0) (acc : List Record) (r : Record) → Every law acc → law r → Every law (applyOne acc r)
+pub every-applyOne : (law : Record → Type 0) (acc : List Record) (r : Record) → Every law acc → law r → Every law (applyOne itself acc r)
 unfolding applyOne
 every-applyOne law acc r h k =
     elim (isResult (r .kind)) as
@@ -46,81 +42,83 @@ every-applyOne law acc r h k =
           ]
     ]
 
-pub every-applied : (law : Record → Type 0) (acc rs : List Record) → Every law acc → Every law rs → Every law (applied acc rs)
+pub every-applied : (law : Record → Type 0) (acc rs : List Record) → Every law acc → Every law rs → Every law (applied itself acc rs)
 unfolding applied
 every-applied law acc [] h k = h
-every-applied law acc (r ∷ rs) h k = every-applied law (applyOne acc r) rs (every-applyOne law acc r h (k .0)) (k .1)
+every-applied law acc (r ∷ rs) h k = every-applied law (applyOne itself acc r) rs (every-applyOne law acc r h (k .0)) (k .1)
 
 -- a test on ids
-keep-ids : (test : ℕ → ℕ → Bool) (acc : List Record) (r : Record) → Every Decodes acc → Decodes r → keep (λ (x : List ℕ). test (pieceId x) (pieceId (bytesOf r))) (map bytesOf acc) ≡ map bytesOf (keep (λ (x : Record). test (x .id) (r .id)) acc)
-keep-ids test acc r h d =
-    keep-through bytesOf (λ (x : Record). test (x .id) (r .id)) (λ (x : List ℕ). test (pieceId x) (pieceId (bytesOf r))) acc
-    (every-to acc (λ (x : Record) (e : Decodes x). ap₂ test (pieceId-bytesOf x e) (pieceId-bytesOf r d)) h)
+keep-ids : (test : ℕ → Bool) (acc : List Record) → Every Decodes acc → keep (λ (x : List ℕ). test (recordIn x .id)) (map bytesOf acc) ≡ map bytesOf (keep (λ (x : Record). test (x .id)) acc)
+keep-ids test acc h =
+    keep-through bytesOf (λ (x : Record). test (x .id)) (λ (x : List ℕ). test (recordIn x .id)) acc
+    (every-to acc (λ (x : Record) (e : Decodes x). ap (λ (q : Record). test (q .id)) (recordIn-bytesOf x e)) h)
 
-applyPiece-bytesOf : (acc : List Record) (r : Record) → Every Decodes acc → Decodes r → applyPiece (map bytesOf acc) (bytesOf r) ≡ map bytesOf (applyOne acc r)
-unfolding applyPiece applyOne
-applyPiece-bytesOf acc r h d =
+applyOne-bytesOf : (acc : List Record) (r : Record) → Every Decodes acc → Decodes r → applyOne recordIn (map bytesOf acc) (bytesOf r) ≡ map bytesOf (applyOne itself acc r)
+unfolding applyOne
+applyOne-bytesOf acc r h d =
     let kept = keep (λ (x : Record). leb (x .id) (r .id)) acc in
-    let bytesKept = keep (λ (x : List ℕ). leb (pieceId x) (pieceId (bytesOf r))) (map bytesOf acc) in
-    rw (pieceKind-bytesOf r d)
+    let bytesKept = keep (λ (x : List ℕ). leb (recordIn x .id) (r .id)) (map bytesOf acc) in
+    rw (recordIn-bytesOf r d)
     (cond-through (map bytesOf) (isResult (r .kind)) (acc ++ r ∷ []) (cond (eqb (r .kind) letterU) kept acc)
     (map bytesOf acc ++ bytesOf r ∷ []) (cond (eqb (r .kind) letterU) bytesKept (map bytesOf acc))
     (sym (map-append bytesOf acc (r ∷ [])))
-    (cond-through (map bytesOf) (eqb (r .kind) letterU) kept acc bytesKept (map bytesOf acc) (keep-ids leb acc r h d) refl))
+    (cond-through (map bytesOf) (eqb (r .kind) letterU) kept acc bytesKept (map bytesOf acc)
+    (keep-ids (λ (n : ℕ). leb n (r .id)) acc h) refl))
 
-pub appliedPieces-bytesOf : (acc rs : List Record) → Every Decodes acc → Every Decodes rs → appliedPieces (map bytesOf acc) (map bytesOf rs) ≡ map bytesOf (applied acc rs)
-unfolding appliedPieces applied
-appliedPieces-bytesOf acc [] h k = refl
-appliedPieces-bytesOf acc (r ∷ rs) h k =
-    ap (λ (l : List (List ℕ)). appliedPieces l (map bytesOf rs)) (applyPiece-bytesOf acc r h (k .0)) ∙
-    appliedPieces-bytesOf (applyOne acc r) rs (every-applyOne Decodes acc r h (k .0)) (k .1)
+pub applied-bytesOf : (acc rs : List Record) → Every Decodes acc → Every Decodes rs → applied recordIn (map bytesOf acc) (map bytesOf rs) ≡ map bytesOf (applied itself acc rs)
+unfolding applied
+applied-bytesOf acc [] h k = refl
+applied-bytesOf acc (r ∷ rs) h k =
+    ap (λ (l : List (List ℕ)). applied recordIn l (map bytesOf rs)) (applyOne-bytesOf acc r h (k .0)) ∙
+    applied-bytesOf (applyOne itself acc r) rs (every-applyOne Decodes acc r h (k .0)) (k .1)
 
 -- ---- what they strike
 
-struckPiece-bytesOf : (acc : List Record) (r : Record) → Every Decodes acc → Decodes r → cond (eqb (pieceKind (bytesOf r)) letterU) (keep (λ (x : List ℕ). not (leb (pieceId x) (pieceId (bytesOf r)))) (map bytesOf acc)) [] ≡ map bytesOf (struckByOne acc r)
+struckByOne-bytesOf : (acc : List Record) (r : Record) → Every Decodes acc → Decodes r → struckByOne recordIn (map bytesOf acc) (bytesOf r) ≡ map bytesOf (struckByOne itself acc r)
 unfolding struckByOne
-struckPiece-bytesOf acc r h d =
-    rw (pieceKind-bytesOf r d)
+struckByOne-bytesOf acc r h d =
+    rw (recordIn-bytesOf r d)
     (cond-through (map bytesOf) (eqb (r .kind) letterU) (keep (λ (x : Record). not (leb (x .id) (r .id))) acc) []
-    (keep (λ (x : List ℕ). not (leb (pieceId x) (pieceId (bytesOf r)))) (map bytesOf acc)) []
-    (keep-ids (λ (a b : ℕ). not (leb a b)) acc r h d) refl)
+    (keep (λ (x : List ℕ). not (leb (recordIn x .id) (r .id))) (map bytesOf acc)) []
+    (keep-ids (λ (n : ℕ). not (leb n (r .id))) acc h) refl)
 
-pub struckPieces-bytesOf : (acc rs : List Record) → Every Decodes acc → Every Decodes rs → struckPieces (map bytesOf acc) (map bytesOf rs) ≡ map bytesOf (struck acc rs)
-unfolding struckPieces struck
-struckPieces-bytesOf acc [] h k = refl
-struckPieces-bytesOf acc (r ∷ rs) h k =
-    ap₂ _++_ (struckPiece-bytesOf acc r h (k .0))
-    (ap (λ (l : List (List ℕ)). struckPieces l (map bytesOf rs)) (applyPiece-bytesOf acc r h (k .0)) ∙
-    struckPieces-bytesOf (applyOne acc r) rs (every-applyOne Decodes acc r h (k .0)) (k .1)) ∙
-    sym (map-append bytesOf (struckByOne acc r) (struck (applyOne acc r) rs))
+pub struck-bytesOf : (acc rs : List Record) → Every Decodes acc → Every Decodes rs → struck recordIn (map bytesOf acc) (map bytesOf rs) ≡ map bytesOf (struck itself acc rs)
+unfolding struck
+struck-bytesOf acc [] h k = refl
+struck-bytesOf acc (r ∷ rs) h k =
+    ap₂ _++_ (struckByOne-bytesOf acc r h (k .0))
+    (ap (λ (l : List (List ℕ)). struck recordIn l (map bytesOf rs)) (applyOne-bytesOf acc r h (k .0)) ∙
+    struck-bytesOf (applyOne itself acc r) rs (every-applyOne Decodes acc r h (k .0)) (k .1)) ∙
+    sym (map-append bytesOf (struckByOne itself acc r) (struck itself (applyOne itself acc r) rs))
 
 -- every struck result was a result
-pub every-struck : (law : Record → Type 0) (acc rs : List Record) → Every law acc → Every law rs → Every law (struck acc rs)
+pub every-struck : (law : Record → Type 0) (acc rs : List Record) → Every law acc → Every law rs → Every law (struck itself acc rs)
 unfolding struck struckByOne
 every-struck law acc [] h k = tt
 every-struck law acc (r ∷ rs) h k =
-    every-append law (struckByOne acc r) (struck (applyOne acc r) rs)
+    every-append law (struckByOne itself acc r) (struck itself (applyOne itself acc r) rs)
     (elim (eqb (r .kind) letterU) as (λ b. Every law (cond b (keep (λ (x : Record). not (leb (x .id) (r .id))) acc) [])) [
       | true ↦ every-keep law (λ (x : Record). not (leb (x .id) (r .id))) acc h
       | false ↦ tt
     ])
-    (every-struck law (applyOne acc r) rs (every-applyOne law acc r h (k .0)) (k .1))
+    (every-struck law (applyOne itself acc r) rs (every-applyOne law acc r h (k .0)) (k .1))
 
 -- ---- the stable records, an R that is due, tentative kinds
 
-pub stablePieces-bytesOf : (rs : List Record) → Every Decodes rs → stablePieces (map bytesOf rs) ≡ map bytesOf (stableRecords rs)
-unfolding stablePieces stableRecords
-stablePieces-bytesOf rs h =
-    keep-through bytesOf (λ (r : Record). isStable (r .kind)) (λ (b : List ℕ). isStable (pieceKind b)) rs
-    (every-to rs (λ (r : Record) (d : Decodes r). ap isStable (pieceKind-bytesOf r d)) h)
+pub stableRecords-bytesOf : (rs : List Record) → Every Decodes rs → stableRecords recordIn (map bytesOf rs) ≡ map bytesOf (stableRecords itself rs)
+unfolding stableRecords
+stableRecords-bytesOf rs h =
+    keep-through bytesOf (λ (r : Record). isStable (r .kind)) (λ (b : List ℕ). isStable (recordIn b .kind)) rs
+    (every-to rs (λ (r : Record) (d : Decodes r). ap (λ (q : Record). isStable (q .kind)) (recordIn-bytesOf r d)) h)
 
-pub doneDueIn-bytesOf : (due : Bool) (rs : List Record) → Every Decodes rs → doneDueIn due (map bytesOf rs) ≡ doneDue due rs
-unfolding doneDueIn doneDue
-doneDueIn-bytesOf due [] h = refl
-doneDueIn-bytesOf due (r ∷ rs) h =
-    ap (λ (kind : ℕ). doneDueIn (cond (eqb kind letterU) true (cond (eqb kind letterR) false due)) (map bytesOf rs)) (pieceKind-bytesOf r (h .0)) ∙
-    doneDueIn-bytesOf (cond (eqb (r .kind) letterU) true (cond (eqb (r .kind) letterR) false due)) rs (h .1)
+pub doneDue-bytesOf : (due : Bool) (rs : List Record) → Every Decodes rs → doneDue recordIn due (map bytesOf rs) ≡ doneDue itself due rs
+unfolding doneDue
+doneDue-bytesOf due [] h = refl
+doneDue-bytesOf due (r ∷ rs) h =
+    ap (λ (q : Record). doneDue recordIn (cond (eqb (q .kind) letterU) true (cond (eqb (q .kind) letterR) false due)) (map bytesOf rs)) (recordIn-bytesOf r (h .0)) ∙
+    doneDue-bytesOf (cond (eqb (r .kind) letterU) true (cond (eqb (r .kind) letterR) false due)) rs (h .1)
 
-pub tentative-bytesOf : (rs : List Record) → Every Decodes rs → Every (λ (r : Record). isTentative (r .kind) ≡ true) rs → Every (λ (b : List ℕ). isTentative (pieceKind b) ≡ true) (map bytesOf rs)
+pub tentative-bytesOf : (rs : List Record) → Every Decodes rs → Every (λ (r : Record). isTentative (r .kind) ≡ true) rs → Every (λ (b : List ℕ). isTentative (recordIn b .kind) ≡ true) (map bytesOf rs)
 tentative-bytesOf [] h k = tt
-tentative-bytesOf (r ∷ rs) h k = (ap isTentative (pieceKind-bytesOf r (h .0)) ∙ k .0, tentative-bytesOf rs (h .1) (k .1))
+tentative-bytesOf (r ∷ rs) h k =
+    (ap (λ (q : Record). isTentative (q .kind)) (recordIn-bytesOf r (h .0)) ∙ k .0, tentative-bytesOf rs (h .1) (k .1))

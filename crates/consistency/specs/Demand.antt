@@ -13,11 +13,11 @@ use Rattle.store.specs.Lists.{Every}
 use Rattle.protocol.specs.Kinds.{Kind, kindOf}
 use Rattle.protocol.specs.Monitor.{stableBuckets, leftToWork}
 use Rattle.protocol.specs.FailureFree.{failureFree}
+use Rattle.protocol.specs.Undos.{applied, struck, stableRecords, doneDue}
 use Rattle.node.specs.declared.State.{State}
 use Rattle.store.specs.Columns.{Columns}
 use Rattle.node.specs.Opening.{Opened, openedOn}
-use Rattle.consistency.specs.Runs.{Box, Input, called, left, leftAfter, output}
-use Rattle.consistency.specs.Undos.{pieceKind, appliedPieces, struckPieces, stablePieces, doneDueIn}
+use Rattle.consistency.specs.Runs.{Box, Input, called, left, leftAfter, recordIn, output}
 use Rattle.consistency.specs.Accounts.{Account, emptyAccount, accountAfter, sentIn, boundariesIn}
 
 -- what is handed to an opening: any earlier state, also one in use, any store, any text
@@ -58,10 +58,10 @@ remaining h is = leftToWork (settingsIn h) (accountOf h is .monitor)
 -- struck; the stable records as they came are the failure-free results; no more buckets were worked than are stable
 pub record Clean (h : Handed) (is : List Input) : Type 0 where
   pub tentative : List (List ℕ)
-  pub undone : appliedPieces [] (outputOf h is) ≡ failureFreeBytes h is ++ tentative
-  pub allTentative : Every (λ (b : List ℕ). isTentative (pieceKind b) ≡ true) tentative
-  pub neverStruck : Every (λ (b : List ℕ). isTentative (pieceKind b) ≡ true) (struckPieces [] (outputOf h is))
-  pub asTheyCame : stablePieces (outputOf h is) ≡ failureFreeBytes h is
+  pub undone : applied recordIn [] (outputOf h is) ≡ failureFreeBytes h is ++ tentative
+  pub allTentative : Every (λ (b : List ℕ). isTentative (recordIn b .kind) ≡ true) tentative
+  pub neverStruck : Every (λ (b : List ℕ). isTentative (recordIn b .kind) ≡ true) (struck recordIn [] (outputOf h is))
+  pub asTheyCame : stableRecords recordIn (outputOf h is) ≡ failureFreeBytes h is
   pub worked : accountOf h is .monitor .d ≤ stableBuckets (settingsIn h) (accountOf h is .monitor)
 
 -- so many accepted steps, and between them nothing but refused calls; the texts, clocks and areas are anything
@@ -96,12 +96,12 @@ pub record Demand3 : Type 0 where
       boundariesIn (accountOf h is) ≡ boundariesIn (accountOf g js) →
       remaining h is ≡ 0 →
       remaining g js ≡ 0 →
-      stablePieces (outputOf h is) ≡ stablePieces (outputOf g js)
+      stableRecords recordIn (outputOf h is) ≡ stableRecords recordIn (outputOf g js)
   -- 4: with k stable buckets left to work, k + 2 steps leave none, and every undo has its R behind it
   pub settles :
       (h : Handed) → isOpened h → (is js : List Input) →
       Steps (leftAfter (boxOf h) is) (remaining h is + 2) js →
-      (remaining h (is ++ js) ≡ 0) × (doneDueIn false (outputOf h (is ++ js)) ≡ false)
+      (remaining h (is ++ js) ≡ 0) × (doneDue recordIn false (outputOf h (is ++ js)) ≡ false)
   -- whatever is refused changes nothing
   pub refused : (b : Box) (i : Input) → (called b i .answer ≡ 0 → ⊥) → Unchanged b i
   -- 5, beyond the demand: from an opening on no call is refused for a short store or a state out of shape

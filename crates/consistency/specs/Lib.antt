@@ -1,5 +1,4 @@
 -- Demand 3 on texts, areas, states and columns: lists of calls, their output in bytes, undos applied to it, and the statement.
 pub mod Runs
-pub mod Undos
 pub mod Accounts
 pub mod Demand

@@ -3,7 +3,12 @@
 use Prim.Native.Nat.{ℕ, zero, suc}
 use mathlib.Core.List.{List, [], _∷_, _++_}
 use lib.ListN.{take, drop}
+use Rattle.record.specs.declared.Record.{Record}
+use Rattle.record.specs.declared.Decoded.{Decoded}
+use Rattle.record.specs.declared.Decoded.the-variants as Decoded
 use Rattle.record.specs.Sizes.{recordBytes}
+use Rattle.record.specs.Decoded.{decoded}
+use Rattle.operator.specs.Results.{plain}
 use Rattle.node.specs.declared.State.{State}
 use Rattle.store.specs.Columns.{Columns}
 use Rattle.node.specs.Calls.{Called, calledOn}
@@ -32,6 +37,14 @@ leftAfter b (i ∷ is) = leftAfter (left b i) is
 unfoldable pub pieces : ℕ → List ℕ → List (List ℕ)
 pieces zero area = []
 pieces (suc n) area = take recordBytes area ∷ pieces n (drop recordBytes area)
+
+-- the record that bytes are read as; bytes that are none give one of no kind
+unfoldable pub readAs : Decoded → Record
+readAs (Decoded.Is r) = r
+readAs Decoded.Malformed = plain 0 0 (record { 0 = 0 })
+
+unfoldable pub recordIn : List ℕ → Record
+recordIn piece = readAs (decoded piece)
 
 -- all records of a list of calls, in order, read as each call returns
 unfoldable pub output : Box → List Input → List (List ℕ)

@@ -11,9 +11,8 @@ use Rattle.protocol.specs.Node.{noLine, opened}
 use Rattle.protocol.specs.Rules.{isCorrecting}
 use Rattle.protocol.specs.Monitor.{freshMonitor}
 use Rattle.protocol.specs.FailureFree.{failureFree}
-use Rattle.protocol.specs.Undos.{applied, struck, doneDue}
+use Rattle.protocol.specs.Undos.{applied, struck, stableRecords, doneDue}
 use Rattle.protocol.specs.Runs.{Event, start, after}
-use Rattle.protocol.specs.Demand.{stableRecords}
 use Rattle.protocol.proofs.Places.{Each, done, more}
 use Rattle.protocol.proofs.Lines.{Agrees}
 use Rattle.protocol.proofs.Invariant.{Invariant, after-kept}

@@ -23,8 +23,8 @@ use Rattle.operator.specs.Work.{Worked}
 use Rattle.protocol.specs.declared.Phase.{Phase}
 use Rattle.protocol.specs.declared.Phase.the-variants as Phase
 use Rattle.protocol.specs.Rules.{isCorrecting, boundaryAt}
-use Rattle.protocol.specs.Undos.{applyOne, applied, struckByOne, struck, doneDue}
-use Rattle.protocol.specs.Demand.{stableRecords}
+use Rattle.protocol.specs.Undos.{applyOne, applied, struckByOne, struck, stableRecords, doneDue}
+use Rattle.protocol.specs.Demand.{itself}
 use Rattle.protocol.proofs.Numbers.{Numbered, wider, Onward}
 use Rattle.protocol.proofs.Undos.{
   applied-append,
@@ -46,40 +46,40 @@ pub record Measured (c p : ℕ) (phase : Phase) (operator checkpoint : Operator)
   pub number : checkpoint .number ≤ operator .number
   pub tentative : List Record
   pub level : c ≡ p → (operator ≡ checkpoint) × (tentative ≡ [])
-  pub undone : applied [] output ≡ past .records ++ tentative
+  pub undone : applied itself [] output ≡ past .records ++ tentative
   pub numbers : Every (Numbered letterT (checkpoint .number) (operator .number)) tentative
-  pub strikes : Every (λ (r : Record). r .kind ≡ letterT) (struck [] output)
-  pub due : doneDue false output ≡ isCorrecting phase
-  pub asTheyCame : stableRecords output ≡ past .records
+  pub strikes : Every (λ (r : Record). r .kind ≡ letterT) (struck itself [] output)
+  pub due : doneDue itself false output ≡ isCorrecting phase
+  pub asTheyCame : stableRecords itself output ≡ past .records
 
 -- stable records of parts of an output
 
-stable-append : (xs ys : List Record) → stableRecords (xs ++ ys) ≡ stableRecords xs ++ stableRecords ys
+stable-append : (xs ys : List Record) → stableRecords itself (xs ++ ys) ≡ stableRecords itself xs ++ stableRecords itself ys
 unfolding stableRecords
 stable-append xs ys = keep-append (λ (r : Record). isStable (r .kind)) xs ys
 
-all-stable : (rs : List Record) → Every (λ (r : Record). r .kind ≡ letterS) rs → stableRecords rs ≡ rs
+all-stable : (rs : List Record) → Every (λ (r : Record). r .kind ≡ letterS) rs → stableRecords itself rs ≡ rs
 unfolding stableRecords isStable
 all-stable rs h = keep-all (λ (r : Record). isStable (r .kind)) rs (every-to rs (λ r e. ap isStable e) h)
 
-none-stable : (rs : List Record) → Every (λ (r : Record). r .kind ≡ letterT) rs → stableRecords rs ≡ []
+none-stable : (rs : List Record) → Every (λ (r : Record). r .kind ≡ letterT) rs → stableRecords itself rs ≡ []
 unfolding stableRecords isStable
 none-stable rs h = keep-none (λ (r : Record). isStable (r .kind)) rs (every-to rs (λ r e. ap isStable e) h)
 
-undo-not-stable : (n : ℕ) (time : ReadingTime) → stableRecords (plain letterU n time ∷ []) ≡ []
+undo-not-stable : (n : ℕ) (time : ReadingTime) → stableRecords itself (plain letterU n time ∷ []) ≡ []
 unfolding stableRecords isStable plain keep
 undo-not-stable n time = refl
 
-done-not-stable : (n : ℕ) (time : ReadingTime) → stableRecords (plain letterR n time ∷ []) ≡ []
+done-not-stable : (n : ℕ) (time : ReadingTime) → stableRecords itself (plain letterR n time ∷ []) ≡ []
 unfolding stableRecords isStable plain keep
 done-not-stable n time = refl
 
 -- the boundary that follows a window says nothing of results
 pub record Silent (results : List Record) (due : Bool) (rs : List Record) : Type 0 where
-  pub applies : applied results rs ≡ results
-  pub strikes : struck results rs ≡ []
-  pub keepsDue : doneDue due rs ≡ due
-  pub stables : stableRecords rs ≡ []
+  pub applies : applied itself results rs ≡ results
+  pub strikes : struck itself results rs ≡ []
+  pub keepsDue : doneDue itself due rs ≡ due
+  pub stables : stableRecords itself rs ≡ []
 
 boundary-silent : (s : Settings) (j : ℕ) (results : List Record) (due : Bool) → Silent results due (boundaryAt s j)
 unfolding boundaryAt applied struck doneDue applyOne struckByOne isResult isStable isTentative plain keep stableRecords
@@ -90,19 +90,19 @@ boundary-silent s j results due =
       | false ↦ record { applies = refl; strikes = refl; keepsDue = refl; stables = refl }
     ]
 
-undo-due : (due : Bool) (n : ℕ) (time : ReadingTime) → doneDue due (plain letterU n time ∷ []) ≡ true
+undo-due : (due : Bool) (n : ℕ) (time : ReadingTime) → doneDue itself due (plain letterU n time ∷ []) ≡ true
 unfolding doneDue plain
 undo-due due n time = refl
 
 module _ (c p : ℕ) (phase : Phase) (operator checkpoint : Operator) (past : Worked) (output : List Record) (v : Measured c p phase operator checkpoint past output) where
-  more-struck : (xs : List Record) → Every (λ (r : Record). r .kind ≡ letterT) (struck (applied [] output) xs) → Every (λ (r : Record). r .kind ≡ letterT) (struck [] (output ++ xs))
+  more-struck : (xs : List Record) → Every (λ (r : Record). r .kind ≡ letterT) (struck itself (applied itself [] output) xs) → Every (λ (r : Record). r .kind ≡ letterT) (struck itself [] (output ++ xs))
   more-struck xs h =
-      rw (struck-append [] output xs) (every-append _ (struck [] output) (struck (applied [] output) xs) (v .strikes) h)
+      rw (struck-append [] output xs) (every-append _ (struck itself [] output) (struck itself (applied itself [] output) xs) (v .strikes) h)
 
-  none-struck : (xs : List Record) → struck (applied [] output) xs ≡ [] → Every (λ (r : Record). r .kind ≡ letterT) (struck [] (output ++ xs))
+  none-struck : (xs : List Record) → struck itself (applied itself [] output) xs ≡ [] → Every (λ (r : Record). r .kind ≡ letterT) (struck itself [] (output ++ xs))
   none-struck xs e = more-struck xs (rw e tt)
 
-  no-more-stable : (xs : List Record) → stableRecords xs ≡ [] → stableRecords (output ++ xs) ≡ past .records
+  no-more-stable : (xs : List Record) → stableRecords itself xs ≡ [] → stableRecords itself (output ++ xs) ≡ past .records
   no-more-stable xs e = stable-append output xs ∙ rw (v .asTheyCame, e) (append-nil _)
 
   pub measured-withdraw : Every (Numbered letterS 0 (past .operator .number)) (past .records) → (time : ReadingTime) → Measured c c Phase.Correcting checkpoint checkpoint past (output ++ plain letterU (checkpoint .number) time ∷ [])
@@ -123,7 +123,7 @@ module _ (c p : ℕ) (phase : Phase) (operator checkpoint : Operator) (past : Wo
             (every-to (v .tentative) (λ r b. b .kind) (v .numbers)));
         due =
             doneDue-append false output (plain letterU (checkpoint .number) time ∷ []) ∙
-            undo-due (doneDue false output) (checkpoint .number) time;
+            undo-due (doneDue itself false output) (checkpoint .number) time;
         asTheyCame = no-more-stable _ (undo-not-stable (checkpoint .number) time);
       }
     where
@@ -154,9 +154,9 @@ module _ (c p : ℕ) (phase : Phase) (operator checkpoint : Operator) (past : Wo
         numbers = tt;
         strikes =
             none-struck _
-            (struck-append (applied [] output) (w .records) (boundaryAt s j) ∙
-            rw (struck-results (applied [] output) (w .records) are)
-            (boundary-silent s j (applied (applied [] output) (w .records)) false .strikes));
+            (struck-append (applied itself [] output) (w .records) (boundaryAt s j) ∙
+            rw (struck-results (applied itself [] output) (w .records) are)
+            (boundary-silent s j (applied itself (applied itself [] output) (w .records)) false .strikes));
         due =
             doneDue-append false output _ ∙ doneDue-append _ (w .records) (boundaryAt s j) ∙ boundary-silent s j [] _ .keepsDue ∙
             doneDue-results _ (w .records) are ∙ v .due;
@@ -197,12 +197,12 @@ module _ (c p : ℕ) (phase : Phase) (operator checkpoint : Operator) (past : Wo
         tentative = v .tentative ++ w .records;
         level = λ e. absurd (omega arith);
         undone =
-            applied-append [] output (w .records) ∙ applied-results (applied [] output) (w .records) are ∙
+            applied-append [] output (w .records) ∙ applied-results (applied itself [] output) (w .records) are ∙
             rw (v .undone) (append-assoc (past .records) (v .tentative) (w .records));
         numbers =
             every-append _ (v .tentative) (w .records) (every-to (v .tentative) (wider _ _ (le-refl _) (f .rises)) (v .numbers))
             (every-to (w .records) (wider _ _ (v .number) (le-refl _)) (f .each));
-        strikes = none-struck _ (struck-results (applied [] output) (w .records) are);
+        strikes = none-struck _ (struck-results (applied itself [] output) (w .records) are);
         due = doneDue-append false output (w .records) ∙ doneDue-results _ (w .records) are ∙ v .due ∙ m;
         asTheyCame = no-more-stable _ (none-stable (w .records) kinds);
       }

@@ -16,7 +16,7 @@ use Rattle.protocol.specs.Refusals.{answerTo}
 use Rattle.protocol.specs.Monitor.{Monitor, stableBuckets, leftToWork, observeKind, observe}
 use Rattle.protocol.specs.Undos.{doneDue}
 use Rattle.protocol.specs.Runs.{Event, Trace, isAccepted, next}
-use Rattle.protocol.specs.Demand.{Steps, rest, step}
+use Rattle.protocol.specs.Demand.{itself, Steps, rest, step}
 use Rattle.protocol.proofs.Rules.{monitorRule, monitorAct, monitor-step, rule-cases}
 use Rattle.protocol.proofs.Invariant.{Invariant, next-kept}
 
@@ -98,7 +98,7 @@ steps-down s room {u} (step {t = t} {n = n} k e a q) v =
     rw (next-monitor s t k e a) (step-down s (t .monitor) (k .now .0)) in
     (r .0, omega arith)
 
-pub settled : (s : Settings) → 0 < s .bucket → {n : ℕ} (t u : Trace) → Invariant s t → Steps s t n u → stepsLeft s (t .monitor) ≤ n → (leftToWork s (u .monitor) ≡ 0) × (doneDue false (u .output) ≡ false)
+pub settled : (s : Settings) → 0 < s .bucket → {n : ℕ} (t u : Trace) → Invariant s t → Steps s t n u → stepsLeft s (t .monitor) ≤ n → (leftToWork s (u .monitor) ≡ 0) × (doneDue itself false (u .output) ≡ false)
 unfolding leftToWork stepsLeft
 settled s room {n} t u v q enough =
     let r : Invariant s u × (stepsLeft s (u .monitor) ≤ stepsLeft s (t .monitor) - n) = steps-down s room q v in

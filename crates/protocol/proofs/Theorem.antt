@@ -19,9 +19,9 @@ use Rattle.operator.specs.Work.{Worked}
 use Rattle.protocol.specs.Node.{Line}
 use Rattle.protocol.specs.Monitor.{LineMonitor, leastBoundary, stableBuckets, leftToWork}
 use Rattle.protocol.specs.FailureFree.{failureFree}
-use Rattle.protocol.specs.Undos.{applied, struck}
+use Rattle.protocol.specs.Undos.{applied, struck, stableRecords}
 use Rattle.protocol.specs.Runs.{Trace, start, after}
-use Rattle.protocol.specs.Demand.{stableResults, stableRecords, Clean, boundaries, sent, Demand3}
+use Rattle.protocol.specs.Demand.{stableResults, itself, Clean, boundaries, sent, Demand3}
 use Rattle.protocol.proofs.Places.{Each, done, more}
 use Rattle.protocol.proofs.Lines.{Agrees}
 use Rattle.protocol.proofs.Rules.{all-least}
@@ -56,7 +56,7 @@ tentative-letter : (r : Record) → r .kind ≡ letterT → isTentative (r .kind
 unfolding isTentative
 tentative-letter r e = ap isTentative e
 
-came : (s : Settings) (t : Trace) → Invariant s t → stableRecords (t .output) ≡ stableResults s t
+came : (s : Settings) (t : Trace) → Invariant s t → stableRecords itself (t .output) ≡ stableResults s t
 unfolding stableResults
 came s t v = v .output .asTheyCame ∙ ap (λ n. failureFree s (t .stables) n .records) (v .same-c)
 
@@ -66,7 +66,7 @@ clean-after s room t v =
     record {
       tentative = v .output .tentative;
       undone =
-          subst (λ n. applied [] (t .output) ≡ failureFree s (t .stables) n .records ++ v .output .tentative) (v .same-c)
+          subst (λ n. applied itself [] (t .output) ≡ failureFree s (t .stables) n .records ++ v .output .tentative) (v .same-c)
           (v .output .undone);
       allStable =
           every-to (failureFree s (t .stables) (t .monitor .d) .records)
@@ -76,7 +76,7 @@ clean-after s room t v =
           every-to (v .output .tentative)
           (λ r (b : Numbered letterT (t .node .checkpoint .number) (t .node .operator .number) r). tentative-letter r (b .kind))
           (v .output .numbers);
-      neverStruck = every-to (struck [] (t .output)) (λ r e. tentative-letter r e) (v .output .strikes);
+      neverStruck = every-to (struck itself [] (t .output)) (λ r e. tentative-letter r e) (v .output .strikes);
       asTheyCame = came s t v;
       worked = worked-stable s room t v;
     }

@@ -15,20 +15,21 @@ use Rattle.store.proofs.Pairs.{every-to}
 use Rattle.store.proofs.Keeping.{keep-append, keep-all, keep-none}
 use Rattle.operator.specs.Results.{plain}
 use Rattle.protocol.specs.Undos.{applyOne, applied, struckByOne, struck, doneDue}
+use Rattle.protocol.specs.Demand.{itself}
 
-pub applied-append : (results xs ys : List Record) → applied results (xs ++ ys) ≡ applied (applied results xs) ys
+pub applied-append : (results xs ys : List Record) → applied itself results (xs ++ ys) ≡ applied itself (applied itself results xs) ys
 unfolding applied
 applied-append results [] ys = refl
-applied-append results (x ∷ xs) ys = applied-append (applyOne results x) xs ys
+applied-append results (x ∷ xs) ys = applied-append (applyOne itself results x) xs ys
 
-pub struck-append : (results xs ys : List Record) → struck results (xs ++ ys) ≡ struck results xs ++ struck (applied results xs) ys
+pub struck-append : (results xs ys : List Record) → struck itself results (xs ++ ys) ≡ struck itself results xs ++ struck itself (applied itself results xs) ys
 unfolding struck applied
 struck-append results [] ys = refl
 struck-append results (x ∷ xs) ys =
-    rw (struck-append (applyOne results x) xs ys)
-    (sym (append-assoc (struckByOne results x) (struck (applyOne results x) xs) (struck (applied (applyOne results x) xs) ys)))
+    rw (struck-append (applyOne itself results x) xs ys)
+    (sym (append-assoc (struckByOne itself results x) (struck itself (applyOne itself results x) xs) (struck itself (applied itself (applyOne itself results x) xs) ys)))
 
-pub doneDue-append : (due : Bool) (xs ys : List Record) → doneDue due (xs ++ ys) ≡ doneDue (doneDue due xs) ys
+pub doneDue-append : (due : Bool) (xs ys : List Record) → doneDue itself due (xs ++ ys) ≡ doneDue itself (doneDue itself due xs) ys
 unfolding doneDue
 doneDue-append due [] ys = refl
 doneDue-append due (x ∷ xs) ys =
@@ -50,25 +51,25 @@ unfolding isResult isStable isTentative
 tentative-result r e =
     record { result = ap isResult e; noUndo = ap (λ n. eqb n letterU) e; noDone = ap (λ n. eqb n letterR) e }
 
-pub applied-results : (results rs : List Record) → Every IsResult rs → applied results rs ≡ results ++ rs
+pub applied-results : (results rs : List Record) → Every IsResult rs → applied itself results rs ≡ results ++ rs
 unfolding applied applyOne
 applied-results results [] h = sym (append-nil results)
 applied-results results (r ∷ rs) h =
     rw (h .0 .result) (applied-results (results ++ r ∷ []) rs (h .1) ∙ append-assoc results (r ∷ []) rs)
 
-pub struck-results : (results rs : List Record) → Every IsResult rs → struck results rs ≡ []
+pub struck-results : (results rs : List Record) → Every IsResult rs → struck itself results rs ≡ []
 unfolding struck struckByOne
 struck-results results [] h = refl
-struck-results results (r ∷ rs) h = rw (h .0 .noUndo) (struck-results (applyOne results r) rs (h .1))
+struck-results results (r ∷ rs) h = rw (h .0 .noUndo) (struck-results (applyOne itself results r) rs (h .1))
 
-pub doneDue-results : (due : Bool) (rs : List Record) → Every IsResult rs → doneDue due rs ≡ due
+pub doneDue-results : (due : Bool) (rs : List Record) → Every IsResult rs → doneDue itself due rs ≡ due
 unfolding doneDue
 doneDue-results due [] h = refl
 doneDue-results due (r ∷ rs) h = rw (h .0 .noUndo, h .0 .noDone) (doneDue-results due rs (h .1))
 
 -- an undo at n of results up to n and then results above it
 module _ (n : ℕ) (time : ReadingTime) (xs ys : List Record) (low : Every (λ (r : Record). r .id ≤ n) xs) (high : Every (λ (r : Record). n < r .id) ys) where
-  pub undo-applied : applied (xs ++ ys) (plain letterU n time ∷ []) ≡ xs
+  pub undo-applied : applied itself (xs ++ ys) (plain letterU n time ∷ []) ≡ xs
   unfolding applied applyOne isResult isStable isTentative plain
   undo-applied =
       keep-append _ xs ys ∙
@@ -76,7 +77,7 @@ module _ (n : ℕ) (time : ReadingTime) (xs ys : List Record) (low : Every (λ (
       (keep-none _ ys (every-to ys (λ x h. lt-leb (x .id) n h) high)) ∙
       append-nil xs
 
-  pub undo-struck : struck (xs ++ ys) (plain letterU n time ∷ []) ≡ ys
+  pub undo-struck : struck itself (xs ++ ys) (plain letterU n time ∷ []) ≡ ys
   unfolding struck struckByOne plain
   undo-struck =
       append-nil _ ∙

@@ -8,31 +8,31 @@ use Rattle.journal.specs.declared.Call.{Call}
 use Rattle.record.specs.declared.Record.{Record}
 use Rattle.record.specs.Kinds.{isStable, isTentative}
 use Rattle.store.specs.declared.Reading.{Reading}
-use Rattle.store.specs.Lists.{Every, keep}
+use Rattle.store.specs.Lists.{Every}
 use Rattle.protocol.specs.Kinds.{Kind, kindOf}
 use Rattle.protocol.specs.Refusals.{answerTo}
 use Rattle.protocol.specs.Monitor.{LineMonitor, stableBuckets, leftToWork}
 use Rattle.protocol.specs.FailureFree.{withoutArrival, failureFree}
-use Rattle.protocol.specs.Undos.{applied, struck, doneDue}
+use Rattle.protocol.specs.Undos.{applied, struck, stableRecords, doneDue}
 use Rattle.protocol.specs.Runs.{Event, Trace, start, next, after}
 
 -- the results of the failure-free run through exactly the buckets that the monitor has as worked
 unfoldable pub stableResults : Settings → Trace → List Record
 stableResults s t = failureFree s (t .stables) (t .monitor .d) .records
 
--- the records of stable results in an output, as they came
-unfoldable pub stableRecords : List Record → List Record
-stableRecords = keep (λ (r : Record). isStable (r .kind))
+-- a record is read as itself
+abbrev pub itself : Record → Record
+itself r = r
 
 -- the output with its undos applied is the failure-free results and then tentative ones; only tentative ones were struck; the stable
 -- records as they came are the failure-free results too
 pub record Clean (s : Settings) (t : Trace) : Type 0 where
   pub tentative : List Record
-  pub undone : applied [] (t .output) ≡ stableResults s t ++ tentative
+  pub undone : applied itself [] (t .output) ≡ stableResults s t ++ tentative
   pub allStable : Every (λ (r : Record). isStable (r .kind) ≡ true) (stableResults s t)
   pub allTentative : Every (λ (r : Record). isTentative (r .kind) ≡ true) tentative
-  pub neverStruck : Every (λ (r : Record). isTentative (r .kind) ≡ true) (struck [] (t .output))
-  pub asTheyCame : stableRecords (t .output) ≡ stableResults s t
+  pub neverStruck : Every (λ (r : Record). isTentative (r .kind) ≡ true) (struck itself [] (t .output))
+  pub asTheyCame : stableRecords itself (t .output) ≡ stableResults s t
   pub worked : t .monitor .d ≤ stableBuckets s (t .monitor)
 
 unfoldable pub boundaries : Trace → List ℕ
@@ -56,9 +56,9 @@ pub record Demand3 : Type 0 where
       boundaries (after s (start s) es) ≡ boundaries (after s (start s) fs) →
       leftToWork s (after s (start s) es .monitor) ≡ 0 →
       leftToWork s (after s (start s) fs .monitor) ≡ 0 →
-      stableRecords (after s (start s) es .output) ≡ stableRecords (after s (start s) fs .output)
+      stableRecords itself (after s (start s) es .output) ≡ stableRecords itself (after s (start s) fs .output)
   -- with k left to work, k + 2 steps leave none and no R due
   pub settles :
       (s : Settings) → 0 < s .bucket → 0 < s .lines → (es : List Event) (t : Trace) →
       Steps s (after s (start s) es) (leftToWork s (after s (start s) es .monitor) + 2) t →
-      (leftToWork s (t .monitor) ≡ 0) × (doneDue false (t .output) ≡ false)
+      (leftToWork s (t .monitor) ≡ 0) × (doneDue itself false (t .output) ≡ false)
