@@ -8,26 +8,13 @@ use Rattle.settings.specs.declared.Settings.{Settings}
 use Rattle.journal.specs.declared.Call.{Call}
 use Rattle.store.specs.Lists.{modify}
 use Rattle.protocol.specs.Kinds.{Kind, kindOf, isStep}
-use Rattle.protocol.specs.Node.{Node, onLine}
+use Rattle.protocol.specs.Node.{Node, withClock, withLines, onLine}
 use Rattle.protocol.specs.Rules.{Outcome, ruleOf, act}
 use Rattle.protocol.specs.Refusals.{answerTo}
 
 -- an input: only its line changes
 unfoldable pub input : Node → Call → Kind → Outcome
-input n k kind =
-    record {
-      node =
-          record {
-            clock = n .clock;
-            c = n .c;
-            p = n .p;
-            phase = n .phase;
-            operator = n .operator;
-            checkpoint = n .checkpoint;
-            lines = modify (onLine k kind) (k .line - 1) (n .lines);
-          };
-      records = [];
-    }
+input n k kind = record { node = withLines (modify (onLine k kind) (k .line - 1) (n .lines)) n; records = [] }
 
 -- what a call of this kind does
 unfoldable pub done : Settings → Node → Call → Kind → Outcome
@@ -35,20 +22,7 @@ done s n k kind = cond (isStep kind) (act s n (ruleOf s n (k .now))) (input n k 
 
 -- accepting a call sets the clock
 unfoldable pub accepted : ArrivalTick → Outcome → Outcome
-accepted now o =
-    record {
-      node =
-          record {
-            clock = now;
-            c = o .node .c;
-            p = o .node .p;
-            phase = o .node .phase;
-            operator = o .node .operator;
-            checkpoint = o .node .checkpoint;
-            lines = o .node .lines;
-          };
-      records = o .records;
-    }
+accepted now o = record { node = withClock now (o .node); records = o .records }
 
 -- a refused call changes nothing and gives no record
 unfoldable pub outcomeOf : Settings → Node → Call → Outcome

@@ -44,7 +44,9 @@ sent t = map (map withoutArrival) (t .stables)
 -- so many steps, none refused
 pub data Steps (s : Settings) : Trace → ℕ → Trace → Type 0 where
   rest : {t : Trace} → Steps s t zero t
-  step : {t u : Trace} {n : ℕ} (k : Call) → kindOf (k .kind) ≡ Kind.P → answerTo s (t .node) k ≡ 0 → Steps s (next s t (Event.journal k)) n u → Steps s t (suc n) u
+  step :
+      {t u : Trace} {n : ℕ} (k : Call) → kindOf (k .kind) ≡ Kind.P → answerTo s (t .node) k ≡ 0 →
+      Steps s (next s t (Event.journal k)) n u → Steps s t (suc n) u
 
 pub record Demand3 : Type 0 where
   -- after any list: clean

@@ -37,6 +37,34 @@ pub record Node : Type 0 where
   pub checkpoint : Operator
   pub lines : List Line
 
+-- ---- the node with one thing changed, the rest as it was
+
+abbrev pub withClock : ArrivalTick → Node → Node
+withClock clock n =
+    record { clock = clock; c = n .c; p = n .p; phase = n .phase; operator = n .operator; checkpoint = n .checkpoint; lines = n .lines }
+
+abbrev pub withBuckets : ℕ → ℕ → Node → Node
+withBuckets c p n =
+    record { clock = n .clock; c = c; p = p; phase = n .phase; operator = n .operator; checkpoint = n .checkpoint; lines = n .lines }
+
+abbrev pub withPhase : Phase → Node → Node
+withPhase phase n =
+    record { clock = n .clock; c = n .c; p = n .p; phase = phase; operator = n .operator; checkpoint = n .checkpoint; lines = n .lines }
+
+abbrev pub withOperator : Operator → Node → Node
+withOperator operator n =
+    record { clock = n .clock; c = n .c; p = n .p; phase = n .phase; operator = operator; checkpoint = n .checkpoint; lines = n .lines }
+
+abbrev pub withCheckpoint : Operator → Node → Node
+withCheckpoint checkpoint n =
+    record { clock = n .clock; c = n .c; p = n .p; phase = n .phase; operator = n .operator; checkpoint = checkpoint; lines = n .lines }
+
+abbrev pub withLines : List Line → Node → Node
+withLines lines n =
+    record { clock = n .clock; c = n .c; p = n .p; phase = n .phase; operator = n .operator; checkpoint = n .checkpoint; lines = lines }
+
+-- ---- lines
+
 unfoldable pub noLine : Line
 noLine = record { boundary = record { 0 = 0 }; lastId = 0; lastStableId = 0; kept = [] }
 

@@ -15,7 +15,7 @@ use Rattle.store.specs.Lists.{keep, someOf}
 use Rattle.store.specs.Order.{isIn, inBucket}
 use Rattle.operator.specs.Results.{plain}
 use Rattle.operator.specs.Work.{Worked, work}
-use Rattle.protocol.specs.Node.{Line, Node, isStable, keptOf}
+use Rattle.protocol.specs.Node.{Line, Node, withBuckets, withPhase, withOperator, withCheckpoint, withLines, isStable, keptOf}
 use Rattle.protocol.specs.declared.Rule.{Rule}
 use Rattle.protocol.specs.declared.Rule.the-variants as Rule
 use Rattle.protocol.specs.declared.Phase.{Phase}
@@ -71,58 +71,22 @@ worked s kind j n = work s kind j (inBucket (s .bucket) j (keptOf (n .lines))) (
 unfoldable pub act : Settings → Node → Rule → Outcome
 act s n Rule.Withdraw =
     record {
-      node =
-          record {
-            clock = n .clock;
-            c = n .c;
-            p = n .c;
-            phase = Phase.Correcting;
-            operator = n .checkpoint;
-            checkpoint = n .checkpoint;
-            lines = n .lines;
-          };
+      node = withBuckets (n .c) (n .c) (withPhase Phase.Correcting (withOperator (n .checkpoint) n));
       records = plain letterU (n .checkpoint .number) (record { 0 = 0 }) ∷ [];
     }
 act s n Rule.WorkStable =
     record {
       node =
-          record {
-            clock = n .clock;
-            c = suc (n .c);
-            p = suc (n .p);
-            phase = n .phase;
-            operator = worked s letterS (n .c) n .operator;
-            checkpoint = worked s letterS (n .c) n .operator;
-            lines = map (without s (n .c)) (n .lines);
-          };
+          withBuckets (suc (n .c)) (suc (n .p))
+          (withOperator (worked s letterS (n .c) n .operator)
+          (withCheckpoint (worked s letterS (n .c) n .operator) (withLines (map (without s (n .c)) (n .lines)) n)));
       records = worked s letterS (n .c) n .records ++ boundaryAt s (n .c);
     }
 act s n Rule.EndCorrection =
-    record {
-      node =
-          record {
-            clock = n .clock;
-            c = n .c;
-            p = n .p;
-            phase = Phase.Stable;
-            operator = n .operator;
-            checkpoint = n .checkpoint;
-            lines = n .lines;
-          };
-      records = plain letterR 0 (record { 0 = 0 }) ∷ [];
-    }
+    record { node = withPhase Phase.Stable n; records = plain letterR 0 (record { 0 = 0 }) ∷ [] }
 act s n Rule.WorkTentative =
     record {
-      node =
-          record {
-            clock = n .clock;
-            c = n .c;
-            p = suc (n .p);
-            phase = Phase.Failure;
-            operator = worked s letterT (n .p) n .operator;
-            checkpoint = n .checkpoint;
-            lines = n .lines;
-          };
+      node = withBuckets (n .c) (suc (n .p)) (withPhase Phase.Failure (withOperator (worked s letterT (n .p) n .operator) n));
       records = worked s letterT (n .p) n .records;
     }
 act s n Rule.Idle = record { node = n; records = [] }
