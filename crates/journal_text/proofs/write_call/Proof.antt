@@ -24,7 +24,7 @@ returns : tie.Need-returns
 returns c =
     let b = c .before .before .before .before in
     let letter = sym (c .before .before .is-letter .ensures) ∙ c .before .if1 .taken in
-    short-area (b .args .c) (b .args .out .now) letter (c .if2 .taken)
+    short-area (b .args .c) (b .args .out .now) letter (omega (arith, c .if2 .taken))
 
 -- a call with a letter fits, so that its line is no longer than the longest
 parts-short : (c : tie.Then1) → length (callHead (c .before .before .before .args .c)) + length (callTail (c .before .before .before .args .c)) ≤ longestJournalLine
