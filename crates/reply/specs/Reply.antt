@@ -23,7 +23,7 @@ phaseWord Phase.Stable = 115 ∷ 116 ∷ 97 ∷ 98 ∷ 108 ∷ 101 ∷ []
 phaseWord Phase.Failure = 102 ∷ 97 ∷ 105 ∷ 108 ∷ 117 ∷ 114 ∷ 101 ∷ []
 phaseWord Phase.Correcting = 99 ∷ 111 ∷ 114 ∷ 114 ∷ 101 ∷ 99 ∷ 116 ∷ 105 ∷ 110 ∷ 103 ∷ []
 
--- the word of a state, by its number of lines and its phase: 'none' where no network is open
+-- the word of a state, by its number of lines and its phase: 'none' of a closed one, which has no lines
 unfoldable pub wordOf : ℕ → Phase → List ℕ
 wordOf lines phase = cond (eqb lines 0) (110 ∷ 111 ∷ 110 ∷ 101 ∷ []) (phaseWord phase)
 

@@ -1,18 +1,17 @@
 -- `journal::has_form` meets its contract, by the answer's case. Assumes nothing.
-use borrow.Author.Needs.{needs}
 use mathlib.Core.Path.{sym, _∙_}
 use Rattle.journal.specs.JournalLine.{callAnswer, hasForm}
 use Rattle.journal.proofs.has_form.Statement.{statement}
 use Rattle.journal.proofs.has_form.Tie as tie
 
 read-call-requires : tie.Need-read-call-requires
-read-call-requires c κs = search needs
+read-call-requires c κs = tt
 
 enum-told : tie.Need-enum-told
-enum-told c = search needs
+enum-told c = c .match .keys1
 
 enum-told-2 : tie.Need-enum-told-2
-enum-told-2 c = search needs
+enum-told-2 c = c .match .keys2
 
 returns : tie.Need-returns
 unfolding hasForm callAnswer

@@ -1,6 +1,5 @@
 -- `journal::letter_field` meets its contract: the key is there and the letter is read behind it, or nothing is read. Assumes nothing.
 use native.Mathlib.Omega.{arith}
-use borrow.Author.Needs.{needs}
 use mathlib.Core.Path.{_≡_, sym, _∙_}
 use mathlib.Core.Bool.{true, false}
 use lib.ListN.{drop, length-drop}
@@ -11,7 +10,7 @@ use Rattle.journal.proofs.letter_field.Statement.{statement}
 use Rattle.journal.proofs.letter_field.Tie as tie
 
 has-key-requires : tie.Need-has-key-requires
-has-key-requires c κs = search needs
+has-key-requires c κs = tt
 
 add-letter-at : tie.Need-add-letter-at
 add-letter-at c =
@@ -20,7 +19,7 @@ add-letter-at c =
     omega (arith, starts-room (a .key .now) (drop (a .at) (a .s .now)) stands, length-drop (a .at) (a .s .now))
 
 letter-at-requires : tie.Need-letter-at-requires
-letter-at-requires c κs = search needs
+letter-at-requires c κs = tt
 
 returns : tie.Need-returns
 unfolding letterField

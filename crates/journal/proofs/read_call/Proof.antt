@@ -1,5 +1,4 @@
 -- `journal::read_call` meets its contract: the answer is the definition's, which is exact. Assumes nothing.
-use borrow.Author.Needs.{needs}
 use mathlib.Core.Path.{_≡_, sym, subst, _∙_}
 use mathlib.Core.List.{List}
 use Prim.Native.Nat.{ℕ}
@@ -17,13 +16,13 @@ both : (text : List ℕ) (answer : CallRead) → answer ≡ callOf text → (ans
 both text answer q = (q, subst (ExactCall text) (sym q) (exact-call text))
 
 call-at-requires : tie.Need-call-at-requires
-call-at-requires c κs = search needs
+call-at-requires c κs = tt
 
 enum-known-c : tie.Need-enum-known-c
-enum-known-c c = search needs
+enum-known-c c = c .match .keys1
 
 enum-told : tie.Need-enum-told
-enum-told c = search needs
+enum-told c = c .match .keys2
 
 returns : tie.Need-returns
 unfolding callOf whole

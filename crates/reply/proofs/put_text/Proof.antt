@@ -19,10 +19,10 @@ part-write-text-end : tie.Need-part-write-text-end
 part-write-text-end c = search needs
 
 write-text-requires : tie.Need-write-text-requires
-write-text-requires c κs = search needs
+write-text-requires c κs = tt
 
 written-length-requires : tie.Need-written-length-requires
-written-length-requires c κs = search needs
+written-length-requires c κs = tt
 
 add-result : tie.Need-add-result
 add-result c =

@@ -1,17 +1,16 @@
 -- `reply::written_length` meets its contract: case by case. Assumes nothing.
-use borrow.Author.Needs.{needs}
 use Rattle.fields.specs.Written.{writtenLength}
 use Rattle.reply.proofs.written_length.Statement.{statement}
 use Rattle.reply.proofs.written_length.Tie as tie
 
 enum-known-w : tie.Need-enum-known-w
-enum-known-w c = search needs
+enum-known-w c = c .match .keys1
 
 enum-told : tie.Need-enum-told
-enum-told c = search needs
+enum-told c = c .match .keys2
 
 enum-told-2 : tie.Need-enum-told-2
-enum-told-2 c = search needs
+enum-told-2 c = c .match .keys3
 
 returns : tie.Need-returns
 unfolding writtenLength
