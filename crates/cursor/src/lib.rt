@@ -1,11 +1,17 @@
 // Where a playback stands in its input and its output: the next text to play, and room for its reply.
 ghost use mathlib.Core.Path.{_≡_};
-ghost use Prim.Native.Nat.{_+_, _≤_};
+ghost use mathlib.Core.Bool.{true, false, cond, not};
+ghost use mathlib.Core.Logic.{_⊎_};
+ghost use Prim.Native.Nat.{_+_, _-_, _<_, _≤_};
 ghost use lib.ListN.{length, take, drop};
+ghost use Rattle.fields.specs.Line.{nextLine};
 ghost use Rattle.reply.specs.Reply.{longestReply};
+ghost use Rattle.cursor.specs.Cut.{holdsLine, unread, allRead, Lies, Advanced, Fetched, Followed};
 
-// Writes all these bytes out; answers whether they were taken. A write that a signal interrupts is tried again.
-fn write_out(bytes: &[u8]) -> bool {
+// Writes all these bytes out; answers whether they were taken, as no bytes always are. A write that a signal interrupts is tried again.
+fn write_out(bytes: &[u8]) -> bool
+    ensures { λ r. ⌜ (not r ≡ true → 0 < length (now (bytes .entry))) ⌝ }
+{
     let mut done = 0;
     let mut turns = u64::MAX;
     while done < bytes.len() {
@@ -69,7 +75,7 @@ struct Room {
 // Makes room in the output for one more reply: where it might not fit, all that is there is written out first.
 fn with_room(out: &[u8], used: usize) -> Room
     requires { ⌜ (used ≤ length (now out)) × (longestReply ≤ length (now out)) ⌝ }
-    ensures { λ r. ⌜ r .used + longestReply ≤ length (now (out .entry)) ⌝ }
+    ensures { λ r. ⌜ (r .used + longestReply ≤ length (now (out .entry))) × ((r .used ≡ 0) ⊎ (r .used ≡ used)) × (used + longestReply ≤ length (now (out .entry)) → r .used ≡ used) × (r .failed ≡ true → length (now (out .entry)) < used + longestReply) ⌝ }
 {
     if used + reply::LONGEST_REPLY <= out.len() {
         return Room {
@@ -86,7 +92,7 @@ fn with_room(out: &[u8], used: usize) -> Room
 
 // Bytes of a text's first line with its 0A; 0 where no 0A is there.
 fn whole_line(s: &[u8]) -> usize
-    ensures { λ r. ⌜ r ≤ length (now (s .entry)) ⌝ }
+    ensures { λ r. ⌜ r ≡ cond (holdsLine (now (s .entry))) (length (nextLine (now (s .entry)))) 0 ⌝ }
 {
     let line = fields::next_line(s);
     let n = line.len();
@@ -110,62 +116,65 @@ pub struct Cursor {
     pub last: bool,
 }
 
+// Where all that was read is the text, and all output is written.
+fn all_read(end: usize, plays: bool, passing: bool, last: bool) -> Cursor
+    ensures { λ r. ⌜ r ≡ allRead end plays passing last ⌝ }
+{
+    Cursor {
+        start: 0,
+        end: end,
+        at: 0,
+        have: 0,
+        used: 0,
+        plays: plays,
+        passing: passing,
+        last: last,
+    }
+}
+
+// Where nothing is read yet.
+pub fn begin() -> Cursor
+    ensures { λ r. ⌜ r ≡ allRead 0 false false false ⌝ }
+{
+    all_read(0, false, false, false)
+}
+
+// Where nothing more is played.
+fn ended() -> Cursor
+    ensures { λ r. ⌜ r ≡ allRead 0 false false true ⌝ }
+{
+    all_read(0, false, false, true)
+}
+
 // How much of the buffer to keep for the next read: what is left, or nothing of a line to pass over.
 fn bytes_left(at: usize, have: usize, passing: bool) -> usize
     requires { ⌜ at ≤ have ⌝ }
-    ensures { λ r. ⌜ at + r ≤ have ⌝ }
+    ensures { λ r. ⌜ (at + r ≤ have) × (r ≡ cond passing 0 (have - at)) ⌝ }
 {
     if passing { 0 } else { have - at }
 }
 
-// Reads on behind what is left, after all output so far is written. A text that fills the buffer is played, as no text of the form does, and
-// the rest of its line passed over. At the end of the input a text without 0A is played, and settings that never came.
-fn refill(cursor: Cursor, open: bool, buf: &mut [u8], out: &[u8]) -> Cursor
-    requires { ⌜ (cursor .at ≤ cursor .have) × (cursor .have ≤ length (now buf)) × (cursor .used ≤ length (now out)) ⌝ }
-    ensures { λ r. ⌜ (r .start ≤ r .end) × (r .end ≤ length (now (buf .entry))) × (r .at ≤ r .have) × (r .have ≤ length (now (buf .entry))) × (r .used ≡ 0) ⌝ }
+// Reads on behind what is left, which is no whole line, after all output so far is written. A text that fills the buffer is played, as no text
+// of the form does, and the rest of its line passed over. At the end of the input a text without 0A is played, and settings that never came.
+fn refill(cursor: Cursor, opened: bool, buf: &mut [u8], out: &[u8]) -> Cursor
+    requires { ⌜ (cursor .at ≤ cursor .have) × (cursor .have ≤ length (now buf)) × (cursor .used ≤ length (now out)) × (longestReply ≤ length (now out)) × (holdsLine (unread (now buf) cursor) ≡ false) ⌝ }
+    ensures { λ r. ⌜ Lies (length (now (buf .entry))) (length (now (out .entry))) r ⌝ }
+    ensures { λ r. ⌜ Advanced opened cursor (now (buf .entry)) r (now (buf .exit)) (length (now (out .entry))) ⌝ }
 {
     let used = cursor.used;
-    let passing = cursor.passing;
     if !write_out(&out[0..used]) {
-        return Cursor {
-            start: 0,
-            end: 0,
-            at: 0,
-            have: 0,
-            used: 0,
-            plays: false,
-            passing: false,
-            last: true,
-        };
+        return ended();
     }
     let at = cursor.at;
+    let passing = cursor.passing;
     let left = bytes_left(at, cursor.have, passing);
-    if left == buf.len() {
-        return Cursor {
-            start: 0,
-            end: left,
-            at: 0,
-            have: 0,
-            used: 0,
-            plays: true,
-            passing: true,
-            last: false,
-        };
+    if !passing & (left == buf.len()) {
+        return all_read(left, true, true, false);
     }
     shift(buf, at, left);
     let got = read_in(&mut buf[left..]);
     if got == 0 {
-        let plays = !passing & ((0 < left) | !open);
-        return Cursor {
-            start: 0,
-            end: left,
-            at: 0,
-            have: 0,
-            used: 0,
-            plays: plays,
-            passing: false,
-            last: true,
-        };
+        return all_read(left, !passing & ((0 < left) | !opened), false, true);
     }
     Cursor {
         start: 0,
@@ -180,15 +189,16 @@ fn refill(cursor: Cursor, open: bool, buf: &mut [u8], out: &[u8]) -> Cursor
 }
 
 // Goes on to the next whole line of the buffer, or reads on where there is none.
-fn advance(cursor: Cursor, open: bool, buf: &mut [u8], out: &[u8]) -> Cursor
+fn advance(cursor: Cursor, opened: bool, buf: &mut [u8], out: &[u8]) -> Cursor
     requires { ⌜ (cursor .at ≤ cursor .have) × (cursor .have ≤ length (now buf)) × (cursor .used ≤ length (now out)) × (longestReply ≤ length (now out)) ⌝ }
-    ensures { λ r. ⌜ (r .start ≤ r .end) × (r .end ≤ length (now (buf .entry))) × (r .at ≤ r .have) × (r .have ≤ length (now (buf .entry))) × (r .used + longestReply ≤ length (now (out .entry))) ⌝ }
+    ensures { λ r. ⌜ Lies (length (now (buf .entry))) (length (now (out .entry))) r ⌝ }
+    ensures { λ r. ⌜ Advanced opened cursor (now (buf .entry)) r (now (buf .exit)) (length (now (out .entry))) ⌝ }
 {
     let at = cursor.at;
     let have = cursor.have;
     let n = whole_line(&buf[at..have]);
     if n == 0 {
-        return refill(cursor, open, buf, out);
+        return refill(cursor, opened, buf, out);
     }
     let end = at + n;
     let room = with_room(out, cursor.used);
@@ -205,27 +215,28 @@ fn advance(cursor: Cursor, open: bool, buf: &mut [u8], out: &[u8]) -> Cursor
 }
 
 // Goes on to the next text to play, or to the end.
-pub fn fetch(cursor: Cursor, open: bool, buf: &mut [u8], out: &[u8]) -> Cursor
+pub fn fetch(mut cursor: Cursor, opened: bool, buf: &mut [u8], out: &[u8]) -> Cursor
     requires { ⌜ (cursor .at ≤ cursor .have) × (cursor .have ≤ length (now buf)) × (cursor .used ≤ length (now out)) × (longestReply ≤ length (now out)) ⌝ }
-    ensures { λ r. ⌜ (r .start ≤ r .end) × (r .end ≤ length (now (buf .entry))) × (r .at ≤ r .have) × (r .have ≤ length (now (buf .entry))) × (r .used + longestReply ≤ length (now (out .entry))) ⌝ }
+    ensures { λ r. ⌜ Lies (length (now (buf .entry))) (length (now (out .entry))) r ⌝ }
+    ensures { λ r. ⌜ Fetched opened cursor (now (buf .entry)) r (now (buf .exit)) (length (now (out .entry))) ⌝ }
 {
-    let mut next = advance(cursor, open, buf, out);
     let mut turns = u64::MAX;
     while turns > 0 {
-        if next.plays | next.last {
-            return next;
+        cursor = advance(cursor, opened, buf, out);
+        if cursor.plays | cursor.last {
+            return cursor;
         }
-        next = advance(next, open, buf, out);
         turns -= 1;
     }
-    next
+    ended()
 }
 
 // Goes on after a text is played and its reply of `written` bytes laid behind what the output holds; behind the last, only what the output
 // holds is still to be written.
 pub fn onward(mut cursor: Cursor, written: usize, buf: &mut [u8], out: &[u8]) -> Cursor
     requires { ⌜ (cursor .at ≤ cursor .have) × (cursor .have ≤ length (now buf)) × (cursor .used + written ≤ length (now out)) × (longestReply ≤ length (now out)) ⌝ }
-    ensures { λ r. ⌜ (r .start ≤ r .end) × (r .end ≤ length (now (buf .entry))) × (r .at ≤ r .have) × (r .have ≤ length (now (buf .entry))) × (r .used + longestReply ≤ length (now (out .entry))) ⌝ }
+    ensures { λ r. ⌜ Lies (length (now (buf .entry))) (length (now (out .entry))) r ⌝ }
+    ensures { λ r. ⌜ Followed cursor written (now (buf .entry)) r (now (buf .exit)) (length (now (out .entry))) ⌝ }
 {
     let used = cursor.used + written;
     if !cursor.last {
@@ -233,14 +244,5 @@ pub fn onward(mut cursor: Cursor, written: usize, buf: &mut [u8], out: &[u8]) ->
         return fetch(cursor, true, buf, out);
     }
     write_out(&out[0..used]);
-    Cursor {
-        start: 0,
-        end: 0,
-        at: 0,
-        have: 0,
-        used: 0,
-        plays: false,
-        passing: false,
-        last: true,
-    }
+    ended()
 }

@@ -1,11 +1,12 @@
 // A journal played back: settings line and journal lines in, answer lines and records out.
 ghost use mathlib.Core.Path.{_≡_};
-ghost use Prim.Native.Nat.{_+_, _<_, _≤_};
+ghost use Prim.Native.Nat.{_<_, _≤_};
 ghost use lib.ListN.{length};
 ghost use Rattle.area.specs.Laid.{inFront};
 ghost use Rattle.store.specs.Columns.{columnsOf};
 ghost use Rattle.node.specs.Calls.{calledOn};
 ghost use Rattle.reply.specs.Reply.{replyText, longestReply};
+ghost use Rattle.cursor.specs.Cut.{Lies};
 use cursor::Cursor;
 use node::State;
 use setup::Played;
@@ -74,7 +75,7 @@ fn play_lines(
     out: &mut [u8],
     mut cursor: Cursor,
 )
-    requires { ⌜ (cursor .start ≤ cursor .end) × (cursor .end ≤ length (now buf)) × (cursor .at ≤ cursor .have) × (cursor .have ≤ length (now buf)) × (cursor .used + longestReply ≤ length (now out)) ⌝ }
+    requires { ⌜ Lies (length (now buf)) (length (now out)) cursor ⌝ }
 {
     let mut turns = turns_left(cursor.plays, u64::MAX);
     while turns > 0 {

@@ -1,3 +1,3 @@
 -- Laws on the settings played.
 pub mod Fronts
-pub mod Parts
+pub mod Starts

@@ -1,11 +1,13 @@
 // The settings played: the state before the first opening, opened with the input's first text, and the answer line.
 ghost use mathlib.Core.Path.{_≡_};
-ghost use Prim.Native.Nat.{_+_, _≤_};
+ghost use Prim.Native.Nat.{_≤_};
 ghost use lib.ListN.{length};
 ghost use Rattle.area.specs.Laid.{inFront};
 ghost use Rattle.store.specs.Columns.{columnsOf};
 ghost use Rattle.node.specs.Opening.{openedOn};
 ghost use Rattle.reply.specs.Reply.{openingText, longestAnswer, longestReply};
+ghost use Rattle.cursor.specs.Cut.{Lies};
+ghost use Rattle.setup.specs.Start.{Begun};
 use cursor::Cursor;
 use node::State;
 
@@ -62,18 +64,10 @@ pub fn start(
     out: &mut [u8],
 ) -> Started
     requires { ⌜ longestReply ≤ length (now out) ⌝ }
-    ensures { λ r. ⌜ (r .cursor .start ≤ r .cursor .end) × (r .cursor .end ≤ length (now (buf .entry))) × (r .cursor .at ≤ r .cursor .have) × (r .cursor .have ≤ length (now (buf .entry))) × (r .cursor .used + longestReply ≤ length (now (out .entry))) ⌝ }
+    ensures { λ r. ⌜ Lies (length (now (buf .entry))) (length (now (out .entry))) (r .cursor) ⌝ }
+    ensures { λ r. ⌜ Begun (now (buf .entry)) (now (out .entry)) (columnsOf (now (ids .entry)) (now (times .entry)) (now (values .entry)) (now (arrivals .entry)) (now (kinds .entry)) (now (meters .entry))) r (now (buf .exit)) (now (out .exit)) (columnsOf (now (ids .exit)) (now (times .exit)) (now (values .exit)) (now (arrivals .exit)) (now (kinds .exit)) (now (meters .exit))) ⌝ }
 {
-    let begin = Cursor {
-        start: 0,
-        end: 0,
-        at: 0,
-        have: 0,
-        used: 0,
-        plays: false,
-        passing: false,
-        last: false,
-    };
+    let begin = cursor::begin();
     let mut cursor = cursor::fetch(begin, false, buf, out);
     let start = cursor.start;
     let end = cursor.end;

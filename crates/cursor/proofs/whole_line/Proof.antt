@@ -1,9 +1,6 @@
--- `cursor::whole_line` meets its contract: a line is no longer than its text. Assumes nothing.
-use native.Mathlib.Omega.{arith}
+-- `cursor::whole_line` meets its contract: the last byte of the line tells whether it is whole. Assumes nothing.
 use borrow.Author.Needs.{needs}
-use mathlib.Core.Path.{ap}
-use lib.ListN.{length}
-use Rattle.fields.proofs.Lines.{line-within}
+use Rattle.cursor.proofs.WholeLines.{none-whole, ended-whole, unended-whole}
 use Rattle.cursor.proofs.whole_line.Statement.{statement}
 use Rattle.cursor.proofs.whole_line.Tie as tie
 
@@ -11,7 +8,7 @@ next-line-requires : tie.Need-next-line-requires
 next-line-requires c κs = search needs
 
 returns : tie.Need-returns
-returns c = search needs
+returns c = none-whole (c .before .before .before .args .s .now) (c .before .next-line .result .now) (c .before .next-line .ensures) (c .if1 .taken)
 
 sub-if2 : tie.Need-sub-if2
 sub-if2 c = search needs
@@ -20,10 +17,14 @@ shared-slice-read-if2 : tie.Need-shared-slice-read-if2
 shared-slice-read-if2 c = search needs
 
 returns-2 : tie.Need-returns-2
-returns-2 c = omega (arith, ap length (c .before .before .before .next-line .ensures), line-within (c .before .before .before .before .before .args .s .now))
+returns-2 c =
+    let l = c .before .before .before .next-line in
+    ended-whole (c .before .before .before .before .before .args .s .now) (l .result .now) (l .ensures) (c .before .before .if1 .left) (c .if2 .taken)
 
 returns-3 : tie.Need-returns-3
-returns-3 c = search needs
+returns-3 c =
+    let l = c .before .before .before .next-line in
+    unended-whole (c .before .before .before .before .before .args .s .now) (l .result .now) (l .ensures) (c .before .before .if1 .left) (c .if2 .left)
 
 pub whole-line-spec : {M : Type 1} → statement M
 whole-line-spec =

@@ -1,7 +1,9 @@
 -- `cursor::write_out` meets its contract: in the loop the first `done` bytes are written; the turns left are fewer each time. Assumes nothing.
 use borrow.Author.Needs.{needs}
+use mathlib.Core.Path.{refl}
 use Prim.Native.Nat.{_≤_}
 use lib.ListN.{length}
+use Rattle.store.proofs.Choices.{not-both}
 use Rattle.cursor.proofs.write_out.Statement.{statement}
 use Rattle.cursor.proofs.write_out.Tie as tie
 
@@ -51,7 +53,7 @@ loop-again : tie.Need-loop-again Inv-loop μ-loop
 loop-again c = search needs
 
 returns-3 : tie.Need-returns-3 Inv-loop μ-loop
-returns-3 c = search needs
+returns-3 c = λ e. not-both e refl
 
 pub write-out-spec : {M : Type 1} → statement M
 write-out-spec =

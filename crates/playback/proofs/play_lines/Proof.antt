@@ -7,8 +7,8 @@ use Prim.Native.Nat.{_+_, _-_, _≤_}
 use lib.ListN.{length}
 use borrow.Rule.Slice.PartMut.{same-len-mid}
 use Rattle.reply.specs.Reply.{longestReply}
+use Rattle.cursor.proofs.Cuts.{part-used}
 use Rattle.setup.proofs.Fronts.{front-within}
-use Rattle.setup.proofs.Parts.{part-used}
 use Rattle.playback.proofs.play_lines.Statement.{statement}
 use Rattle.playback.proofs.play_lines.Tie as tie
 
@@ -80,7 +80,7 @@ loop-again c =
     let o = c .before .before .before .onward in
     let p = c .before .before .before .before .before .before .before .before .before .before .before .before .before .before .before .before .before .before .before .before .before .before in
     let l = looped p .loop in
-    let e = o .ensures in
+    let e = o .ensures .0 in
     let k = o .kept .1 .1 .0 in
     let h = p .play-line .kept in (
       e .0,

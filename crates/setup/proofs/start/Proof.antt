@@ -2,19 +2,22 @@
 -- both is what the first journal line asks for. Assumes nothing.
 use native.Mathlib.Omega.{arith}
 use borrow.Author.Needs.{needs}
-use mathlib.Core.Path.{_∙_}
+use mathlib.Core.Path.{sym, subst, _∙_}
 use Prim.Native.Nat.{_+_, _-_, _≤_}
 use lib.ListN.{length}
 use borrow.Rule.Slice.PartMut.{same-len-mid}
+use Rattle.reply.specs.Reply.{longestReply}
+use Rattle.cursor.specs.declared.Cursor.{Cursor}
+use Rattle.cursor.proofs.Cuts.{part-used}
 use Rattle.setup.proofs.Fronts.{front-within}
-use Rattle.setup.proofs.Parts.{part-used}
+use Rattle.setup.proofs.Starts.{begun}
 use Rattle.setup.proofs.start.Statement.{statement}
 use Rattle.setup.proofs.start.Tie as tie
 
 -- ---- what is known at the places on the way; each place names the one that it goes back to
 
 abbrev entered : tie.After-fetch → tie.Start
-entered f = f .before .before .before .before .before .before .before .before .before .before
+entered f = f .before .before .before .before .before .before .before .before .before .before .before
 
 abbrev fetched : tie.After-play-settings → tie.After-fetch
 fetched p = p .before .before .before .before .before .before .before .before .before .before .before .before .before
@@ -23,12 +26,19 @@ fetched p = p .before .before .before .before .before .before .before .before .b
 within : (p : tie.After-play-settings) → fetched p .fetch .result .used + p .play-settings .result .used ≤ length (entered (fetched p) .args .out .now)
 within p =
     let f = fetched p in
-    part-used (entered f .args .out .now) (f .fetch .result .used) (p .play-settings .result .used) (omega (arith, f .fetch .ensures .4)) (front-within _ _ (p .play-settings .ensures .1 .1) (p .play-settings .kept .1 .1 .1 .1 .1 .1 .1 .1 .0))
+    part-used (entered f .args .out .now) (f .fetch .result .used) (p .play-settings .result .used) (omega (arith, f .fetch .ensures .0 .4)) (front-within _ _ (p .play-settings .ensures .1 .1) (p .play-settings .kept .1 .1 .1 .1 .1 .1 .1 .1 .0))
 
 -- ---- the needs
 
+begin-requires : tie.Need-begin-requires
+begin-requires c κs = tt
+
 fetch-requires : tie.Need-fetch-requires
-fetch-requires c κs = search needs
+fetch-requires c κs =
+    let b = c .before .before .begin in
+    let s = c .before .before .before .before .before .before .before .before .before .before in
+    subst (λ (r : Cursor). (r .at ≤ r .have) × (r .have ≤ length (s .args .buf .now)) × (r .used ≤ length (s .args .out .now)) × (longestReply ≤ length (s .args .out .now)))
+    (sym (b .ensures)) (omega arith, omega arith, omega arith, s .pre)
 
 closed-state-requires : tie.Need-closed-state-requires
 closed-state-requires c κs = search needs
@@ -60,7 +70,7 @@ onward-requires c κs =
     let f = fetched p .fetch in
     let out = entered (fetched p) .args .out .now in
     let same = same-len-mid (f .result .used) (length out - f .result .used) out (p .play-settings .last .1 .1 .1 .1 .1 .1 .1 .1 .0) (p .play-settings .kept .1 .1 .1 .1 .1 .1 .1 .1 .0) in
-    (f .ensures .2, omega (arith, f .ensures .3, f .kept .1 .1 .0), omega (arith, same, within p), omega (arith, same, f .ensures .4))
+    (f .ensures .0 .2, omega (arith, f .ensures .0 .3, f .kept .1 .1 .0), omega (arith, same, within p), omega (arith, same, f .ensures .0 .4))
 
 same-length : tie.Need-same-length
 same-length c = c .before .before .before .before .before .before .before .before .before .before .before .before .before .before .before .before .before .before .before .before .before .before .play-settings .kept .1 .0
@@ -93,17 +103,24 @@ same-length-8 c =
 returns : tie.Need-returns
 returns c =
     let p = c .before .before .before .before .before .before .before .before .before .before .before .before .before .before .before .before .before .before .before .before .before .before in
-    let f = fetched p .fetch in
-    let out = entered (fetched p) .args .out .now in
-    let same = same-len-mid (f .result .used) (length out - f .result .used) out (p .play-settings .last .1 .1 .1 .1 .1 .1 .1 .1 .0) (p .play-settings .kept .1 .1 .1 .1 .1 .1 .1 .1 .0) in
-    let e = c .before .before .onward .ensures in
-    let k = f .kept .1 .1 .0 in
-    (e .0, omega (arith, e .1, k), e .2, omega (arith, e .3, k), omega (arith, e .4, same))
+    let f = fetched p in
+    let s = entered f in
+    let out = s .args .out .now in
+    let used = f .fetch .result .used in
+    let g = p .play-settings in
+    let o = c .before .before .onward in
+    let same = same-len-mid used (length out - used) out (g .last .1 .1 .1 .1 .1 .1 .1 .1 .0) (g .kept .1 .1 .1 .1 .1 .1 .1 .1 .0) in (
+      (o .ensures .0 .0, omega (arith, o .ensures .0 .1, f .fetch .kept .1 .1 .0), o .ensures .0 .2, omega (arith, o .ensures .0 .3, f .fetch .kept .1 .1 .0), omega (arith, o .ensures .0 .4, same)),
+      begun (s .args .buf .now) out _ (f .before .before .before .begin .result) (f .before .before .before .begin .ensures) (f .fetch .result) (f .fetch .last .1 .1 .0) (f .fetch .ensures .1)
+          (p .before .before .before .before .before .before .before .before .before .before .closed-state .result) (p .before .before .before .before .before .before .before .before .before .before .closed-state .ensures) _ _ (g .result .used) (g .last .1 .1 .1 .1 .1 .1 .1 .1 .0)
+          (g .ensures .0, g .ensures .1 .0, g .ensures .1 .1 .0, g .ensures .1 .1 .1) (o .last .1 .1 .0) same (o .ensures .1),
+    )
 
 pub start-spec : {M : Type 1} → statement M
 start-spec =
     tie.close
     (tie.spec
+    begin-requires
     fetch-requires
     closed-state-requires
     sub-play-settings

@@ -1,0 +1,2 @@
+-- The input cut into lines.
+pub mod Cut

@@ -1,0 +1,2 @@
+-- How a playback begins.
+pub mod Start
