@@ -13,7 +13,7 @@ use lib.Seq.{length-take-le, take-all, take-append-seam}
 use Rattle.fields.specs.Line.{nextLine}
 use Rattle.store.proofs.Choices.{not-both}
 use Rattle.cursor.specs.declared.Cursor.{Cursor}
-use Rattle.cursor.specs.Cut.{holdsLine, behindLine, past, unread, textAt, ahead, Unplayed, failed, over, Fetched, Further, Advanced, allRead}
+use Rattle.cursor.specs.Cut.{holdsLine, behindLine, past, unread, failed, over, Advanced, allRead}
 use Rattle.cursor.proofs.WholeLines.{part-append, part-line, behind-part, behind-none}
 use Rattle.cursor.proofs.Cuts.{read-behind, length-part, part-whole}
 use Rattle.cursor.proofs.Past.{past-read, past-end, past-part, plays-unpassing}
@@ -76,6 +76,7 @@ module _ (opened : Bool) (c : Cursor) (buf : List ℕ) (room : ℕ) (lies : (c .
             record {
               fresh = [];
               played = λ e. not-both e refl;
+              ended = λ e. not-both e refl;
               unplayed = λ _. (refl, failed h);
               written = inl refl;
               held = λ w. not-both w (past-part (c .passing) (unread buf c) part);
@@ -98,6 +99,7 @@ module _ (opened : Bool) (c : Cursor) (buf : List ℕ) (room : ℕ) (lies : (c .
                       ∙ full-text (c .passing) (unread buf c) buf more (k .0) (part-whole (c .at) (c .have) buf (lies .0) (lies .1) (k .2)) part),
                   full-rest (c .passing) (unread buf c) more (k .0) part,
                 );
+                ended = λ _ e. not-both e refl;
                 unplayed = not-both refl;
                 written = inl refl;
                 held = λ w. not-both w (past-part (c .passing) (unread buf c) part);
@@ -119,6 +121,7 @@ module _ (opened : Bool) (c : Cursor) (buf : List ℕ) (room : ℕ) (lies : (c .
                         (front ∙ ended-text (c .passing) (unread buf c) more part (none refl) (length buf) (plays-unpassing (c .passing) _ e) (omega (arith, n, lies))),
                     ended-rest (c .passing) (unread buf c) more part (none refl) (plays-unpassing (c .passing) _ e),
                   );
+                  ended = λ _ _. past-part (c .passing) (unread buf c) part;
                   unplayed = λ e.
                       let k = ended-none (c .passing) opened (ltb 0 left) (unread buf c)
                       (λ q t. omega (arith, n, left-known (c .passing) left (c .have - c .at) l q, ltb-false 0 left t)) e in

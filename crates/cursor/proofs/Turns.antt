@@ -2,7 +2,7 @@
 -- more than the buffer holds, so that it passes a line over. Assumes nothing.
 use mathlib.Core.Path.{_≡_, refl, sym, ap, _∙_}
 use mathlib.Core.Bool.{Bool, true, false, cond, _||_}
-use mathlib.Core.List.{List, [], _++_, append-assoc, append-nil}
+use mathlib.Core.List.{List, [], _++_, append-assoc}
 use mathlib.Core.Logic.{_⊎_, inl, inr, ⊎-elim}
 use Prim.Native.Nat.{ℕ, _+_, _-_, _<_, _≤_}
 use native.Mathlib.Omega.{arith}
@@ -10,7 +10,7 @@ use lib.ListN.{length, take, length-append}
 use Rattle.fields.specs.Line.{nextLine}
 use Rattle.store.proofs.Choices.{not-both}
 use Rattle.cursor.specs.declared.Cursor.{Cursor}
-use Rattle.cursor.specs.Cut.{holdsLine, behindLine, past, unread, ahead, Unplayed, over, failed, endless, Fetched, Further, Advanced, allRead}
+use Rattle.cursor.specs.Cut.{holdsLine, behindLine, past, unread, ahead, Unplayed, over, failed, endless, Fetched, Further, allRead}
 use Rattle.cursor.proofs.Cuts.{length-part}
 use Rattle.cursor.proofs.Past.{past-within}
 
@@ -76,6 +76,7 @@ module _ (c : Cursor) (buf : List ℕ) (room : ℕ) (d : Cursor) (mid : List ℕ
                   ∙ ap (λ (s : List ℕ). take (length buf) (nextLine s)) (sym (kept-on (g .fresh) more)),
               w .1 ∙ ap behindLine (sym (kept-on (g .fresh) more)),
             );
+        ended = λ q l. ap holdsLine (f .kept (g .fresh)) ∙ g .ended q l;
         unplayed = λ q. (g .unplayed q .0, unplayed-on (g .unplayed q .1));
         written = written-on (r .used) after (g .fresh) (g .written);
         held = λ h.
@@ -129,6 +130,7 @@ module _ (c : Cursor) (buf : List ℕ) (room : ℕ) (d : Cursor) (mid : List ℕ
       record {
         fresh = f .fresh;
         played = λ e. not-both e refl;
+        ended = λ e. not-both e refl;
         unplayed = λ _. (
           refl,
           endless

@@ -6,7 +6,7 @@ use Prim.Native.Nat.{ℕ, zero, suc, _-_, _<_, _≤_}
 use native.Mathlib.Omega.{arith}
 use borrow.Author.Tests.{eq-eqb, ne-eqb}
 use lib.Dec.{eqb}
-use lib.ListN.{length, getD, take, drop, length-drop, length-append}
+use lib.ListN.{length, getD, take, length-drop, length-append}
 use lib.Seq.{drop-append-le, drop-append-add, drop-length}
 use Rattle.fields.specs.Line.{nextLine}
 use Rattle.fields.proofs.Lines.{line-within, line-some}

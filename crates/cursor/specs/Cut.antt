@@ -36,15 +36,33 @@ unread buf c = take (c .have - c .at) (drop (c .at) buf)
 abbrev pub ahead : List ℕ → Cursor → List ℕ → List ℕ
 ahead buf c more = past (c .passing) (unread buf c ++ more)
 
--- the cursor lies within a buffer of this size and leaves room for one more reply in the output
+-- a cursor from which to go on: what is unread lies within the buffer, and what is used within the output, where a reply has room
+abbrev pub Ready : ℕ → ℕ → Cursor → Type 0
+Ready size room c = (c .at ≤ c .have) × (c .have ≤ size) × (c .used ≤ room) × (longestReply ≤ room)
+
+-- a cursor at a text: this lies within the buffer too, and its reply has room in the output
 abbrev pub Lies : ℕ → ℕ → Cursor → Type 0
 Lies size room c =
     (c .start ≤ c .end) × (c .end ≤ size) × (c .at ≤ c .have) × (c .have ≤ size) × (c .used + longestReply ≤ room)
 
+-- the cursor where all that was read is the text and all output is written
+abbrev pub allRead : ℕ → Bool → Bool → Bool → Cursor
+allRead end plays passing last =
+    record {
+      start = 0;
+      end = end;
+      at = 0;
+      have = 0;
+      used = 0;
+      plays = plays;
+      passing = passing;
+      last = last;
+    }
+
 -- ---- the next text
 
 -- why none is played: nothing is left of the input (but settings that never came are played, as an empty text); a write failed, for which there
--- was something to write; or a line that filled the buffer was not over within 2^64 reads
+-- was something to write; or a line that filled the buffer was not over after 2^64 - 2 bytes more
 pub data Unplayed (opened : Bool) (c : Cursor) (buf fresh : List ℕ) : Type 0 where
   over : ahead buf c fresh ≡ [] → (opened || c .passing) ≡ true → Unplayed opened c buf fresh
   failed : 0 < c .used → Unplayed opened c buf fresh
@@ -57,6 +75,8 @@ pub record Fetched (opened : Bool) (c : Cursor) (buf : List ℕ) (r : Cursor) (a
   -- then still to be cut is all that follows that line
   pub played : r .plays ≡ true → (more : List ℕ) → (r .last ≡ true → more ≡ [])
       → (textAt after r ≡ take (length buf) (nextLine (ahead buf c (fresh ++ more)))) × (ahead after r more ≡ behindLine (ahead buf c (fresh ++ more)))
+  -- only a text without 0A can be the last
+  pub ended : r .plays ≡ true → r .last ≡ true → holdsLine (ahead buf c fresh) ≡ false
   pub unplayed : r .plays ≡ false → (r .last ≡ true) × Unplayed opened c buf fresh
   -- the output is written as a whole or not at all; without a write nothing is read
   pub written : (r .used ≡ 0) ⊎ ((r .used ≡ c .used) × (after ≡ buf) × (fresh ≡ []))
@@ -98,17 +118,3 @@ pub record Advanced (opened : Bool) (c : Cursor) (buf : List ℕ) (r : Cursor) (
   pub found : (r .plays || r .last) ≡ true → Fetched opened c buf r after room
   pub further : (r .plays || r .last) ≡ false
       → (f : Further c buf r after room) × (cond (r .passing) 1 0 < length (f .fresh) + cond (c .passing) 1 0)
-
--- the cursor where all that was read is the text and all output is written
-abbrev pub allRead : ℕ → Bool → Bool → Bool → Cursor
-allRead end plays passing last =
-    record {
-      start = 0;
-      end = end;
-      at = 0;
-      have = 0;
-      used = 0;
-      plays = plays;
-      passing = passing;
-      last = last;
-    }

@@ -6,7 +6,7 @@ ghost use Prim.Native.Nat.{_+_, _-_, _<_, _≤_};
 ghost use lib.ListN.{length, take, drop};
 ghost use Rattle.fields.specs.Line.{nextLine};
 ghost use Rattle.reply.specs.Reply.{longestReply};
-ghost use Rattle.cursor.specs.Cut.{holdsLine, unread, allRead, Lies, Advanced, Fetched, Followed};
+ghost use Rattle.cursor.specs.Cut.{holdsLine, unread, allRead, replied, Ready, Lies, Advanced, Fetched, Followed};
 
 // Writes all these bytes out; answers whether they were taken, as no bytes always are. A write that a signal interrupts is tried again.
 fn write_out(bytes: &[u8]) -> bool
@@ -157,7 +157,7 @@ fn bytes_left(at: usize, have: usize, passing: bool) -> usize
 // Reads on behind what is left, which is no whole line, after all output so far is written. A text that fills the buffer is played, as no text
 // of the form does, and the rest of its line passed over. At the end of the input a text without 0A is played, and settings that never came.
 fn refill(cursor: Cursor, opened: bool, buf: &mut [u8], out: &[u8]) -> Cursor
-    requires { ⌜ (cursor .at ≤ cursor .have) × (cursor .have ≤ length (now buf)) × (cursor .used ≤ length (now out)) × (longestReply ≤ length (now out)) × (holdsLine (unread (now buf) cursor) ≡ false) ⌝ }
+    requires { ⌜ Ready (length (now buf)) (length (now out)) cursor × (holdsLine (unread (now buf) cursor) ≡ false) ⌝ }
     ensures { λ r. ⌜ Lies (length (now (buf .entry))) (length (now (out .entry))) r ⌝ }
     ensures { λ r. ⌜ Advanced opened cursor (now (buf .entry)) r (now (buf .exit)) (length (now (out .entry))) ⌝ }
 {
@@ -190,7 +190,7 @@ fn refill(cursor: Cursor, opened: bool, buf: &mut [u8], out: &[u8]) -> Cursor
 
 // Goes on to the next whole line of the buffer, or reads on where there is none.
 fn advance(cursor: Cursor, opened: bool, buf: &mut [u8], out: &[u8]) -> Cursor
-    requires { ⌜ (cursor .at ≤ cursor .have) × (cursor .have ≤ length (now buf)) × (cursor .used ≤ length (now out)) × (longestReply ≤ length (now out)) ⌝ }
+    requires { ⌜ Ready (length (now buf)) (length (now out)) cursor ⌝ }
     ensures { λ r. ⌜ Lies (length (now (buf .entry))) (length (now (out .entry))) r ⌝ }
     ensures { λ r. ⌜ Advanced opened cursor (now (buf .entry)) r (now (buf .exit)) (length (now (out .entry))) ⌝ }
 {
@@ -216,7 +216,7 @@ fn advance(cursor: Cursor, opened: bool, buf: &mut [u8], out: &[u8]) -> Cursor
 
 // Goes on to the next text to play, or to the end.
 pub fn fetch(mut cursor: Cursor, opened: bool, buf: &mut [u8], out: &[u8]) -> Cursor
-    requires { ⌜ (cursor .at ≤ cursor .have) × (cursor .have ≤ length (now buf)) × (cursor .used ≤ length (now out)) × (longestReply ≤ length (now out)) ⌝ }
+    requires { ⌜ Ready (length (now buf)) (length (now out)) cursor ⌝ }
     ensures { λ r. ⌜ Lies (length (now (buf .entry))) (length (now (out .entry))) r ⌝ }
     ensures { λ r. ⌜ Fetched opened cursor (now (buf .entry)) r (now (buf .exit)) (length (now (out .entry))) ⌝ }
 {
@@ -234,7 +234,7 @@ pub fn fetch(mut cursor: Cursor, opened: bool, buf: &mut [u8], out: &[u8]) -> Cu
 // Goes on after a text is played and its reply of `written` bytes laid behind what the output holds; behind the last, only what the output
 // holds is still to be written.
 pub fn onward(mut cursor: Cursor, written: usize, buf: &mut [u8], out: &[u8]) -> Cursor
-    requires { ⌜ (cursor .at ≤ cursor .have) × (cursor .have ≤ length (now buf)) × (cursor .used + written ≤ length (now out)) × (longestReply ≤ length (now out)) ⌝ }
+    requires { ⌜ Ready (length (now buf)) (length (now out)) (replied cursor written) ⌝ }
     ensures { λ r. ⌜ Lies (length (now (buf .entry))) (length (now (out .entry))) r ⌝ }
     ensures { λ r. ⌜ Followed cursor written (now (buf .entry)) r (now (buf .exit)) (length (now (out .entry))) ⌝ }
 {

@@ -1,6 +1,6 @@
 -- A playback's beginning put together from what its parts ensure: from a cursor that has read nothing there is always a first text, and nothing is
 -- written before it, so that the answer line stands at the front of the output. Assumes nothing.
-use mathlib.Core.Path.{_≡_, refl, sym, ap, subst, _∙_}
+use mathlib.Core.Path.{_≡_, refl, ap, subst, _∙_}
 use mathlib.Core.Bool.{Bool, true, false}
 use mathlib.Core.List.{List, _++_}
 use mathlib.Core.Logic.{⊎-elim}
@@ -15,7 +15,7 @@ use Rattle.area.proofs.Lent.{lent-inFront}
 use Rattle.store.specs.Columns.{Columns}
 use Rattle.store.proofs.Choices.{not-both}
 use Rattle.node.specs.declared.State.{State}
-use Rattle.node.specs.Opening.{Opened, closedState, openedOn}
+use Rattle.node.specs.Opening.{closedState, openedOn}
 use Rattle.reply.specs.Reply.{openingText}
 use Rattle.cursor.specs.declared.Cursor.{Cursor}
 use Rattle.cursor.specs.Cut.{textAt, allRead, Unplayed, over, failed, endless, Fetched, Followed}

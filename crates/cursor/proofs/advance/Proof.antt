@@ -50,7 +50,7 @@ refill-requires : tie.Need-refill-requires
 refill-requires c κs =
     let w = c .before .before in
     let s = begun w in
-    (s .pre .0, s .pre .1, s .pre .2, s .pre .3, whole-none (unread (s .args .buf .now) (s .args .cursor)) (w .whole-line .result) (w .whole-line .ensures) (c .before .if1 .taken))
+    (s .pre, whole-none (unread (s .args .buf .now) (s .args .cursor)) (w .whole-line .result) (w .whole-line .ensures) (c .before .if1 .taken))
 
 same-length : tie.Need-same-length
 same-length c = search needs
@@ -74,7 +74,7 @@ returns-2 c =
     let w = c .before .before .with-room in (
       omega (arith, inside l, s .pre .1, w .ensures .0),
       line-found (s .args .cursor) (s .args .buf .now) (s .pre .0, s .pre .1) (l .before .whole-line .result) (long l) (s .args .opened)
-          (length (s .args .out .now)) (w .result .used) (w .result .failed) (whole l) (w .ensures .1) (w .ensures .2) (w .ensures .3) (s .pre .3),
+          (length (s .args .out .now)) (w .result .used) (w .result .failed) (omega arith) (whole l) (w .ensures .1) (w .ensures .2) (w .ensures .3) (s .pre .3),
     )
 
 pub advance-spec : {M : Type 1} → statement M

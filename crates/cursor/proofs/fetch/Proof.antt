@@ -1,7 +1,7 @@
 -- `cursor::fetch` meets its contract: in the loop nothing of what is to be cut is lost, and each turn but one reads a byte. Assumes nothing.
 use native.Mathlib.Omega.{arith}
 use mathlib.Core.Path.{_≡_, refl, sym, subst, _∙_}
-use Prim.Native.Nat.{ℕ, _+_, _≤_}
+use Prim.Native.Nat.{ℕ, _≤_}
 use lib.ListN.{length}
 use Rattle.reply.specs.Reply.{longestReply}
 use Rattle.cursor.specs.declared.Cursor.{Cursor}

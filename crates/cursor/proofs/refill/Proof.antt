@@ -72,7 +72,7 @@ returns c =
     let s = c .before .before .before .before .before .before in
     met (length (s .args .buf .now)) (length (s .args .out .now)) (s .args .opened) (s .args .cursor) (s .args .buf .now) (s .args .buf .now) (c .ended .ensures)
     (omega arith)
-    (refill-failed (s .args .opened) (s .args .cursor) (s .args .buf .now) (length (s .args .out .now)) (s .pre .0, s .pre .1) (s .pre .4) (front-some _ _ (c .before .before .write-out .ensures (c .before .if1 .taken))))
+    (refill-failed (s .args .opened) (s .args .cursor) (s .args .buf .now) (length (s .args .out .now)) (s .pre .0 .0, s .pre .0 .1) (s .pre .1) (front-some _ _ (c .before .before .write-out .ensures (c .before .if1 .taken))))
 
 bytes-left-requires : tie.Need-bytes-left-requires
 bytes-left-requires c κs = search needs
@@ -86,7 +86,7 @@ returns-2 c =
     let s = begun b in
     met (length (s .args .buf .now)) (length (s .args .out .now)) (s .args .opened) (s .args .cursor) (s .args .buf .now) (s .args .buf .now) (c .all-read .ensures)
     (omega arith)
-    (refill-full (s .args .opened) (s .args .cursor) (s .args .buf .now) (length (s .args .out .now)) (s .pre .0, s .pre .1) (s .pre .4) (b .bytes-left .result) (b .bytes-left .ensures .1) (c .before .if2 .taken))
+    (refill-full (s .args .opened) (s .args .cursor) (s .args .buf .now) (length (s .args .out .now)) (s .pre .0 .0, s .pre .0 .1) (s .pre .1) (b .bytes-left .result) (b .bytes-left .ensures .1) (c .before .if2 .taken))
 
 shift-requires : tie.Need-shift-requires
 shift-requires c κs = search needs
@@ -115,7 +115,7 @@ returns-3 c =
     let s = begun (kept r) in
     met (length (s .args .buf .now)) (length (s .args .out .now)) (s .args .opened) (s .args .cursor) (s .args .buf .now) _ (c .all-read2 .ensures)
     (omega arith)
-    (refill-ended (s .args .opened) (s .args .cursor) (s .args .buf .now) (length (s .args .out .now)) (s .pre .0, s .pre .1) (s .pre .4) (kept r .bytes-left .result) (kept r .bytes-left .ensures .1) _ (front r))
+    (refill-ended (s .args .opened) (s .args .cursor) (s .args .buf .now) (length (s .args .out .now)) (s .pre .0 .0, s .pre .0 .1) (s .pre .1) (kept r .bytes-left .result) (kept r .bytes-left .ensures .1) _ (front r))
 
 add-t12 : tie.Need-add-t12
 add-t12 c = search needs
@@ -127,7 +127,7 @@ returns-4 : tie.Need-returns-4
 returns-4 c =
     let r = c .before .before .before in
     let s = begun (kept r) in
-    (omega arith, refill-more (s .args .opened) (s .args .cursor) (s .args .buf .now) (length (s .args .out .now)) (s .pre .0, s .pre .1) (s .pre .4) (kept r .bytes-left .result) (kept r .bytes-left .ensures .1) _ (front r) (r .read-in .result) (omega arith) (within r))
+    (omega arith, refill-more (s .args .opened) (s .args .cursor) (s .args .buf .now) (length (s .args .out .now)) (s .pre .0 .0, s .pre .0 .1) (s .pre .1) (kept r .bytes-left .result) (kept r .bytes-left .ensures .1) _ (front r) (r .read-in .result) (omega arith) (within r))
 
 pub refill-spec : {M : Type 1} → statement M
 refill-spec =
