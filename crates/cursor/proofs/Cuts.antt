@@ -29,12 +29,13 @@ module _ (buf : List ℕ) (at have n : ℕ) (within : at + n ≤ have) where
       rw e (sym (drop-take n (have - (at + n)) (drop at buf) ∙ ap (take (have - (at + n))) (drop-drop n at buf)))
 
 -- what is kept in front: all that is unread, but nothing of a line to pass over
-pub kept-front : (passing : Bool) (n left : ℕ) (l m : List ℕ) → left ≡ cond passing 0 n → take left l ≡ take left m → take left l ≡ cond passing [] (take n m)
+pub kept-front : (passing : Bool) (n left : ℕ) (l m : List ℕ) → left ≡ cond passing 0 n → take left l ≡ take left m
+    → take left l ≡ cond passing [] (take n m)
 kept-front true n left l m e k = rw e
 kept-front false n left l m e k = k ∙ ap (λ (i : ℕ). take i m) e
 
 -- behind it stands what was read
-pub read-behind : (left got : ℕ) (l : List ℕ) (s : List ℕ) → take left l ≡ s → take (left + got - 0) (drop 0 l) ≡ s ++ take got (drop left l)
+pub read-behind : (left got : ℕ) (l s : List ℕ) → take left l ≡ s → take (left + got - 0) (drop 0 l) ≡ s ++ take got (drop left l)
 read-behind left got l s e = rw (sub-zero (left + got), take-add left got l, e)
 
 -- a part that was lent from a place on comes back behind what stands before it

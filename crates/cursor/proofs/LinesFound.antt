@@ -19,12 +19,14 @@ use Rattle.cursor.proofs.Past.{past-over, plays-unpassing}
 
 -- ---- what is cut, over plain lists
 
-line-text : (p : Bool) (u more : List ℕ) (size : ℕ) → p ≡ false → holdsLine u ≡ true → length u ≤ size → nextLine u ≡ take size (nextLine (past p (u ++ more)))
+line-text : (p : Bool) (u more : List ℕ) (size : ℕ) → p ≡ false → holdsLine u ≡ true → length u ≤ size
+    → nextLine u ≡ take size (nextLine (past p (u ++ more)))
 unfolding past
 line-text true u more size e h w = not-both refl e
 line-text false u more size e h w = rw (whole-append u more h) (sym (take-all size (nextLine u) (omega (arith, line-within u))))
 
-line-rest : (p : Bool) (u more : List ℕ) → p ≡ false → holdsLine u ≡ true → past false (behindLine u ++ more) ≡ behindLine (past p (u ++ more))
+line-rest : (p : Bool) (u more : List ℕ) → p ≡ false → holdsLine u ≡ true
+    → past false (behindLine u ++ more) ≡ behindLine (past p (u ++ more))
 unfolding past
 line-rest true u more e h = not-both refl e
 line-rest false u more e h = sym (behind-whole u more h)
@@ -50,7 +52,8 @@ goes-on false false e = not-both refl e
 
 -- ---- the step
 
-module _ (c : Cursor) (buf : List ℕ) (lies : (c .at ≤ c .have) × (c .have ≤ length buf)) (n : ℕ) (e : n ≡ length (nextLine (unread buf c))) where
+module _ (c : Cursor) (buf : List ℕ) (lies : (c .at ≤ c .have) × (c .have ≤ length buf)) (n : ℕ)
+    (e : n ≡ length (nextLine (unread buf c))) where
   pub line-inside : c .at + n ≤ c .have
   line-inside = omega (arith, e, lies, line-within (unread buf c), length-part (c .at) (c .have) buf (lies .0) (lies .1))
 
@@ -59,12 +62,26 @@ module _ (c : Cursor) (buf : List ℕ) (lies : (c .at ≤ c .have) × (c .have �
 
   line-left : {next : ℕ} → next ≡ c .at + n → take (c .have - next) (drop next buf) ≡ behindLine (unread buf c)
   unfolding behindLine
-  line-left k = ap (λ (i : ℕ). take (c .have - i) (drop i buf)) k ∙ second-part buf (c .at) (c .have) n line-inside ∙ ap (λ (i : ℕ). drop i (unread buf c)) e
+  line-left k =
+      ap (λ (i : ℕ). take (c .have - i) (drop i buf)) k
+      ∙ second-part buf (c .at) (c .have) n line-inside
+      ∙ ap (λ (i : ℕ). drop i (unread buf c)) e
 
-  pub line-found : (opened : Bool) (room used : ℕ) (failed! : Bool) {next : ℕ} → next ≡ c .at + n → holdsLine (unread buf c) ≡ true → (used ≡ 0) ⊎ (used ≡ c .used)
+  pub line-found : (opened : Bool) (room used : ℕ) (failed! : Bool) {next : ℕ} → next ≡ c .at + n
+      → holdsLine (unread buf c) ≡ true → (used ≡ 0) ⊎ (used ≡ c .used)
       → (c .used + longestReply ≤ room → used ≡ c .used) → (failed! ≡ true → room < c .used + longestReply) → longestReply ≤ room
       → Advanced opened c buf
-      (record { start = c .at; end = c .at + n; at = next; have = c .have; used = used; plays = not (c .passing) && not failed!; passing = false; last = failed! }) buf room
+      (record {
+        start = c .at;
+        end = c .at + n;
+        at = next;
+        have = c .have;
+        used = used;
+        plays = not (c .passing) && not failed!;
+        passing = false;
+        last = failed!;
+      })
+      buf room
   line-found opened room used failed! k h w same fails fits =
       let size = length-part (c .at) (c .have) buf (lies .0) (lies .1) in
       record {
@@ -84,7 +101,10 @@ module _ (c : Cursor) (buf : List ℕ) (lies : (c .at ≤ c .have) × (c .have �
               held = λ _. (
                 refl,
                 refl,
-                λ enough. (plays-unless (not (c .passing) && not failed!) failed! t (false-unless failed! (λ f. omega (arith, fails f))), same enough),
+                λ enough. (
+                  plays-unless (not (c .passing) && not failed!) failed! t (false-unless failed! (λ f. omega (arith, fails f))),
+                  same enough,
+                ),
               );
             };
         further = λ t.

@@ -1,5 +1,5 @@
--- Steps of the search joined: one that comes further and one behind it. What the one keeps the other finds, and a search without an end has read
--- more than the buffer holds, so that it passes a line over. Assumes nothing.
+-- Steps of the search joined: what the first keeps the second finds. A search without an end has read more than the buffer holds, so it
+-- passes a line over. Assumes nothing.
 use mathlib.Core.Path.{_≡_, refl, sym, ap, _∙_}
 use mathlib.Core.Bool.{Bool, true, false, cond, _||_}
 use mathlib.Core.List.{List, [], _++_, append-assoc}
@@ -65,7 +65,8 @@ module _ (c : Cursor) (buf : List ℕ) (room : ℕ) (d : Cursor) (mid : List ℕ
       }
 
   -- on to the text
-  pub further-fetched : (opened : Bool) (r : Cursor) (after : List ℕ) → length mid ≡ length buf → Fetched opened d mid r after room → Fetched opened c buf r after room
+  pub further-fetched : (opened : Bool) (r : Cursor) (after : List ℕ) → length mid ≡ length buf → Fetched opened d mid r after room
+      → Fetched opened c buf r after room
   further-fetched opened r after same g =
       record {
         fresh = f .fresh ++ g .fresh;
@@ -99,7 +100,8 @@ pub searched-none : (c : Cursor) (buf : List ℕ) (room : ℕ) → Searched c bu
 unfolding further-none
 searched-none c buf room = (further-none c buf room, omega arith)
 
-pub searched-more : (c : Cursor) (buf : List ℕ) (room : ℕ) (d : Cursor) (mid : List ℕ) (turns : ℕ) → Searched c buf d mid room turns → 0 < turns
+pub searched-more : (c : Cursor) (buf : List ℕ) (room : ℕ) (d : Cursor) (mid : List ℕ) (turns : ℕ)
+    → Searched c buf d mid room turns → 0 < turns
     → (r : Cursor) (after : List ℕ) (g : Further d mid r after room) → cond (r .passing) 1 0 < length (g .fresh) + cond (d .passing) 1 0
     → Searched c buf r after room (turns - 1)
 unfolding further-further
@@ -124,7 +126,8 @@ unpassed-within false u f m e h = omega (arith, length-append u (f ++ []), lengt
 
 module _ (c : Cursor) (buf : List ℕ) (room : ℕ) (d : Cursor) (mid : List ℕ) (f : Further c buf d mid room) where
   pub further-endless : (opened : Bool) → 18446744073709551615 ≤ length (f .fresh) + cond (c .passing) 1 0
-      → (d .at ≤ d .have) × (d .have ≤ length mid) → length mid < 9223372036854775808 → Fetched opened c buf (allRead 0 false false true) mid room
+      → (d .at ≤ d .have) × (d .have ≤ length mid) → length mid < 9223372036854775808
+      → Fetched opened c buf (allRead 0 false false true) mid room
   further-endless opened long lies small =
       let n = length-part (d .at) (d .have) mid (lies .0) (lies .1) in
       record {

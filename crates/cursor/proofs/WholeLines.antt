@@ -13,7 +13,8 @@ use Rattle.fields.proofs.Lines.{line-within, line-some}
 use Rattle.store.proofs.Choices.{not-both, false-unless}
 use Rattle.cursor.specs.Cut.{holdsLine, behindLine}
 
-whole-turn : (t : Bool) (b : ℕ) (x y : List ℕ) (h : Bool) → (t || h) ≡ true → (h ≡ true → x ≡ y) → cond t (b ∷ []) (b ∷ x) ≡ cond t (b ∷ []) (b ∷ y)
+whole-turn : (t : Bool) (b : ℕ) (x y : List ℕ) (h : Bool) → (t || h) ≡ true → (h ≡ true → x ≡ y)
+    → cond t (b ∷ []) (b ∷ x) ≡ cond t (b ∷ []) (b ∷ y)
 whole-turn true b x y h e same = refl
 whole-turn false b x y h e same = ap (λ (l : List ℕ). b ∷ l) (same e)
 
@@ -39,7 +40,8 @@ part-line [] h = refl
 part-line (b ∷ s) h = part-turn (eqb b 10) b (nextLine s) s (holdsLine s) h (λ k. part-line s k)
 
 -- a line stands in front of its text
-front-turn : (t : Bool) (b : ℕ) (x s : List ℕ) → take (length x) s ≡ x → take (length (cond t (b ∷ []) (b ∷ x))) (b ∷ s) ≡ cond t (b ∷ []) (b ∷ x)
+front-turn : (t : Bool) (b : ℕ) (x s : List ℕ) → take (length x) s ≡ x
+    → take (length (cond t (b ∷ []) (b ∷ x))) (b ∷ s) ≡ cond t (b ∷ []) (b ∷ x)
 front-turn true b x s e = refl
 front-turn false b x s e = ap (λ (l : List ℕ). b ∷ l) e
 
@@ -54,7 +56,8 @@ unfolding holdsLine
 none-held [] e = refl
 none-held (b ∷ s) e = absurd (omega (arith, line-some (b ∷ s) (omega arith)))
 
-last-turn : (t : Bool) (b i : ℕ) (x : List ℕ) (h : Bool) → eqb b 10 ≡ t → suc i ≡ length (cond t (b ∷ []) (b ∷ x)) → (length x ≡ 0 → h ≡ false)
+last-turn : (t : Bool) (b i : ℕ) (x : List ℕ) (h : Bool) → eqb b 10 ≡ t → suc i ≡ length (cond t (b ∷ []) (b ∷ x))
+    → (length x ≡ 0 → h ≡ false)
     → ((j : ℕ) → suc j ≡ length x → eqb (getD x j 0) 10 ≡ h) → eqb (getD (cond t (b ∷ []) (b ∷ x)) i 0) 10 ≡ (t || h)
 last-turn true b zero x h e n z f = e
 last-turn true b (suc i) x h e n z f = absurd (omega arith)
@@ -91,7 +94,8 @@ module _ (s : List ℕ) (n : ℕ) (e : n ≡ cond (holdsLine s) (length (nextLin
   whole-none z = false-unless (holdsLine s) (λ t. omega (arith, e ∙ ap (λ (b : Bool). cond b (length (nextLine s)) 0) t, held-some s t))
 
   pub whole-some : (n ≡ 0 → ⊥) → holdsLine s ≡ true
-  whole-some z = (elim (holdsLine s) as (λ b. n ≡ cond b (length (nextLine s)) 0 → b ≡ true) [ true ↦ λ _. refl | false ↦ λ k. absurd (z k) ]) e
+  whole-some z =
+      (elim (holdsLine s) as (λ b. n ≡ cond b (length (nextLine s)) 0 → b ≡ true) [ true ↦ λ _. refl | false ↦ λ k. absurd (z k) ]) e
 
   pub whole-length : holdsLine s ≡ true → n ≡ length (nextLine s)
   whole-length t = e ∙ ap (λ (b : Bool). cond b (length (nextLine s)) 0) t

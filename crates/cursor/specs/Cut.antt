@@ -1,6 +1,6 @@
--- The input cut into lines, as `merge` plays them: every line is one text; of a line that the buffer does not hold whole only the first bytes are,
--- and the last line needs no 0A. No contract says what a read brings or whether a write is taken: `fresh` is what the reads of a call brought,
--- and a failed write is one of the ways to end. Assumes nothing.
+-- The input cut into lines, as `merge` plays them: each line is one text; of a line longer than the buffer the text is what the buffer holds;
+-- the last line needs no 0A. No contract says what a read brings or whether a write is taken: here `fresh` is what the reads of a call
+-- brought, and a failed write is one of the ways to end. Assumes nothing.
 use Prim.Native.Nat.{ℕ, _+_, _-_, _≤_, _<_}
 use mathlib.Core.Path.{_≡_}
 use mathlib.Core.Bool.{Bool, true, false, cond, _||_}
@@ -61,8 +61,8 @@ allRead end plays passing last =
 
 -- ---- the next text
 
--- why none is played: nothing is left of the input (but settings that never came are played, as an empty text); a write failed, for which there
--- was something to write; or a line that filled the buffer was not over after 2^64 - 2 bytes more
+-- why none is played: nothing is left of the input (but settings that never came are played, as an empty text); a write failed, for which
+-- there was something to write; or a line that filled the buffer was not over after 2^64 - 2 bytes more
 pub data Unplayed (opened : Bool) (c : Cursor) (buf fresh : List ℕ) : Type 0 where
   over : ahead buf c fresh ≡ [] → (opened || c .passing) ≡ true → Unplayed opened c buf fresh
   failed : 0 < c .used → Unplayed opened c buf fresh
@@ -71,10 +71,11 @@ pub data Unplayed (opened : Bool) (c : Cursor) (buf fresh : List ℕ) : Type 0 w
 -- from a cursor on a buffer to the next text, which is at r on the buffer `after`; `room` is the length of the output
 pub record Fetched (opened : Bool) (c : Cursor) (buf : List ℕ) (r : Cursor) (after : List ℕ) (room : ℕ) : Type 0 where
   pub fresh : List ℕ
-  -- whatever the input goes on with (nothing, behind the last text): the text is the next line, as much of it as the buffer holds, and what is
-  -- then still to be cut is all that follows that line
+  -- whatever the input goes on with (nothing, behind the last text): the text is the next line, as much of it as the buffer holds, and what
+  -- is then still to be cut is all that follows that line
   pub played : r .plays ≡ true → (more : List ℕ) → (r .last ≡ true → more ≡ [])
-      → (textAt after r ≡ take (length buf) (nextLine (ahead buf c (fresh ++ more)))) × (ahead after r more ≡ behindLine (ahead buf c (fresh ++ more)))
+      → (textAt after r ≡ take (length buf) (nextLine (ahead buf c (fresh ++ more))))
+      × (ahead after r more ≡ behindLine (ahead buf c (fresh ++ more)))
   -- only a text without 0A can be the last
   pub ended : r .plays ≡ true → r .last ≡ true → holdsLine (ahead buf c fresh) ≡ false
   pub unplayed : r .plays ≡ false → (r .last ≡ true) × Unplayed opened c buf fresh

@@ -154,8 +154,9 @@ fn bytes_left(at: usize, have: usize, passing: bool) -> usize
     if passing { 0 } else { have - at }
 }
 
-// Reads on behind what is left, which is no whole line, after all output so far is written. A text that fills the buffer is played, as no text
-// of the form does, and the rest of its line passed over. At the end of the input a text without 0A is played, and settings that never came.
+// Reads on behind what is left, which holds no whole line, after all output so far is written. A text that fills the buffer is played, as no
+// text of the form does, and the rest of its line passed over. At the end of the input a text without 0A is played, and settings that never
+// came.
 fn refill(cursor: Cursor, opened: bool, buf: &mut [u8], out: &[u8]) -> Cursor
     requires { ⌜ Ready (length (now buf)) (length (now out)) cursor × (holdsLine (unread (now buf) cursor) ≡ false) ⌝ }
     ensures { λ r. ⌜ Lies (length (now (buf .entry))) (length (now (out .entry))) r ⌝ }
@@ -214,7 +215,7 @@ fn advance(cursor: Cursor, opened: bool, buf: &mut [u8], out: &[u8]) -> Cursor
     }
 }
 
-// Goes on to the next text to play, or to the end.
+// Goes on to the next text to play, or to the end. Before the settings are played, the end of the input is a text too.
 pub fn fetch(mut cursor: Cursor, opened: bool, buf: &mut [u8], out: &[u8]) -> Cursor
     requires { ⌜ Ready (length (now buf)) (length (now out)) cursor ⌝ }
     ensures { λ r. ⌜ Lies (length (now (buf .entry))) (length (now (out .entry))) r ⌝ }

@@ -1,5 +1,5 @@
--- A playback's beginning put together from what its parts ensure: from a cursor that has read nothing there is always a first text, and nothing is
--- written before it, so that the answer line stands at the front of the output. Assumes nothing.
+-- A playback's beginning put together from what its parts ensure: where nothing was read and nothing is to be written there is always a
+-- first text, and its answer line stands at the front of the output. Assumes nothing.
 use mathlib.Core.Path.{_≡_, refl, ap, subst, _∙_}
 use mathlib.Core.Bool.{Bool, true, false}
 use mathlib.Core.List.{List, _++_}
@@ -33,7 +33,8 @@ true-unless : (b : Bool) → (b ≡ false → ⊥) → b ≡ true
 true-unless true f = refl
 true-unless false f = absurd (f refl)
 
-module _ (buf : List ℕ) (first : Cursor) (held : List ℕ) (room : ℕ) (f : Fetched false (allRead 0 false false false) buf first held room) where
+module _ (buf : List ℕ) (first : Cursor) (held : List ℕ) (room : ℕ)
+    (f : Fetched false (allRead 0 false false false) buf first held room) where
   first-plays : first .plays ≡ true
   first-plays = true-unless (first .plays) (λ e. none-unplayed (f .unplayed e .1))
 
@@ -49,15 +50,18 @@ front-laid out bytes at e = rw (e, zero-add (length bytes))
 -- ---- the whole
 
 pub begun : (buf out : List ℕ) (x : Columns) (begin : Cursor) → begin ≡ allRead 0 false false false → (first : Cursor) (held : List ℕ)
-    → Fetched false begin buf first held (length out) → (closed : State) → closed ≡ closedState → (r : Started) (y : Columns) (used : ℕ) (m : List ℕ)
+    → Fetched false begin buf first held (length out) → (closed : State) → closed ≡ closedState
+    → (r : Started) (y : Columns) (used : ℕ) (m : List ℕ)
     → (r .state ≡ openedOn closed x (textAt held first) .state) × (y ≡ openedOn closed x (textAt held first) .columns)
     × (used ≡ length (openingText (openedOn closed x (textAt held first))))
     × (m ≡ inFront (openingText (openedOn closed x (textAt held first))) (take (length out - first .used) (drop (first .used) out)))
     → (after : List ℕ) → length (putMid (first .used) (length out - first .used) out m) ≡ length out
-    → Followed (lastIf (eqb (r .state .settings .lines) 0) first) used held (r .cursor) after (length (putMid (first .used) (length out - first .used) out m))
+    → Followed (lastIf (eqb (r .state .settings .lines) 0) first) used held (r .cursor) after
+    (length (putMid (first .used) (length out - first .used) out m))
     → Begun buf out x r after (putMid (first .used) (length out - first .used) out m) y
 begun buf out x begin b first held f closed z r y used m p after same o =
-    let found : Fetched false (allRead 0 false false false) buf first held (length out) = subst (λ (c : Cursor). Fetched false c buf first held (length out)) b f in
+    let found : Fetched false (allRead 0 false false false) buf first held (length out) =
+    subst (λ (c : Cursor). Fetched false c buf first held (length out)) b f in
     let text : List ℕ = textAt held first in
     record {
       first = first;

@@ -39,5 +39,5 @@ pub record Begun (buf out : List ℕ) (x : Columns) (r : Started) (after left : 
   pub columns : y ≡ openedOn closedState x (textAt held first) .columns
   pub answer : left ≡ inFront (openingText (openedOn closedState x (textAt held first))) out
   -- what follows it is played, unless no network is open
-  pub onward : Followed (lastIf (eqb (r .state .settings .lines) 0) first) (length (openingText (openedOn closedState x (textAt held first)))) held (r .cursor)
-      after (length out)
+  pub onward : Followed (lastIf (eqb (r .state .settings .lines) 0) first)
+      (length (openingText (openedOn closedState x (textAt held first)))) held (r .cursor) after (length out)

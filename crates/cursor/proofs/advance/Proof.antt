@@ -1,4 +1,4 @@
--- `cursor::advance` meets its contract: a whole line of the buffer is the next text, and without one the buffer is refilled. Assumes nothing.
+-- `cursor::advance` meets its contract: a whole line of the buffer is found, and without one the buffer is refilled. Assumes nothing.
 use native.Mathlib.Omega.{arith}
 use borrow.Author.Needs.{needs}
 use mathlib.Core.Path.{_≡_}
@@ -22,7 +22,8 @@ whole l =
     let a = begun (l .before) .args in
     whole-some (unread (a .buf .now) (a .cursor)) (l .before .whole-line .result) (l .before .whole-line .ensures) (l .if1 .left)
 
-long : (l : tie.Else1) → l .before .whole-line .result ≡ length (nextLine (unread (begun (l .before) .args .buf .now) (begun (l .before) .args .cursor)))
+long : (l : tie.Else1)
+    → l .before .whole-line .result ≡ length (nextLine (unread (begun (l .before) .args .buf .now) (begun (l .before) .args .cursor)))
 long l =
     let a = begun (l .before) .args in
     whole-length (unread (a .buf .now) (a .cursor)) (l .before .whole-line .result) (l .before .whole-line .ensures) (whole l)

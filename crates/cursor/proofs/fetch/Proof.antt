@@ -1,18 +1,17 @@
--- `cursor::fetch` meets its contract: in the loop nothing of what is to be cut is lost, and each turn but one reads a byte. Assumes nothing.
+-- `cursor::fetch` meets its contract: in the loop nothing of what is to be cut is lost, and every turn but one reads. Assumes nothing.
 use native.Mathlib.Omega.{arith}
 use mathlib.Core.Path.{_≡_, refl, sym, subst, _∙_}
-use Prim.Native.Nat.{ℕ, _≤_}
+use Prim.Native.Nat.{ℕ}
 use lib.ListN.{length}
-use Rattle.reply.specs.Reply.{longestReply}
 use Rattle.cursor.specs.declared.Cursor.{Cursor}
-use Rattle.cursor.specs.Cut.{Lies, Fetched}
+use Rattle.cursor.specs.Cut.{Ready, Lies, Fetched}
 use Rattle.cursor.proofs.Turns.{Searched, searched-none, searched-more, further-fetched, further-endless}
 use Rattle.cursor.proofs.fetch.Statement.{statement}
 use Rattle.cursor.proofs.fetch.Tie as tie
 
 abbrev Inv-loop : tie.InvT-loop
 Inv-loop cursor₀ opened buf₀ out turns₀ cursor buf turns =
-    (cursor .at ≤ cursor .have) × (cursor .have ≤ length buf) × (cursor .used ≤ length out) × (longestReply ≤ length out) × (length buf ≡ length buf₀) × Searched cursor₀ buf₀ cursor buf (length out) turns
+    Ready (length buf) (length out) cursor × (length buf ≡ length buf₀) × Searched cursor₀ buf₀ cursor buf (length out) turns
 
 abbrev μ-loop : tie.MeasureT-loop
 μ-loop cursor₀ opened buf₀ out turns₀ cursor buf turns = turns
@@ -30,15 +29,15 @@ entered l = l .before .before .before
 loop-holds : tie.Need-loop-holds Inv-loop μ-loop
 loop-holds c =
     let s = c .before .before in
-    (s .pre .0, s .pre .1, s .pre .2, s .pre .3, refl, searched-none (s .args .cursor) (s .args .buf .now) (length (s .args .out .now)))
+    (s .pre, refl, searched-none (s .args .cursor) (s .args .buf .now) (length (s .args .out .now)))
 
 advance-requires : tie.Need-advance-requires Inv-loop μ-loop
-advance-requires c κs =
-    let i = c .before .before .loop .inv in
-    (i .0, i .1, i .2, i .3)
+advance-requires c κs = c .before .before .loop .inv .0
 
 same-length : tie.Need-same-length Inv-loop μ-loop
-same-length c = c .before .before .before .before .advance .kept .1 .1 .0 ∙ looped (c .before .before .before .before) .loop .inv .4
+same-length c =
+    let a = c .before .before .before .before in
+    a .advance .kept .1 .1 .0 ∙ looped a .loop .inv .1
 
 returns : tie.Need-returns Inv-loop μ-loop
 returns c =
@@ -47,9 +46,9 @@ returns c =
     let s = entered (looped a) in
     let r = a .advance .result in
     let e = a .advance .ensures in (
-      subst (λ (n : ℕ). Lies n (length (s .args .out .now)) r) (l .inv .4) (e .0),
-      further-fetched (s .args .cursor) (s .args .buf .now) (length (s .args .out .now)) (l .cursor) (l .buf) (l .inv .5 .0) (s .args .opened) r (a .advance .last .1 .1 .0)
-          (l .inv .4) (e .1 .found (c .if1 .taken)),
+      subst (λ (n : ℕ). Lies n (length (s .args .out .now)) r) (l .inv .1) (e .0),
+      further-fetched (s .args .cursor) (s .args .buf .now) (length (s .args .out .now)) (l .cursor) (l .buf) (l .inv .2 .0)
+          (s .args .opened) r (a .advance .last .1 .1 .0) (l .inv .1) (e .1 .found (c .if1 .taken)),
     )
 
 sub-turns : tie.Need-sub-turns Inv-loop μ-loop
@@ -66,20 +65,17 @@ loop-again c =
     let e = a .advance .ensures in
     let k = a .advance .kept .1 .1 .0 in
     let g = e .1 .further (c .if1 .left) in (
-      e .0 .2,
-      omega (arith, e .0 .3, k),
-      omega (arith, e .0 .4),
-      l .inv .3,
-      k ∙ l .inv .4,
-      searched-more (s .args .cursor) (s .args .buf .now) (length (s .args .out .now)) (l .cursor) (l .buf) (l .turns) (l .inv .5) (omega arith) (a .advance .result)
-          (a .advance .last .1 .1 .0) (g .0) (g .1),
+      (e .0 .2, omega (arith, e .0 .3, k), omega (arith, e .0 .4), l .inv .0 .3),
+      k ∙ l .inv .1,
+      searched-more (s .args .cursor) (s .args .buf .now) (length (s .args .out .now)) (l .cursor) (l .buf) (l .turns) (l .inv .2)
+          (omega arith) (a .advance .result) (a .advance .last .1 .1 .0) (g .0) (g .1),
     )
 
 ended-requires : tie.Need-ended-requires Inv-loop μ-loop
 ended-requires c κs = tt
 
 same-length-2 : tie.Need-same-length-2 Inv-loop μ-loop
-same-length-2 c = c .before .before .loop .inv .4
+same-length-2 c = c .before .before .loop .inv .1
 
 returns-2 : tie.Need-returns-2 Inv-loop μ-loop
 returns-2 c =
@@ -89,9 +85,9 @@ returns-2 c =
     (λ (r : Cursor). Lies (length (s .args .buf .now)) (length (s .args .out .now)) r
     × Fetched (s .args .opened) (s .args .cursor) (s .args .buf .now) r (l .buf) (length (s .args .out .now)))
     (sym (c .ended .ensures)) (
-      omega (arith, l .inv .3),
-      further-endless (s .args .cursor) (s .args .buf .now) (length (s .args .out .now)) (l .cursor) (l .buf) (l .inv .5 .0) (s .args .opened) (omega (arith, l .inv .5 .1))
-          (l .inv .0, l .inv .1) (omega (arith, l .inv .4)),
+      omega (arith, l .inv .0 .3),
+      further-endless (s .args .cursor) (s .args .buf .now) (length (s .args .out .now)) (l .cursor) (l .buf) (l .inv .2 .0)
+          (s .args .opened) (omega (arith, l .inv .2 .1)) (l .inv .0 .0, l .inv .0 .1) (omega (arith, l .inv .1)),
     )
 
 pub fetch-spec : {M : Type 1} → statement M

@@ -1,14 +1,13 @@
 -- `cursor::refill` meets its contract: what is kept stands in front, and what was read behind it. Assumes nothing.
 use native.Mathlib.Omega.{arith}
 use borrow.Author.Needs.{needs}
-use mathlib.Core.Path.{_≡_, subst, sym, _∙_}
-use mathlib.Core.Bool.{Bool, cond}
+use mathlib.Core.Path.{_≡_, _∙_}
+use mathlib.Core.Bool.{cond}
 use mathlib.Core.List.{List, []}
 use Prim.Native.Nat.{ℕ, _+_, _-_, _≤_}
 use lib.ListN.{length, take, drop}
 use borrow.Rule.Slice.PartMut.{putMid, same-len-mid}
-use Rattle.cursor.specs.declared.Cursor.{Cursor}
-use Rattle.cursor.specs.Cut.{unread, Lies, Advanced}
+use Rattle.cursor.specs.Cut.{unread}
 use Rattle.cursor.proofs.Cuts.{kept-front, lent-front, front-some, part-used}
 use Rattle.cursor.proofs.Refills.{refill-failed, refill-full, refill-ended, refill-more}
 use Rattle.cursor.proofs.refill.Statement.{statement}
@@ -25,30 +24,37 @@ kept r = r .before .before .before .before .before .before .before
 abbrev shifted : tie.After-read-in → tie.After-shift
 shifted r = r .before .before .before .before
 
+-- the buffer behind the read
+abbrev filled : tie.After-read-in → List ℕ
+filled r =
+    let n = kept r .bytes-left .result in
+    let l = shifted r .shift .last .0 in
+    putMid n (length l - n) l (r .read-in .last .0)
+
 -- what is kept stands in front
 front : (r : tie.After-read-in)
-    → take (kept r .bytes-left .result)
-    (putMid (kept r .bytes-left .result) (length (shifted r .shift .last .0) - kept r .bytes-left .result) (shifted r .shift .last .0) (r .read-in .last .0))
+    → take (kept r .bytes-left .result) (filled r)
     ≡ cond (begun (kept r) .args .cursor .passing) [] (unread (begun (kept r) .args .buf .now) (begun (kept r) .args .cursor))
 front r =
     let a = begun (kept r) .args in
     let b = kept r .bytes-left in
     let s = shifted r .shift in
     lent-front (b .result) (s .last .0) (r .read-in .last .0) (omega arith)
-    ∙ kept-front (a .cursor .passing) (a .cursor .have - a .cursor .at) (b .result) (s .last .0) (drop (a .cursor .at) (a .buf .now)) (b .ensures .1) (s .ensures)
+    ∙ kept-front (a .cursor .passing) (a .cursor .have - a .cursor .at) (b .result) (s .last .0) (drop (a .cursor .at) (a .buf .now))
+    (b .ensures .1) (s .ensures)
 
--- what was read lies within the buffer
-within : (r : tie.After-read-in) → kept r .bytes-left .result + r .read-in .result
-    ≤ length (putMid (kept r .bytes-left .result) (length (shifted r .shift .last .0) - kept r .bytes-left .result) (shifted r .shift .last .0) (r .read-in .last .0))
+-- what was read lies within the buffer, which is as long as it was
+same : (r : tie.After-read-in) → length (filled r) ≡ length (begun (kept r) .args .buf .now)
+same r =
+    let n = kept r .bytes-left .result in
+    let l = shifted r .shift .last .0 in
+    same-len-mid n (length l - n) l (r .read-in .last .0) (r .read-in .kept .0) ∙ shifted r .shift .kept .0
+
+within : (r : tie.After-read-in) → kept r .bytes-left .result + r .read-in .result ≤ length (filled r)
 within r =
     let n = kept r .bytes-left .result in
     let l = shifted r .shift .last .0 in
-    omega (arith, same-len-mid n (length l - n) l (r .read-in .last .0) (r .read-in .kept .0), part-used l n (r .read-in .result) (omega arith) (r .read-in .ensures))
-
--- a cursor that was made by a function of its own
-met : (size room : ℕ) (opened : Bool) (c : Cursor) (buf after : List ℕ) {r q : Cursor} → r ≡ q → Lies size room q → Advanced opened c buf q after room
-    → Lies size room r × Advanced opened c buf r after room
-met size room opened c buf after e l a = subst (λ (x : Cursor). Lies size room x × Advanced opened c buf x after room) (sym e) (l, a)
+    omega (arith, same r, shifted r .shift .kept .0, part-used l n (r .read-in .result) (omega arith) (r .read-in .ensures))
 
 -- ---- the needs
 
@@ -70,9 +76,8 @@ ended-requires c κs = search needs
 returns : tie.Need-returns
 returns c =
     let s = c .before .before .before .before .before .before in
-    met (length (s .args .buf .now)) (length (s .args .out .now)) (s .args .opened) (s .args .cursor) (s .args .buf .now) (s .args .buf .now) (c .ended .ensures)
-    (omega arith)
-    (refill-failed (s .args .opened) (s .args .cursor) (s .args .buf .now) (length (s .args .out .now)) (s .pre .0 .0, s .pre .0 .1) (s .pre .1) (front-some _ _ (c .before .before .write-out .ensures (c .before .if1 .taken))))
+    refill-failed (s .args .opened) (s .args .cursor) (s .args .buf .now) (length (s .args .out .now)) (s .pre .0) (s .pre .1) (c .ended .ensures)
+    (front-some _ _ (c .before .before .write-out .ensures (c .before .if1 .taken)))
 
 bytes-left-requires : tie.Need-bytes-left-requires
 bytes-left-requires c κs = search needs
@@ -84,9 +89,8 @@ returns-2 : tie.Need-returns-2
 returns-2 c =
     let b = c .before .before in
     let s = begun b in
-    met (length (s .args .buf .now)) (length (s .args .out .now)) (s .args .opened) (s .args .cursor) (s .args .buf .now) (s .args .buf .now) (c .all-read .ensures)
-    (omega arith)
-    (refill-full (s .args .opened) (s .args .cursor) (s .args .buf .now) (length (s .args .out .now)) (s .pre .0 .0, s .pre .0 .1) (s .pre .1) (b .bytes-left .result) (b .bytes-left .ensures .1) (c .before .if2 .taken))
+    refill-full (s .args .opened) (s .args .cursor) (s .args .buf .now) (length (s .args .out .now)) (s .pre .0) (s .pre .1)
+    (b .bytes-left .result) (b .bytes-left .ensures .1) (c .all-read .ensures) (c .before .if2 .taken)
 
 shift-requires : tie.Need-shift-requires
 shift-requires c κs = search needs
@@ -113,9 +117,8 @@ returns-3 : tie.Need-returns-3
 returns-3 c =
     let r = c .before .before .before .before in
     let s = begun (kept r) in
-    met (length (s .args .buf .now)) (length (s .args .out .now)) (s .args .opened) (s .args .cursor) (s .args .buf .now) _ (c .all-read2 .ensures)
-    (omega arith)
-    (refill-ended (s .args .opened) (s .args .cursor) (s .args .buf .now) (length (s .args .out .now)) (s .pre .0 .0, s .pre .0 .1) (s .pre .1) (kept r .bytes-left .result) (kept r .bytes-left .ensures .1) _ (front r))
+    refill-ended (s .args .opened) (s .args .cursor) (s .args .buf .now) (length (s .args .out .now)) (s .pre .0) (s .pre .1)
+    (kept r .bytes-left .result) (kept r .bytes-left .ensures .1) (filled r) (front r) (c .all-read2 .ensures)
 
 add-t12 : tie.Need-add-t12
 add-t12 c = search needs
@@ -127,7 +130,8 @@ returns-4 : tie.Need-returns-4
 returns-4 c =
     let r = c .before .before .before in
     let s = begun (kept r) in
-    (omega arith, refill-more (s .args .opened) (s .args .cursor) (s .args .buf .now) (length (s .args .out .now)) (s .pre .0 .0, s .pre .0 .1) (s .pre .1) (kept r .bytes-left .result) (kept r .bytes-left .ensures .1) _ (front r) (r .read-in .result) (omega arith) (within r))
+    refill-more (s .args .opened) (s .args .cursor) (s .args .buf .now) (length (s .args .out .now)) (s .pre .0) (s .pre .1)
+    (kept r .bytes-left .result) (kept r .bytes-left .ensures .1) (filled r) (front r) (r .read-in .result) (omega arith) (within r) (same r)
 
 pub refill-spec : {M : Type 1} → statement M
 refill-spec =

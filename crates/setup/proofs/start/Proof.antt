@@ -1,13 +1,12 @@
 -- `setup::start` meets its contract: the settings' text lies within the buffer and their reply has room in the output, and what is left of
--- both is what the first journal line asks for. Assumes nothing.
+-- both is what the first journal line asks for. What comes out is put together from what the parts ensure. Assumes nothing.
 use native.Mathlib.Omega.{arith}
 use borrow.Author.Needs.{needs}
 use mathlib.Core.Path.{sym, subst, _∙_}
 use Prim.Native.Nat.{_+_, _-_, _≤_}
 use lib.ListN.{length}
 use borrow.Rule.Slice.PartMut.{same-len-mid}
-use Rattle.reply.specs.Reply.{longestReply}
-use Rattle.cursor.specs.declared.Cursor.{Cursor}
+use Rattle.cursor.specs.Cut.{Ready}
 use Rattle.cursor.proofs.Cuts.{part-used}
 use Rattle.setup.proofs.Fronts.{front-within}
 use Rattle.setup.proofs.Starts.{begun}
@@ -37,8 +36,7 @@ fetch-requires : tie.Need-fetch-requires
 fetch-requires c κs =
     let b = c .before .before .begin in
     let s = c .before .before .before .before .before .before .before .before .before .before in
-    subst (λ (r : Cursor). (r .at ≤ r .have) × (r .have ≤ length (s .args .buf .now)) × (r .used ≤ length (s .args .out .now)) × (longestReply ≤ length (s .args .out .now)))
-    (sym (b .ensures)) (omega arith, omega arith, omega arith, s .pre)
+    subst (Ready (length (s .args .buf .now)) (length (s .args .out .now))) (sym (b .ensures)) (omega arith, omega arith, omega arith, s .pre)
 
 closed-state-requires : tie.Need-closed-state-requires
 closed-state-requires c κs = search needs
