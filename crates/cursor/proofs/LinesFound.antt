@@ -12,7 +12,8 @@ use Rattle.fields.proofs.Lines.{line-within}
 use Rattle.reply.specs.Reply.{longestReply}
 use Rattle.store.proofs.Choices.{not-both, false-unless}
 use Rattle.cursor.specs.declared.Cursor.{Cursor}
-use Rattle.cursor.specs.Cut.{holdsLine, behindLine, past, unread, failed, Advanced}
+use Rattle.cursor.specs.Cut.{holdsLine, behindLine, past, unread, failed}
+use Rattle.cursor.specs.Step.{Advanced}
 use Rattle.cursor.proofs.WholeLines.{whole-append, line-front, behind-whole}
 use Rattle.cursor.proofs.Cuts.{first-part, second-part, length-part}
 use Rattle.cursor.proofs.Past.{past-over, plays-unpassing}

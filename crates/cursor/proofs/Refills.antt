@@ -13,7 +13,8 @@ use lib.Seq.{length-take-le, take-all, take-append-seam}
 use Rattle.fields.specs.Line.{nextLine}
 use Rattle.store.proofs.Choices.{not-both}
 use Rattle.cursor.specs.declared.Cursor.{Cursor}
-use Rattle.cursor.specs.Cut.{holdsLine, behindLine, past, unread, allRead, Ready, Lies, failed, over, Advanced}
+use Rattle.cursor.specs.Cut.{holdsLine, behindLine, past, unread, allRead, Ready, Lies, failed, over}
+use Rattle.cursor.specs.Step.{Advanced}
 use Rattle.cursor.proofs.WholeLines.{part-append, part-line, behind-part, behind-none}
 use Rattle.cursor.proofs.Cuts.{read-behind, length-part, part-whole}
 use Rattle.cursor.proofs.Past.{past-read, past-end, past-part, plays-unpassing}

@@ -10,7 +10,8 @@ use lib.ListN.{length, take, length-append}
 use Rattle.fields.specs.Line.{nextLine}
 use Rattle.store.proofs.Choices.{not-both}
 use Rattle.cursor.specs.declared.Cursor.{Cursor}
-use Rattle.cursor.specs.Cut.{holdsLine, behindLine, past, unread, ahead, Unplayed, over, failed, endless, Fetched, Further, allRead}
+use Rattle.cursor.specs.Cut.{holdsLine, behindLine, past, unread, ahead, Unplayed, over, failed, endless, Fetched, allRead}
+use Rattle.cursor.specs.Step.{Further}
 use Rattle.cursor.proofs.Cuts.{length-part}
 use Rattle.cursor.proofs.Past.{past-within}
 

@@ -1,2 +1,3 @@
 -- The input cut into lines.
 pub mod Cut
+pub mod Step

@@ -6,7 +6,8 @@ ghost use Prim.Native.Nat.{_+_, _-_, _<_, _≤_};
 ghost use lib.ListN.{length, take, drop};
 ghost use Rattle.fields.specs.Line.{nextLine};
 ghost use Rattle.reply.specs.Reply.{longestReply};
-ghost use Rattle.cursor.specs.Cut.{holdsLine, unread, allRead, replied, Ready, Lies, Advanced, Fetched, Followed};
+ghost use Rattle.cursor.specs.Cut.{holdsLine, unread, allRead, replied, Ready, Lies, Fetched, Followed};
+ghost use Rattle.cursor.specs.Step.{Advanced};
 
 // Writes all these bytes out; answers whether they were taken, as no bytes always are. A write that a signal interrupts is tried again.
 fn write_out(bytes: &[u8]) -> bool
