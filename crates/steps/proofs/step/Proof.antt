@@ -8,32 +8,85 @@ use Rattle.settings.specs.Limits.{maxLines}
 use Rattle.store.specs.Lists.{Every}
 use Rattle.store.specs.Columns.{Columns, columnsOf}
 use Rattle.operator.proofs.FromPlace.{length-mapped}
+use Rattle.protocol.specs.declared.Rule.{Rule}
 use Rattle.protocol.specs.declared.Rule.the-variants as Rule
 use Rattle.node.proofs.LineHead.{the-field as head-field}
 use Rattle.node.proofs.Limits.{limits-hold}
-use Rattle.node.proofs.Shape.{inShape-facts}
+use Rattle.node.proofs.Shape.{InShape, inShape-facts}
 use Rattle.node.proofs.Calls.{HostPassed, host-passed}
 use Rattle.steps.proofs.ByRule.{Found, idle-acts, by-rule}
 use Rattle.steps.proofs.Within.{BoundaryWithin, every-owned, stable-within, tentative-within}
 use Rattle.steps.proofs.step.Statement.{statement}
 use Rattle.steps.proofs.step.Tie as tie
 
+-- ---- what is known where the step starts
+
+-- the columns as they are lent
+abbrev store : tie.Start → Columns
+store s =
+    columnsOf (s .args .ids .now) (s .args .times .now) (s .args .values .now) (s .args .arrivals .now) (s .args .kinds .now) (s .args .meters .now)
+
 -- the host's tests have passed
-host : (c : tie.Start) → HostPassed (c .args .state) (columnsOf (c .args .ids .now) (c .args .times .now) (c .args .values .now) (c .args .arrivals .now) (c .args .kinds .now) (c .args .meters .now)) (c .args .area .now)
-host c = host-passed (c .args .state) (columnsOf (c .args .ids .now) (c .args .times .now) (c .args .values .now) (c .args .arrivals .now) (c .args .kinds .now) (c .args .meters .now)) (c .args .area .now) (c .pre)
+host : (s : tie.Start) → HostPassed (s .args .state) (store s) (s .args .area .now)
+host s = host-passed (s .args .state) (store s) (s .args .area .now) (s .pre)
+
+shape : (s : tie.Start) → InShape (s .args .state) (store s)
+shape s = inShape-facts (s .args .state) (store s) (host s .shape)
 
 -- the state's array of heads has its length
-all-heads : (c : tie.Start) → length (c .args .state .heads) ≡ maxLines
-all-heads c = let owned = c .good .0 .1 .1 .1 .1 .0 in search (needs, length-mapped)
+all-heads : (s : tie.Start) → length (s .args .state .heads) ≡ maxLines
+all-heads s = let owned = s .good .0 .1 .1 .1 .1 .0 in search (needs, length-mapped)
 
-enough-heads : (c : tie.Start) → c .args .state .settings .lines ≤ length (c .args .state .heads)
-enough-heads c =
-    let x : Columns = columnsOf (c .args .ids .now) (c .args .times .now) (c .args .values .now) (c .args .arrivals .now) (c .args .kinds .now) (c .args .meters .now) in
-    omega (arith, all-heads c, limits-hold (c .args .state .settings) (inShape-facts (c .args .state) x (host c .shape) .limits) .lines)
+enough-heads : (s : tie.Start) → s .args .state .settings .lines ≤ length (s .args .state .heads)
+enough-heads s = omega (arith, all-heads s, limits-hold (s .args .state .settings) (shape s .limits) .lines)
 
-all-boundaries : (c : tie.Start) → Every BoundaryWithin (c .args .state .heads)
-all-boundaries c =
-    every-owned (head-field .row .own) _ BoundaryWithin (λ h v owned. owned .1 .1 .0 .1 .1 .0 .1) (c .args .state .heads) _ (c .good .0 .1 .1 .1 .1 .0 .1 .1)
+all-boundaries : (s : tie.Start) → Every BoundaryWithin (s .args .state .heads)
+all-boundaries s =
+    every-owned (head-field .row .own) _ BoundaryWithin (λ h v owned. owned .1 .1 .0 .1 .1 .0 .1) (s .args .state .heads) _ (s .good .0 .1 .1 .1 .1 .0 .1 .1)
+
+-- ---- the rule, once it is found, and what it is, once it is told; each place names the one that it goes back to
+
+abbrev start : tie.After-rule-of → tie.Start
+start f = f .before .before .before .before .before .before .before .before .before .before .before .before .before
+
+abbrev Is : tie.After-rule-of → Rule → Type 0
+Is f rule = Found (start f .args .tick) (start f .args .state) (store (start f)) rule
+
+is-withdraw : (t : tie.After-enum-told) → Is (t .before .before) Rule.Withdraw
+is-withdraw t =
+    let found = t .before .before .rule-of in record { found = found .result; first = found .ensures; told = t .enum-told .given .1 }
+
+is-work-stable : (t : tie.After-enum-told2) → Is (t .before .before) Rule.WorkStable
+is-work-stable t =
+    let found = t .before .before .rule-of in record { found = found .result; first = found .ensures; told = t .enum-told2 .given .1 }
+
+is-end-correction : (t : tie.After-enum-told3) → Is (t .before .before) Rule.EndCorrection
+is-end-correction t =
+    let found = t .before .before .rule-of in record { found = found .result; first = found .ensures; told = t .enum-told3 .given .1 }
+
+is-work-tentative : (t : tie.After-enum-told4) → Is (t .before .before) Rule.WorkTentative
+is-work-tentative t =
+    let found = t .before .before .rule-of in record { found = found .result; first = found .ensures; told = t .enum-told4 .given .1 }
+
+is-idle : (t : tie.After-enum-told5) → Is (t .before .before) Rule.Idle
+is-idle t =
+    let found = t .before .before .rule-of in record { found = found .result; first = found .ensures; told = t .enum-told5 .given .1 }
+
+-- ---- the rule done; each place names the one that it goes back to
+
+abbrev withdrawing : tie.After-withdraw → tie.After-enum-told
+withdrawing d = d .before .before
+
+abbrev working-stable : tie.After-work-stable → tie.After-enum-told2
+working-stable d = d .before .before .before .before .before .before .before .before
+
+abbrev ending : tie.After-end-correction → tie.After-enum-told3
+ending d = d .before .before
+
+abbrev working-tentative : tie.After-work-tentative → tie.After-enum-told4
+working-tentative d = d .before .before .before .before .before .before .before .before
+
+-- ---- the needs
 
 rule-of-requires : tie.Need-rule-of-requires
 rule-of-requires c κs = let h = host (c .before .before .before .before .before .before .before .before .before .before .before .before) in (h .room, h .shape)
@@ -43,44 +96,35 @@ enum-told c = search needs
 
 withdraw-requires : tie.Need-withdraw-requires
 withdraw-requires c κs =
-    let start = c .before .before .before .before .before .before .before .before .before .before .before .before .before .before .before .before in
-    let a = start .args in
-    let x : Columns = columnsOf (a .ids .now) (a .times .now) (a .values .now) (a .arrivals .now) (a .kinds .now) (a .meters .now) in
-    let h = host start in
-    let shape = inShape-facts (a .state) x (h .shape) in
-    (omega (arith, h .bytes), omega (arith, shape .numbers .stable, shape .buckets .order, shape .buckets .last))
+    let s = start (c .before .before .before) in
+    (omega (arith, host s .bytes), omega (arith, shape s .numbers .stable, shape s .buckets .order, shape s .buckets .last))
 
 enum-told-2 : tie.Need-enum-told-2
 enum-told-2 c = search needs
 
 work-stable-requires : tie.Need-work-stable-requires
 work-stable-requires c κs =
-    let start = c .before .before .before .before .before .before .before .before .before .before .before .before .before .before .before .before .before .before .before .before .before .before in
-    let a = start .args in
-    let x : Columns = columnsOf (a .ids .now) (a .times .now) (a .values .now) (a .arrivals .now) (a .kinds .now) (a .meters .now) in
-    let h = host start in
-    let rule = c .before .before .before .before .before .before .before .before .before .rule-of in
-    let is : Found (a .tick) (a .state) x Rule.WorkStable = record { found = rule .result; first = rule .ensures; told = c .before .before .before .before .before .before .before .enum-told2 .given .1 } in
-    (h .room, h .shape, h .bytes, stable-within (a .state) x (a .tick) (enough-heads start) (inShape-facts (a .state) x (h .shape)) (all-boundaries start) is)
+    let t = c .before .before .before .before .before .before .before in
+    let s = start (t .before .before) in
+    let h = host s in
+    (h .room, h .shape, h .bytes, stable-within (s .args .state) (store s) (s .args .tick) (enough-heads s) (shape s) (all-boundaries s) (is-work-stable t))
 
 enum-told-3 : tie.Need-enum-told-3
 enum-told-3 c = search needs
 
 end-correction-requires : tie.Need-end-correction-requires
-end-correction-requires c κs = omega (arith, host (c .before .before .before .before .before .before .before .before .before .before .before .before .before .before .before .before) .bytes)
+end-correction-requires c κs = omega (arith, host (start (c .before .before .before)) .bytes)
 
 enum-told-4 : tie.Need-enum-told-4
 enum-told-4 c = search needs
 
 work-tentative-requires : tie.Need-work-tentative-requires
 work-tentative-requires c κs =
-    let start = c .before .before .before .before .before .before .before .before .before .before .before .before .before .before .before .before .before .before .before .before .before .before in
-    let a = start .args in
-    let x : Columns = columnsOf (a .ids .now) (a .times .now) (a .values .now) (a .arrivals .now) (a .kinds .now) (a .meters .now) in
-    let h = host start in
-    let rule = c .before .before .before .before .before .before .before .before .before .rule-of in
-    let is : Found (a .tick) (a .state) x Rule.WorkTentative = record { found = rule .result; first = rule .ensures; told = c .before .before .before .before .before .before .before .enum-told4 .given .1 } in
-    (h .room, h .shape, h .bytes, tentative-within (a .state) x (a .tick) (enough-heads start) (inShape-facts (a .state) x (h .shape)) (λ i. c .before .before .before .before .before .before .before .before .before .before .before .before .before .before .before .before .before .before .before .before .slice-known2 .given i .fits) is)
+    let t = c .before .before .before .before .before .before .before in
+    let f = t .before .before in
+    let s = start f in
+    let h = host s in
+    (h .room, h .shape, h .bytes, tentative-within (s .args .state) (store s) (s .args .tick) (enough-heads s) (shape s) (λ i. f .before .before .before .before .before .before .before .before .before .before .before .slice-known2 .given i .fits) (is-work-tentative t))
 
 enum-told-5 : tie.Need-enum-told-5
 enum-told-5 c = search needs
@@ -108,44 +152,44 @@ same-length-7 c = c .before .before .withdraw .kept .1 .0
 
 returns : tie.Need-returns
 returns c =
-    let start = c .before .before .before .before .before .before .before .before .before .before .before .before .before .before .before .before .before .before .before in
-    let a = start .args in
-    let x : Columns = columnsOf (a .ids .now) (a .times .now) (a .values .now) (a .arrivals .now) (a .kinds .now) (a .meters .now) in
-    let h = host start in
-    let rule = c .before .before .before .before .before .before .rule-of in
-    let is : Found (a .tick) (a .state) x Rule.Withdraw = record { found = rule .result; first = rule .ensures; told = c .before .before .before .before .enum-told .given .1 } in
-    by-rule (a .tick) Rule.Withdraw (a .state) x (a .area .now) _ _ _ _ is (c .before .before .withdraw .ensures x (h .room) (h .shape))
+    let d = c .before .before in
+    let t = withdrawing d in
+    let s = start (t .before .before) in
+    by-rule (s .args .tick) Rule.Withdraw (s .args .state) (store s) (s .args .area .now) _ _ _ _ (is-withdraw t)
+    (d .withdraw .ensures (store s) (host s .room) (host s .shape))
+
+-- bucket c worked, and the columns handed back
+abbrev worked-stable : tie.After-slice-known13 → tie.After-work-stable
+worked-stable c = c .before .before .before .before .before .before .before .before .before .before .before .before .before
 
 same-length-8 : tie.Need-same-length-8
-same-length-8 c = c .before .before .before .before .before .before .before .before .before .before .before .before .before .work-stable .kept .1 .0
+same-length-8 c = worked-stable c .work-stable .kept .1 .0
 
 same-length-9 : tie.Need-same-length-9
-same-length-9 c = c .before .before .before .before .before .before .before .before .before .before .before .before .before .work-stable .kept .1 .1 .0
+same-length-9 c = worked-stable c .work-stable .kept .1 .1 .0
 
 same-length-10 : tie.Need-same-length-10
-same-length-10 c = c .before .before .before .before .before .before .before .before .before .before .before .before .before .work-stable .kept .1 .1 .1 .0
+same-length-10 c = worked-stable c .work-stable .kept .1 .1 .1 .0
 
 same-length-11 : tie.Need-same-length-11
-same-length-11 c = c .before .before .before .before .before .before .before .before .before .before .before .before .before .work-stable .kept .1 .1 .1 .1 .0
+same-length-11 c = worked-stable c .work-stable .kept .1 .1 .1 .1 .0
 
 same-length-12 : tie.Need-same-length-12
-same-length-12 c = c .before .before .before .before .before .before .before .before .before .before .before .before .before .work-stable .kept .1 .1 .1 .1 .1 .0
+same-length-12 c = worked-stable c .work-stable .kept .1 .1 .1 .1 .1 .0
 
 same-length-13 : tie.Need-same-length-13
-same-length-13 c = c .before .before .before .before .before .before .before .before .before .before .before .before .before .work-stable .kept .1 .1 .1 .1 .1 .1 .0
+same-length-13 c = worked-stable c .work-stable .kept .1 .1 .1 .1 .1 .1 .0
 
 same-length-14 : tie.Need-same-length-14
-same-length-14 c = c .before .before .before .before .before .before .before .before .before .before .before .before .before .work-stable .kept .1 .1 .1 .1 .1 .1 .1 .0
+same-length-14 c = worked-stable c .work-stable .kept .1 .1 .1 .1 .1 .1 .1 .0
 
 returns-2 : tie.Need-returns-2
 returns-2 c =
-    let start = c .before .before .before .before .before .before .before .before .before .before .before .before .before .before .before .before .before .before .before .before .before .before .before .before .before .before .before .before .before .before .before .before .before .before .before .before in
-    let a = start .args in
-    let x : Columns = columnsOf (a .ids .now) (a .times .now) (a .values .now) (a .arrivals .now) (a .kinds .now) (a .meters .now) in
-    let h = host start in
-    let rule = c .before .before .before .before .before .before .before .before .before .before .before .before .before .before .before .before .before .before .before .before .before .before .before .rule-of in
-    let is : Found (a .tick) (a .state) x Rule.WorkStable = record { found = rule .result; first = rule .ensures; told = c .before .before .before .before .before .before .before .before .before .before .before .before .before .before .before .before .before .before .before .before .before .enum-told2 .given .1 } in
-    by-rule (a .tick) Rule.WorkStable (a .state) x (a .area .now) _ _ _ _ is (c .before .before .before .before .before .before .before .before .before .before .before .before .before .work-stable .ensures)
+    let d = worked-stable c in
+    let t = working-stable d in
+    let s = start (t .before .before) in
+    by-rule (s .args .tick) Rule.WorkStable (s .args .state) (store s) (s .args .area .now) _ _ _ _ (is-work-stable t)
+    (d .work-stable .ensures)
 
 same-length-15 : tie.Need-same-length-15
 same-length-15 c = refl
@@ -170,13 +214,11 @@ same-length-21 c = c .before .before .end-correction .kept .1 .0
 
 returns-3 : tie.Need-returns-3
 returns-3 c =
-    let start = c .before .before .before .before .before .before .before .before .before .before .before .before .before .before .before .before .before .before .before in
-    let a = start .args in
-    let x : Columns = columnsOf (a .ids .now) (a .times .now) (a .values .now) (a .arrivals .now) (a .kinds .now) (a .meters .now) in
-    let h = host start in
-    let rule = c .before .before .before .before .before .before .rule-of in
-    let is : Found (a .tick) (a .state) x Rule.EndCorrection = record { found = rule .result; first = rule .ensures; told = c .before .before .before .before .enum-told3 .given .1 } in
-    by-rule (a .tick) Rule.EndCorrection (a .state) x (a .area .now) _ _ _ _ is (c .before .before .end-correction .ensures x (h .room) (h .shape))
+    let d = c .before .before in
+    let t = ending d in
+    let s = start (t .before .before) in
+    by-rule (s .args .tick) Rule.EndCorrection (s .args .state) (store s) (s .args .area .now) _ _ _ _ (is-end-correction t)
+    (d .end-correction .ensures (store s) (host s .room) (host s .shape))
 
 same-length-22 : tie.Need-same-length-22
 same-length-22 c = refl
@@ -201,13 +243,11 @@ same-length-28 c = c .before .before .work-tentative .kept .1 .1 .1 .1 .1 .1 .1 
 
 returns-4 : tie.Need-returns-4
 returns-4 c =
-    let start = c .before .before .before .before .before .before .before .before .before .before .before .before .before .before .before .before .before .before .before .before .before .before .before .before .before in
-    let a = start .args in
-    let x : Columns = columnsOf (a .ids .now) (a .times .now) (a .values .now) (a .arrivals .now) (a .kinds .now) (a .meters .now) in
-    let h = host start in
-    let rule = c .before .before .before .before .before .before .before .before .before .before .before .before .rule-of in
-    let is : Found (a .tick) (a .state) x Rule.WorkTentative = record { found = rule .result; first = rule .ensures; told = c .before .before .before .before .before .before .before .before .before .before .enum-told4 .given .1 } in
-    by-rule (a .tick) Rule.WorkTentative (a .state) x (a .area .now) _ _ _ _ is (c .before .before .work-tentative .ensures)
+    let d = c .before .before in
+    let t = working-tentative d in
+    let s = start (t .before .before) in
+    by-rule (s .args .tick) Rule.WorkTentative (s .args .state) (store s) (s .args .area .now) _ _ _ _ (is-work-tentative t)
+    (d .work-tentative .ensures)
 
 same-length-29 : tie.Need-same-length-29
 same-length-29 c = refl
@@ -229,13 +269,9 @@ same-length-34 c = refl
 
 returns-5 : tie.Need-returns-5
 returns-5 c =
-    let start = c .before .before .before .before .before .before .before .before .before .before .before .before .before .before .before in
-    let a = start .args in
-    let x : Columns = columnsOf (a .ids .now) (a .times .now) (a .values .now) (a .arrivals .now) (a .kinds .now) (a .meters .now) in
-    let h = host start in
-    let rule = c .before .before .rule-of in
-    let is : Found (a .tick) (a .state) x Rule.Idle = record { found = rule .result; first = rule .ensures; told = c .enum-told5 .given .1 } in
-    by-rule (a .tick) Rule.Idle (a .state) x (a .area .now) _ _ _ _ is (idle-acts (a .state) x (all-heads start) (h .room) (h .shape) (a .area .now))
+    let s = start (c .before .before) in
+    by-rule (s .args .tick) Rule.Idle (s .args .state) (store s) (s .args .area .now) _ _ _ _ (is-idle c)
+    (idle-acts (s .args .state) (store s) (all-heads s) (host s .room) (host s .shape) (s .args .area .now))
 
 pub step-spec : {M : Type 1} → statement M
 step-spec =
