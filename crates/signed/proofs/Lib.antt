@@ -1,4 +1,5 @@
 -- Laws on signed numbers.
+pub mod Comparing
 pub mod Negation
 pub mod Twos
 pub mod Mean
