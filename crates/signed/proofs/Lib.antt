@@ -2,4 +2,5 @@
 pub mod Comparing
 pub mod Negation
 pub mod Twos
+pub mod Nearest
 pub mod Mean
