@@ -1,5 +1,5 @@
--- The twelve starred examples of document 01, section 'On the last tick and past it', with means rounded as document 02 has it (W1), and its
--- further mean: one table about the definitions that the contracts cite. Assumes nothing.
+-- The twelve starred examples of document 01, section 'On the last tick and past it', with their means rounded as document 02 asks (W1),
+-- and the further mean that it names: one table about the definitions that the contracts cite. Assumes nothing.
 use Prim.Native.Nat.{ℕ, _≤_}
 use mathlib.Core.Path.{_≡_}
 use mathlib.Core.Bool.{true, false}
