@@ -176,7 +176,7 @@ static const struct {
     LACKS("two kind letters", "now=0 line=1 kind=SS id=1 time=9 " ZEROS),
     LACKS("the kind as a number", "now=0 line=1 kind=83 id=1 time=9 " ZEROS),
     LACKS("a record's text",
-          "kind=S id=1 time=0 meter=3 count=2 sum=5 mean=3 last=-2\n"),
+          "kind=S id=1 time=0 meter=3 count=2 sum=5 mean=2 last=-2\n"),
 };
 
 static void each_line(struct report *report)

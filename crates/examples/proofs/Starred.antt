@@ -9,7 +9,8 @@ use lib.Dec.{eqb}
 use borrow.Author.Tests.{lt-leb}
 use Rattle.clock.specs.declared.ReadingTime.{ReadingTime}
 use Rattle.clock.specs.Buckets.{bucketOf, bucketEnd, finishes}
-use Rattle.signed.specs.Mean.{nearest, mean}
+use Rattle.signed.specs.Nearest.{nearest}
+use Rattle.signed.specs.Mean.{mean}
 use Rattle.store.specs.declared.Reading.{Reading}
 use Rattle.store.specs.Lists.{keep, allOf}
 use Rattle.store.specs.Order.{insert, sort, isIn, gather, inBucket}
@@ -52,6 +53,7 @@ starred =
       boundaries100 = λ a b p q. two-lines a b p q;
       fiveHalves = refl;
       minusFiveHalves = refl;
+      sevenHalves = refl;
       sevenThirds = refl;
       minusEightThirds = refl;
       equalTimes = λ r s p _ q _. lower-line-first r s (in-bucket r p) (in-bucket s q) (p ∙ sym q);

@@ -1,5 +1,5 @@
--- The twelve starred examples of document 01, section 'On the last tick and past it', as one table about the definitions that the contracts
--- cite. Assumes nothing.
+-- The twelve starred examples of document 01, section 'On the last tick and past it', with their means rounded as document 02 asks (W1),
+-- and the further mean that it names: one table about the definitions that the contracts cite. Assumes nothing.
 use Prim.Native.Nat.{ℕ, _≤_}
 use mathlib.Core.Path.{_≡_}
 use mathlib.Core.Bool.{true, false}
@@ -28,10 +28,12 @@ pub record Starred : Type 0 where
   -- with boundaries 100 and 100 it is
   pub boundaries100 :
       (a b : Line) → a .boundary ≡ tick 100 → b .boundary ≡ tick 100 → isStable settings 0 (a ∷ b ∷ []) ≡ true
-  -- the mean of 5 over 2 is 3
-  pub fiveHalves : mean (pos 5) 2 ≡ pos 3
-  -- of -5 over 2 it is -3
-  pub minusFiveHalves : mean (negℤ (pos 5)) 2 ≡ negℤ (pos 3)
+  -- the mean of 5 over 2 is 2
+  pub fiveHalves : mean (pos 5) 2 ≡ pos 2
+  -- of -5 over 2 it is -2
+  pub minusFiveHalves : mean (negℤ (pos 5)) 2 ≡ negℤ (pos 2)
+  -- of 7 over 2 it is 4
+  pub sevenHalves : mean (pos 7) 2 ≡ pos 4
   -- of 7 over 3 it is 2
   pub sevenThirds : mean (pos 7) 3 ≡ pos 2
   -- of -8 over 3 it is -3

@@ -1,49 +1,19 @@
--- The mean is the whole number nearest to the quotient, of two equally near the one further from zero, and has the sum's sign. That of a
--- sum in range is no larger than the values' bound, so it fits 32 bits; of no value it is 0. By cases on the sign and bounds on a quotient.
--- Assumes nothing.
+-- The mean has the sum's sign and is the whole number nearest to the quotient, of two equally near the even one. That of a sum in range is
+-- no larger than the values' bound, so it fits 32 bits; of no value it is 0. By cases on the sign. Assumes nothing.
 use mathlib.Core.Path.{_≡_, refl, ap}
 use mathlib.Core.Bool.{true, false}
-use Prim.Native.Nat.{ℕ, zero, suc, _+_, _-_, _*_, _/_, _<_, _≤_, _^_}
+use Prim.Native.Nat.{ℕ, suc, _-_, _*_, _<_, _≤_, _^_}
 use native.Mathlib.Omega.{arith}
-use native.Mathlib.Nat.{div-lt-iff-lt-mul, div-mul-le-self}
-use borrow.Author.Tests.{ltb-true, ne-eqb}
+use borrow.Author.Tests.{ltb-true}
 use lib.IntN.{ℤ, pos, negsuc, negℤ, natAbs}
 use lib.Signed.{ltZ}
 use mir.Syntax.{w32}
 use mir.Val.{SFits}
-use Rattle.signed.specs.Mean.{nearest, mean}
+use Rattle.signed.specs.Nearest.{nearest}
+use Rattle.signed.specs.Mean.{IsNearest, mean}
 use Rattle.signed.specs.Range.{InRange}
 use Rattle.signed.proofs.Negation.{neg-fits}
-
--- ---- to the nearest whole
-
-pub nearest-none : (a : ℕ) → nearest a 0 ≡ 0
-unfolding nearest
-nearest-none a = refl
-
-pub nearest-some : (a n : ℕ) → 0 < n → nearest a n ≡ (2 * a + n) / (2 * n)
-unfolding nearest
-nearest-some a n p = simp (ne-eqb n 0 (λ (e : n ≡ 0). omega arith))
-
--- values of at most b have a mean of at most b
-pub nearest-le : (a n b : ℕ) → a ≤ b * n → nearest a n ≤ b
-nearest-le a zero b h = rw (nearest-none a) (omega arith)
-nearest-le a (suc n) b h =
-    let l : (2 * a + suc n) / (2 * suc n) < b + 1 =
-    div-lt-iff-lt-mul {k = 2 * suc n} {x = 2 * a + suc n} {y = b + 1} (omega arith) .1 (omega arith) in
-    rw (nearest-some a (suc n) (omega arith)) (omega arith)
-
--- q is the whole number nearest to a / n, a half upward: it lies at most half above the quotient, and less than half below
-pub record IsNearest (a n q : ℕ) : Type 0 where
-  pub above : 2 * (q * n) ≤ 2 * a + n
-  pub below : 2 * a + n < 2 * ((q + 1) * n)
-
-pub nearest-nearest : (a n : ℕ) → 0 < n → IsNearest a n (nearest a n)
-nearest-nearest a n p =
-    let q = (2 * a + n) / (2 * n) in
-    let l : q * (2 * n) ≤ 2 * a + n = div-mul-le-self (2 * a + n) (2 * n) in
-    let m : 2 * a + n < (q + 1) * (2 * n) = div-lt-iff-lt-mul {k = 2 * n} {x = 2 * a + n} {y = q + 1} (omega arith) .0 (omega arith) in
-    rw (nearest-some a n p) (record { above = omega (arith, l); below = omega (arith, m) })
+use Rattle.signed.proofs.Nearest.{nearest-none, nearest-nearest, nearest-le}
 
 -- ---- the mean
 

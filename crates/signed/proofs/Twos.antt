@@ -1,20 +1,21 @@
 -- Two's complement at any number of bits: the word fits, and word and number are each other's inverse. Below, the same for what the
 -- code computes. By cases on the sign; what is needed of powers is that one more bit doubles. Assumes nothing.
 use mathlib.Core.Path.{_≡_, refl, sym, ap, _∙_}
-use mathlib.Core.Bool.{true, false}
+use mathlib.Core.Bool.{true}
 use Prim.Native.Nat.{ℕ, zero, suc, _-_, _*_, _<_, _≤_, _^_}
 use native.Mathlib.Omega.{arith}
 use native.Mathlib.Nat.{pow-succ'}
-use mathlib.Core.Logic.{_⊎_, inl, inr, ⊎-elim}
+use mathlib.Core.Logic.{⊎-elim}
 use lib.Pow.{pow-pos}
-use lib.Dec.{T, ltb}
-use borrow.Author.Tests.{ltb-true, ltb-false, lt-ltb, le-ltb}
+use lib.Dec.{T}
+use borrow.Author.Tests.{ltb-true, lt-ltb, le-ltb}
 use lib.IntN.{ℤ, pos, negsuc, natAbs, _-ℤ_}
 use lib.Signed.{mag, ltZ, nonNeg}
 use mir.Syntax.{Width, w8, w16, w32, w64, w128}
 use mir.Val.{SFits, Fits, bits, hbits, toZ, ofZ}
 use mir.Facts.{toZ-pos}
 use Rattle.signed.specs.Twos.{twos, signedOf}
+use Rattle.signed.proofs.Comparing.{lt-or-le}
 use Rattle.signed.proofs.Negation.{complement}
 
 -- ---- words as signed numbers
@@ -37,14 +38,6 @@ signedOf-high b word h l =
     let e : 2 ^ b - word ≡ suc (2 ^ b - 1 - word) = omega arith in
     simp (le-ltb word (2 ^ (b - 1)) h, e)
 
-low-or-high : (b word : ℕ) → (word < 2 ^ (b - 1)) ⊎ (2 ^ (b - 1) ≤ word)
-low-or-high b word =
-    (elim (ltb word (2 ^ (b - 1))) as (λ t. ltb word (2 ^ (b - 1)) ≡ t → (word < 2 ^ (b - 1)) ⊎ (2 ^ (b - 1) ≤ word)) [
-      | true ↦ λ e. inl (ltb-true word (2 ^ (b - 1)) e)
-      | false ↦ λ e. inr (ltb-false word (2 ^ (b - 1)) e)
-    ])
-    refl
-
 -- a number that fits so many bits: pos n and negsuc n with n below half the number of words
 pub twos-fits : (b : ℕ) (z : ℤ) → mag z < 2 ^ (b - 1) → twos b z < 2 ^ b
 unfolding twos
@@ -63,7 +56,7 @@ signedOf-fits b word l =
     ⊎-elim
     (λ (h : word < 2 ^ (b - 1)). rw (signedOf-low b word h) h)
     (λ (h : 2 ^ (b - 1) ≤ word). rw (signedOf-high b word h l) (omega (arith, half-le b)))
-    (low-or-high b word)
+    (lt-or-le word (2 ^ (b - 1)))
 
 pub twos-signedOf : (b word : ℕ) → word < 2 ^ b → twos b (signedOf b word) ≡ word
 unfolding twos
@@ -71,7 +64,7 @@ twos-signedOf b word l =
     ⊎-elim
     (λ (h : word < 2 ^ (b - 1)). rw (signedOf-low b word h))
     (λ (h : 2 ^ (b - 1) ≤ word). rw (signedOf-high b word h l) (omega arith))
-    (low-or-high b word)
+    (lt-or-le word (2 ^ (b - 1)))
 
 -- ---- the same at a width of the machine
 

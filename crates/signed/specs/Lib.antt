@@ -1,4 +1,5 @@
 -- Definitions on signed numbers.
+pub mod Nearest
 pub mod Mean
 pub mod Range
 pub mod Twos

@@ -1,14 +1,17 @@
--- The mean of a sum over a count (document 01, section 'Buckets and the operator'). Assumes nothing.
-use Prim.Native.Nat.{ℕ, suc, _+_, _*_, _/_}
-use mathlib.Core.Bool.{cond}
-use lib.Dec.{eqb}
+-- The mean of a sum over a count (document 01, section 'Buckets and the operator'; document 02, W1, for the half). Assumes nothing.
+use mathlib.Core.Path.{_≡_}
+use mathlib.Core.Logic.{_⊎_}
+use Prim.Native.Nat.{ℕ, suc, _+_, _*_, _%_, _≤_}
 use lib.IntN.{ℤ, pos, negsuc, negℤ}
+use Rattle.signed.specs.Nearest.{nearest}
 
--- a divided by n to the nearest whole, a half upward; 0 where n is 0
-unfoldable pub nearest : ℕ → ℕ → ℕ
-nearest a n = cond (eqb n 0) 0 ((2 * a + n) / (2 * n))
+-- q is the whole number nearest to a / n: at most half above it, at most half below it, and even where it is exactly half
+pub record IsNearest (a n q : ℕ) : Type 0 where
+  pub above : 2 * (q * n) ≤ 2 * a + n
+  pub below : 2 * a ≤ 2 * (q * n) + n
+  pub even : ((2 * (q * n) ≡ 2 * a + n) ⊎ (2 * a ≡ 2 * (q * n) + n)) → q % 2 ≡ 0
 
--- the whole number nearest to the quotient; of two equally near, the one further from zero; 0 of no values
+-- the sum's magnitude over the count, to the nearest whole (`nearest` is the only such number), with the sum's sign; 0 of no values
 unfoldable pub mean : ℤ → ℕ → ℤ
 mean (pos a) count = pos (nearest a count)
 mean (negsuc a) count = negℤ (pos (nearest (suc a) count))

@@ -2,7 +2,8 @@
 ghost use mathlib.Core.Path.{_≡_};
 ghost use Prim.Native.Nat.{_*_, _<_, _≤_, _^_};
 ghost use lib.IntN.{natAbs};
-ghost use Rattle.signed.specs.Mean.{nearest, mean};
+ghost use Rattle.signed.specs.Nearest.{nearest};
+ghost use Rattle.signed.specs.Mean.{mean};
 ghost use Rattle.signed.specs.Range.{InRange};
 ghost use Rattle.signed.specs.Twos.{twos, signedOf};
 
@@ -17,7 +18,7 @@ pub fn magnitude(x: i64) -> u64
     }
 }
 
-// a divided by n to the nearest whole, a half upward; 0 where n is 0.
+// a divided by n to the nearest whole, a half to the even one; 0 where n is 0.
 fn rounded(a: u64, n: u64) -> u64
     requires { ⌜ (n < 2 ^ 32) × (a ≤ 2 ^ 31 * n) ⌝ }
     ensures { λ r. ⌜ r ≡ nearest a n ⌝ }
@@ -25,10 +26,18 @@ fn rounded(a: u64, n: u64) -> u64
     if n == 0 {
         return 0;
     }
-    (2 * a + n) / (2 * n)
+    let q = a / n;
+    let twice = 2 * (a % n);
+    if twice < n {
+        return q;
+    }
+    if n < twice {
+        return q + 1;
+    }
+    q + q % 2
 }
 
-// The mean of count values with this sum: the nearest whole, a half away from zero; 0 of no value.
+// The mean of count values with this sum: the nearest whole, a half to the even one; 0 of no value.
 pub fn mean_of(sum: i64, count: u32) -> i32
     requires { ⌜ InRange sum count ⌝ }
     ensures { λ r. ⌜ r ≡ mean sum count ⌝ }

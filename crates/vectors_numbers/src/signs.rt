@@ -47,22 +47,36 @@ fn signed64(word: u64) {
     answer_integer(signed::signed64(word));
 }
 
-// mean_of(sum, count): document 01's four examples, then halves and thirds.
+// mean_of(sum, count): the papers' five examples, then halves.
 pub(crate) fn means() {
     mean_of(5, 2);
     mean_of(-5, 2);
     mean_of(7, 3);
     mean_of(-8, 3);
+    mean_of(7, 2);
+    mean_of(-7, 2);
     mean_of(1, 2);
     mean_of(-1, 2);
+    mean_of(3, 2);
+    mean_of(-3, 2);
+}
+
+// Thirds and fifths, and the mean of nothing.
+pub(crate) fn means_of_odd_counts() {
     mean_of(1, 3);
     mean_of(-1, 3);
     mean_of(2, 3);
     mean_of(-2, 3);
+    mean_of(12, 5);
+    mean_of(-12, 5);
+    mean_of(13, 5);
+    mean_of(-13, 5);
+    mean_of(0, 5);
+    mean_of(0, 0);
 }
 
-// Quarters, and the mean of nothing.
-pub(crate) fn means_of_more() {
+// Quarters and sixths.
+pub(crate) fn means_of_even_counts() {
     mean_of(1, 4);
     mean_of(2, 4);
     mean_of(-2, 4);
@@ -70,22 +84,36 @@ pub(crate) fn means_of_more() {
     mean_of(10, 4);
     mean_of(-10, 4);
     mean_of(11, 4);
-    mean_of(0, 5);
-    mean_of(0, 0);
+    mean_of(15, 6);
+    mean_of(-15, 6);
+    mean_of(21, 6);
+    mean_of(-21, 6);
 }
 
-// mean_of(sum, count) at the ends of the range: of one value, of as many as a state and a bucket can count, and of as many as 32 bits can.
+// mean_of(sum, count) at the ends of the range, of one value and of as many as a state can count; half a step inside and a little more.
 pub(crate) fn means_at_the_ends() {
     mean_of(2147483647, 1);
     mean_of(-2147483648, 1);
     mean_of(70368744144896, 32768);
+    mean_of(70368744128513, 32768);
     mean_of(70368744128512, 32768);
     mean_of(70368744128511, 32768);
     mean_of(-70368744177664, 32768);
+    mean_of(-70368744161281, 32768);
     mean_of(-70368744161280, 32768);
     mean_of(-70368744161279, 32768);
+}
+
+// The same of as many as a bucket can make of them, and of as many as 32 bits can count, even and odd.
+pub(crate) fn means_at_the_far_ends() {
     mean_of(74766790653952, 34816);
+    mean_of(74766790636544, 34816);
     mean_of(-74766790688768, 34816);
+    mean_of(-74766790671360, 34816);
+    mean_of(9223372028264841218, 4294967294);
+    mean_of(9223372026117357571, 4294967294);
+    mean_of(-9223372032559808512, 4294967294);
+    mean_of(-9223372030412324865, 4294967294);
     mean_of(9223372030412324865, 4294967295);
     mean_of(-9223372034707292160, 4294967295);
 }

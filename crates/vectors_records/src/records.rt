@@ -37,7 +37,7 @@ pub(crate) fn stable() -> Record {
         id: 1,
         time: ReadingTime(0),
         count: 2,
-        mean: 3,
+        mean: 2,
         last: -2,
         kind: record::STABLE,
         meter: 3,

@@ -3,6 +3,7 @@
 
 mod columns;
 mod literal;
+mod means;
 mod pick;
 mod question;
 mod statement;

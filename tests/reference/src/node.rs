@@ -8,7 +8,7 @@ mod state;
 mod step;
 mod store;
 
-pub use operator::{mean, Meter, Operator, METERS};
+pub use operator::{is_half, mean, Meter, Operator, METERS};
 pub use refuse::refusal_of_sender;
 pub use shape::{in_shape, GREATEST_BUCKET};
 pub use state::{Head, State, Word, LINES};

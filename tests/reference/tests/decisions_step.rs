@@ -121,30 +121,65 @@ fn close_up() {
     assert_eq!(bench.store[3..6], [Reading::ZERO; 3]);
 }
 
-// The mean of negative sums, and at the ends of 32 bits.
+// The mean at a half and beside it, of even and odd counts; the sign changes nothing else.
 #[test]
 fn means() {
     let cases = [
         (0, 3, 0),
-        (1, 2, 1),
-        (-1, 2, -1),
-        (1, 3, 0),
-        (-1, 3, 0),
-        (-2, 3, -1),
-        (-7, 3, -2),
-        (-3, 2, -2),
+        (1, 2, 0),
         (3, 2, 2),
-        (9, 6, 2),
-        (-9, 6, -2),
+        (7, 2, 4),
+        (1, 3, 0),
+        (2, 3, 1),
+        (7, 3, 2),
+        (2, 4, 0),
+        (6, 4, 2),
+        (9, 4, 2),
+        (10, 4, 2),
+        (11, 4, 3),
+        (14, 4, 4),
+        (12, 5, 2),
+        (13, 5, 3),
         (8, 6, 1),
+        (9, 6, 2),
+        (15, 6, 2),
+        (21, 6, 4),
     ];
     for (sum, count, due) in cases {
         assert_eq!(mean(sum, count), due, "{sum}/{count}");
+        assert_eq!(mean(-sum, count), -due, "-{sum}/{count}");
     }
-    for count in [1, 2, 3, 32_768, 34_816] {
+}
+
+// At most half away from the quotient on either side, and even where it is exactly half.
+#[test]
+fn means_are_nearest() {
+    for count in 1..=12 {
         let wide = i64::from(count);
-        assert_eq!(mean(i64::from(i32::MIN) * wide, count), i64::from(i32::MIN));
-        assert_eq!(mean(i64::from(i32::MAX) * wide, count), i64::from(i32::MAX));
+        for sum in -100..=100 {
+            let mean = mean(sum, count);
+            let twice_off = 2 * (sum - mean * wide).abs();
+            assert!(twice_off <= wide, "{sum}/{count}");
+            assert!(twice_off < wide || mean % 2 == 0, "{sum}/{count}");
+        }
+    }
+}
+
+// Sums at both limits of a count, half a step inside them, and a little more.
+#[test]
+fn means_at_the_limits() {
+    let (least, greatest) = (i64::from(i32::MIN), i64::from(i32::MAX));
+    for count in [1, 2, 3, 4, 32_767, 32_768, 34_816, u32::MAX - 1, u32::MAX] {
+        let wide = i64::from(count);
+        assert_eq!(mean(least * wide, count), least, "{count}");
+        assert_eq!(mean(greatest * wide, count), greatest, "{count}");
+        if count % 2 == 0 {
+            let half = wide / 2;
+            assert_eq!(mean(least * wide + half, count), least, "{count}");
+            assert_eq!(mean(least * wide + half + 1, count), least + 1, "{count}");
+            assert_eq!(mean(greatest * wide - half, count), greatest - 1, "{count}");
+            assert_eq!(mean(greatest * wide - half + 1, count), greatest, "{count}");
+        }
     }
     assert_eq!(mean(i64::MIN, 1), i64::MIN);
     assert_eq!(mean(i64::MAX, 1), i64::MAX);

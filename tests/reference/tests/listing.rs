@@ -30,7 +30,7 @@ answer=0 records=0 state=failure
 answer=0 records=1 state=correcting
 kind=U id=0 time=0 meter=0 count=0 sum=0 mean=0 last=0
 answer=0 records=2 state=correcting
-kind=S id=1 time=0 meter=3 count=2 sum=5 mean=3 last=-2
+kind=S id=1 time=0 meter=3 count=2 sum=5 mean=2 last=-2
 kind=B id=0 time=100 meter=0 count=0 sum=0 mean=0 last=0
 answer=0 records=1 state=stable
 kind=R id=0 time=0 meter=0 count=0 sum=0 mean=0 last=0
@@ -93,8 +93,9 @@ fn times_on_the_last_tick_count_once() {
 
 #[test]
 fn means() {
-    assert_eq!(mean(5, 2), 3);
-    assert_eq!(mean(-5, 2), -3);
+    assert_eq!(mean(5, 2), 2);
+    assert_eq!(mean(-5, 2), -2);
+    assert_eq!(mean(7, 2), 4);
     assert_eq!(mean(7, 3), 2);
     assert_eq!(mean(-8, 3), -3);
 }

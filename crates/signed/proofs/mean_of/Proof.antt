@@ -7,9 +7,11 @@ use lib.IntN.{pos, negℤ, natAbs, _-ℤ_}
 use mir.Syntax.{w32, w64}
 use mir.Val.{SFits, toZ}
 use mir.Facts.{toZ-ofZ, toZ-pos}
-use Rattle.signed.specs.Mean.{nearest, mean}
+use Rattle.signed.specs.Nearest.{nearest}
+use Rattle.signed.specs.Mean.{mean}
 use Rattle.signed.proofs.Negation.{minus, minus-fits, below-zero}
-use Rattle.signed.proofs.Mean.{nearest-le, range-natAbs, mean-fits, mean-below-zero, mean-nonNeg}
+use Rattle.signed.proofs.Nearest.{nearest-le}
+use Rattle.signed.proofs.Mean.{range-natAbs, mean-fits, mean-below-zero, mean-nonNeg}
 use Rattle.signed.proofs.mean_of.Statement.{statement}
 use Rattle.signed.proofs.mean_of.Tie as tie
 

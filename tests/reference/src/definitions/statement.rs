@@ -1,9 +1,10 @@
 //! The equations in antt's writing, one or two for each question.
 
 use super::columns::Columns;
-use super::literal::{bytes, spelled_list};
+use super::literal::{bytes, integer, spelled_list};
 use super::question::{HostQuestion, Left, NodeQuestion};
 use super::value;
+use crate::node::mean;
 use crate::refusal::answer;
 use crate::text::{read_call, read_settings};
 
@@ -150,6 +151,15 @@ pub(super) fn of_node(number: usize, question: &NodeQuestion) -> String {
     text += &definition(&case, "NodeCase", &body);
     text += &format!("{name} : onNode {case} ≡ []\nunfolding onNode\n{name} = refl\n\n");
     text
+}
+
+/// The mean of so many values with this sum.
+pub(super) fn of_mean(number: usize, sum: i64, count: u32) -> String {
+    format!(
+        "-- {sum}/{count}\nmean-{number} : meanOf ({}) {count} ≡ {}\nunfolding meanOf\nmean-{number} = refl\n\n",
+        integer(sum),
+        integer(mean(sum, count)),
+    )
 }
 
 /// What a journal line's text is read as.

@@ -4,6 +4,7 @@ use std::fs;
 use std::io;
 use std::path::Path;
 
+use super::means::means;
 use super::pick;
 use super::statement;
 use super::tally::Tally;
@@ -76,6 +77,11 @@ fn sets(seed: u64, count: usize) -> Vec<Set> {
         set(("openings", "Opening"), statement::of_opening, |tally| {
             pick::openings(random, count / 5, tally)
         }),
+        set(
+            ("means", "Mean"),
+            |number, &(sum, count): &(i64, u32)| statement::of_mean(number, sum, count),
+            |tally| means(random, 2 * count, tally),
+        ),
         set(
             ("journal texts", "CallText"),
             |number, text: &Vec<u8>| statement::of_call_text(number, text),

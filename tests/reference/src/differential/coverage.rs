@@ -4,16 +4,16 @@ use std::collections::BTreeMap;
 use std::fmt;
 
 use super::lines_of;
-use crate::node::{call_in_shape, open, refusal_of_sender, rule};
+use crate::node::{call_in_shape, is_half, open, refusal_of_sender, rule};
 use crate::node::{Reading, Rule, State, LINES, SHARE};
-use crate::record::{AREA_BYTES, AREA_RECORDS, RECORD_BYTES};
+use crate::record::{decode, Record, AREA_BYTES, AREA_RECORDS, RECORD_BYTES};
 use crate::refusal::answer;
 use crate::text::{next_line, read_call, Call, STEP};
 
 const KINDS: &[&str] = &["S", "T", "B", "U", "R", "P"];
 
 /// All that is counted, by group.
-const GROUPS: [(&str, &[&str]); 8] = [
+const GROUPS: [(&str, &[&str]); 9] = [
     (
         "answer",
         &[
@@ -21,6 +21,10 @@ const GROUPS: [(&str, &[&str]); 8] = [
         ],
     ),
     ("record", &["S", "T", "U", "B", "R"]),
+    (
+        "mean of a half",
+        &["up above 0", "down above 0", "up below 0", "down below 0"],
+    ),
     ("state", &["stable", "failure", "correcting", "none"]),
     ("rule", &["1", "2", "3", "4", "5"]),
     ("accepted while stable", KINDS),
@@ -84,8 +88,10 @@ impl Coverage {
         let (answer, records) = call_in_shape(state, store, line, area);
         self.count("answer", answer);
         self.count("state", state.word.name());
-        for record in area.chunks_exact(RECORD_BYTES).take(records) {
-            self.count("record", char::from(record[0]));
+        for bytes in area.chunks_exact(RECORD_BYTES).take(records) {
+            let record = decode(bytes).expect("a record just laid down");
+            self.count("record", char::from(record.kind));
+            self.note_mean(&record);
         }
         if records == AREA_RECORDS {
             self.count("edge", "65 records");
@@ -93,6 +99,21 @@ impl Coverage {
         if state.lines().iter().any(|head| head.kept == SHARE as u32) {
             self.count("edge", "256 kept");
         }
+    }
+
+    /// Counts the mean of a sum that lies exactly between two whole numbers, by which it is.
+    fn note_mean(&mut self, record: &Record) {
+        if !is_half(record.sum, record.count) {
+            return;
+        }
+        let up = i64::from(record.mean) * i64::from(record.count) > record.sum;
+        let name = match (up, record.sum > 0) {
+            (true, true) => "up above 0",
+            (false, true) => "down above 0",
+            (true, false) => "up below 0",
+            (false, false) => "down below 0",
+        };
+        self.count("mean of a half", name);
     }
 
     /// Counts the kind of a call about to be accepted in this state and, for a step, its rule.

@@ -121,16 +121,25 @@ fn meters(random: &mut Random) -> [Meter; METERS] {
     for meter in &mut meters {
         if random.once_in(density) {
             let count = random.pick(&[0, 1, 2, 3, 32_767, 32_768]);
-            let least = i64::from(i32::MIN) * i64::from(count);
-            let greatest = i64::from(i32::MAX) * i64::from(count);
-            let half = i64::from(count) / 2;
-            let any = random.between(least, greatest);
             meter.count = count;
-            meter.sum = random.pick(&[least, greatest, half, -half, any]);
+            meter.sum = some_sum(random, count);
             meter.last = random.signed_word();
         }
     }
     meters
+}
+
+/// A sum that so many values can have: at a limit, near 0 or anywhere, often with its mean at a half.
+pub fn some_sum(random: &mut Random, count: u32) -> i64 {
+    let wide = i64::from(count);
+    let (least, greatest) = (i64::from(i32::MIN) * wide, i64::from(i32::MAX) * wide);
+    let (near, far) = (
+        random.between(-9, 9) * wide,
+        random.between(least, greatest),
+    );
+    let sum = random.pick(&[least, greatest, near, near, far]);
+    let beside = random.pick(&[0, wide / 2, -(wide / 2)]) + random.pick(&[0, 0, 1, -1]);
+    (sum + beside).clamp(least, greatest)
 }
 
 /// Fills the heads and the shares; what is past them may be junk.

@@ -48,10 +48,10 @@ fn result(id: u32, time: u32, meter: u8, values: &[i32]) -> Record {
     }
 }
 
-/// The whole nearest to sum over count; of two equally near, the one farther from zero.
+/// The whole nearest to sum over count; of two equally near, the even one.
 fn nearest(sum: i64, count: i64) -> i32 {
     let below = sum.div_euclid(count);
     let beyond = 2 * sum.rem_euclid(count) - count;
-    let up = beyond > 0 || (beyond == 0 && sum > 0);
+    let up = beyond > 0 || (beyond == 0 && below.rem_euclid(2) == 1);
     i32::try_from(below + i64::from(up)).expect("a mean of 32-bit values")
 }

@@ -1,5 +1,7 @@
 //! The operator's meters, the closing of a window, and the numbering of results.
 
+use std::cmp::Ordering;
+
 use crate::record::Record;
 
 /// The meters of a box.
@@ -53,13 +55,24 @@ impl Operator {
     }
 }
 
-/// The mean as a whole number, the farther from zero of two equally close; 0 without a count.
+/// The mean as a whole number, the even one of two equally close; 0 without a count.
 pub fn mean(sum: i64, count: u32) -> i64 {
     if count == 0 {
         return 0;
     }
-    let count = u128::from(count);
-    let magnitude = (2 * u128::from(sum.unsigned_abs()) + count) / (2 * count);
-    let nearest = magnitude as i128;
+    let (magnitude, count) = (sum.unsigned_abs(), u64::from(count));
+    let (whole, rest) = (magnitude / count, magnitude % count);
+    let up = match (2 * rest).cmp(&count) {
+        Ordering::Less => false,
+        Ordering::Equal => whole % 2 == 1,
+        Ordering::Greater => true,
+    };
+    let nearest = i128::from(whole) + i128::from(up);
     (if sum < 0 { -nearest } else { nearest }) as i64
+}
+
+/// Whether a sum over a count lies exactly between two whole numbers.
+pub fn is_half(sum: i64, count: u32) -> bool {
+    let count = u64::from(count);
+    count > 0 && 2 * (sum.unsigned_abs() % count) == count
 }

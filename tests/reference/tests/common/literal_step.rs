@@ -1,5 +1,7 @@
 //! What the slow double does with an accepted call, over lists and sorted.
 
+use std::cmp::Ordering;
+
 use reference::node::{Meter, Reading, Word};
 use reference::record::{encode, Record};
 use reference::text::Call;
@@ -151,16 +153,16 @@ fn work(outcome: &mut Outcome, readings: &[Reading], bucket: u32, kind: u8) {
     }
 }
 
-/// The nearest whole, found by looking at both whole neighbours.
+/// The nearest whole, found by looking at both whole neighbours; the even one if both are as near.
 fn nearest(sum: i64, count: u32) -> i32 {
     let (sum, count) = (i128::from(sum), i128::from(count));
     let toward = sum / count;
     let away = toward + sum.signum();
     let distance = |whole: i128| (sum - whole * count).abs();
-    (if distance(away) <= distance(toward) {
-        away
-    } else {
-        toward
+    (match distance(away).cmp(&distance(toward)) {
+        Ordering::Less => away,
+        Ordering::Equal if away % 2 == 0 => away,
+        _ => toward,
     }) as i32
 }
 
