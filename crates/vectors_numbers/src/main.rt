@@ -1,8 +1,9 @@
 // Runs the clocks, the signed numbers and the little-endian words on the cases below, and prints each call with its result.
 //
-// The expected output was worked out by hand, the means with exact fractions, from document 01 (sections 'Clocks, lines and readings',
-// 'Buckets and the operator' and 'On the last tick and past it'), document 02 (W1) and the definitions of quotient, two's complement and
-// little-endian; it was not recorded from this program. The lines of `stdout` stand in the order of the calls:
+// The expected output was worked out by hand, from document 01 (sections 'Clocks, lines and readings', 'Buckets and the operator' and 'On
+// the last tick and past it') and from the definitions of quotient, two's complement and little-endian; that of the means by exact
+// fractions in another language, which rounds them as document 02 asks (W1). Nothing was recorded from this program. The lines of
+// `stdout` stand in the order of the calls:
 //
 // 1. `clocks`: bucket_of, bucket_end, is_finished, is_due, closes_window, window_start.
 // 2. `signs`: mean_of, magnitude, bits32, bits64, signed32, signed64.

@@ -104,7 +104,7 @@ pub(crate) fn means_at_the_ends() {
     mean_of(-70368744161279, 32768);
 }
 
-// The same of as many as a bucket can make of them, and of as many as 32 bits can count, even and odd.
+// The same of as many as there can be once a bucket is added to that, and of as many as 32 bits can count, even and odd.
 pub(crate) fn means_at_the_far_ends() {
     mean_of(74766790653952, 34816);
     mean_of(74766790636544, 34816);
