@@ -207,3 +207,7 @@ cleaned = demand3 .clean handed (listing .opened) (readings ++ step ∷ step ∷
 
 unmoved : Unchanged first late
 unmoved = demand3 .refused first late (λ e. twelve (sym late-answer ∙ e))
+
+-- and that no call finds a short store or a state out of shape
+sound : (called before late .answer ≡ 3 → ⊥) × (called before late .answer ≡ 4 → ⊥)
+sound = demand3 .inShape handed (listing .opened) readings late
