@@ -8,4 +8,6 @@ pub mod ShapedWork
 pub mod ShapedLines
 pub mod Shaped
 pub mod ShapedRuns
+pub mod Plain
+pub mod Stated
 pub mod Theorem

@@ -2,3 +2,4 @@
 pub mod Runs
 pub mod Accounts
 pub mod Demand
+pub mod Plain

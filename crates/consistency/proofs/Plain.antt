@@ -1,0 +1,206 @@
+-- The statement gives demand 3 in the plain words of specs/Plain.antt: by induction on the list a plain run leaves what the statement's lists
+-- of calls leave, and the statement's conditions are met by the plain ones. Uses the statement and not its proof. Assumes nothing.
+use Prim.Native.Nat.{ℕ, zero, suc, _+_, _≤_}
+use mathlib.Core.Path.{_≡_, refl, sym, _∙_, ap, ap₂, subst}
+use mathlib.Core.Bool.{Bool, true, false, cond, _&&_, false≢true}
+use mathlib.Core.List.{List, [], _∷_, _++_, map, map-map, append-nil, append-assoc}
+use borrow.Author.Tests.{eqb-true, eqb-false}
+use lib.Dec.{eqb}
+use lib.ListN.{take, drop}
+use Rattle.settings.specs.declared.Settings.{Settings}
+use Rattle.journal.specs.declared.CallRead.{CallRead}
+use Rattle.journal.specs.declared.CallRead.the-variants as CallRead
+use Rattle.journal.specs.ReadLine.{callOf}
+use Rattle.record.specs.Sizes.{recordBytes}
+use Rattle.record.specs.Layout.{bytesOf}
+use Rattle.record.specs.Kinds.{isTentative}
+use Rattle.store.specs.declared.Reading.{Reading}
+use Rattle.store.specs.Lists.{Every}
+use Rattle.store.specs.Columns.{Columns}
+use Rattle.store.proofs.Choices.{and-parts}
+use Rattle.protocol.specs.Kinds.{Kind, kindOf, uses, isStep}
+use Rattle.protocol.specs.Monitor.{stableBuckets, leftToWork}
+use Rattle.protocol.specs.FailureFree.{withoutArrival, failureFree}
+use Rattle.protocol.specs.Undos.{applied, struck, stableRecords, doneDue}
+use Rattle.node.specs.declared.State.{State}
+use Rattle.node.specs.Calls.{calledOn}
+use Rattle.consistency.specs.Runs.{Box, Input, called, left, leftAfter, pieces, output, recordIn}
+use Rattle.consistency.specs.Accounts.{Account, emptyAccount, accountWith, accountNext, accountAfter, sentIn, boundariesIn}
+use Rattle.consistency.specs.Demand.{Handed, opening, isOpened, boxOf, settingsIn, accountOf, outputOf, failureFreeBytes, remaining, Steps, Unchanged, Demand3}
+use Rattle.consistency.specs.Plain.{Run, cut, noted, counted, begun, answered, continued, settingsOn, runOf, readsAsStep, onlySteps, acceptedOf, Sent, sentAs, sentOn, boundariesOn, leftOn, owed, Plain}
+
+-- ---- a plain run is a list of calls
+
+abbrev pub boxOn : Run → Box
+boxOn y = record { state = y .state; columns = y .columns }
+
+abbrev pub accountOn : Run → Account
+accountOn y = record { monitor = y .monitor; stables = y .stables }
+
+cut-is : (n : ℕ) (area : List ℕ) → cut n area ≡ pieces n area
+unfolding cut pieces
+cut-is zero area = refl
+cut-is (suc n) area = ap (_∷_ (take recordBytes area)) (cut-is n (drop recordBytes area))
+
+noted-is : (s : Settings) (a : Account) (read : CallRead) (accepted : Bool) → accountWith s a read accepted ≡ record { monitor = noted s (a .monitor) read accepted; stables = counted (a .stables) read accepted }
+unfolding accountWith noted counted
+noted-is s a (CallRead.Accepted k) accepted = refl
+noted-is s a CallRead.Malformed accepted = refl
+
+left-is : (s : Settings) (y : Run) (is : List Input) → leftAfter (boxOn y) is ≡ boxOn (continued s y is)
+unfolding leftAfter continued answered left called
+left-is s y [] = refl
+left-is s y (Input.journal text area ∷ is) =
+    left-is s (answered s y (callOf text) (calledOn (y .state) (y .columns) text area)) is
+
+account-is : (s : Settings) (y : Run) (is : List Input) → accountAfter s (accountOn y) (boxOn y) is ≡ accountOn (continued s y is)
+unfolding accountAfter accountNext continued answered left called
+account-is s y [] = refl
+account-is s y (Input.journal text area ∷ is) =
+    let r = calledOn (y .state) (y .columns) text area in
+    let z = answered s y (callOf text) r in
+    ap (λ (a : Account). accountAfter s a (boxOn z) is) (noted-is s (accountOn y) (callOf text) (eqb (r .answer) 0)) ∙
+    account-is s z is
+
+bytes-are : (s : Settings) (y : Run) (is : List Input) → y .bytes ++ output (boxOn y) is ≡ continued s y is .bytes
+unfolding output continued answered left called
+bytes-are s y [] = append-nil (y .bytes)
+bytes-are s y (Input.journal text area ∷ is) =
+    let r = calledOn (y .state) (y .columns) text area in
+    let z = answered s y (callOf text) r in
+    sym (append-assoc (y .bytes) (pieces (r .records) (r .area)) (output (boxOn z) is)) ∙
+    ap (λ (bs : List (List ℕ)). (y .bytes ++ bs) ++ output (boxOn z) is) (sym (cut-is (r .records) (r .area))) ∙
+    bytes-are s z is
+
+-- ---- plain steps are steps
+
+step-kind : (kind : Kind) → isStep kind ≡ true → kind ≡ Kind.P
+unfolding isStep uses
+step-kind Kind.S e = absurd (false≢true e)
+step-kind Kind.T e = absurd (false≢true e)
+step-kind Kind.B e = absurd (false≢true e)
+step-kind Kind.U e = absurd (false≢true e)
+step-kind Kind.R e = absurd (false≢true e)
+step-kind Kind.P e = refl
+
+one-step :
+    (b : Box) (n : ℕ) (is : List Input) (text area : List ℕ) (read : CallRead) → callOf text ≡ read → readsAsStep read ≡ true →
+    called b (Input.journal text area) .answer ≡ 0 → Steps (left b (Input.journal text area)) n is →
+    Steps b (suc n) (Input.journal text area ∷ is)
+unfolding readsAsStep
+one-step b n is text area (CallRead.Accepted k) q e a more = Steps.step text area k q (step-kind (kindOf (k .kind)) e) a more
+one-step b n is text area CallRead.Malformed q e a more = absurd (false≢true e)
+
+steps-are : (st : State) (x : Columns) (is : List Input) → onlySteps st x is ≡ true → Steps (record { state = st; columns = x }) (acceptedOf st x is) is
+unfolding onlySteps acceptedOf called left
+steps-are st x [] e = Steps.rest
+steps-are st x (Input.journal text area ∷ is) e =
+    let r = calledOn st x text area in
+    let b : Box = record { state = st; columns = x } in
+    let n = acceptedOf (r .state) (r .columns) is in
+    (elim (eqb (r .answer) 0) as
+    (λ t.
+    eqb (r .answer) 0 ≡ t → cond t (readsAsStep (callOf text)) true && onlySteps (r .state) (r .columns) is ≡ true →
+    Steps b (cond t (suc n) n) (Input.journal text area ∷ is)) [
+      | true ↦ λ t e.
+          let both = and-parts (readsAsStep (callOf text)) (onlySteps (r .state) (r .columns) is) e in
+          one-step b n is text area (callOf text) refl (both .0) (eqb-true _ _ t) (steps-are (r .state) (r .columns) is (both .1))
+      | false ↦ λ t e. Steps.refused (Input.journal text area) (eqb-false _ _ t) (steps-are (r .state) (r .columns) is e)
+    ])
+    refl e
+
+-- ---- what is compared
+
+-- a reading is made again from what is compared of it
+abbrev madeOf : Sent → Reading
+madeOf c =
+    record { id = c .id; time = c .time; value = c .value; arrival = record { 0 = 0 }; kind = c .kind; meter = c .meter }
+
+made : (rs : List Reading) → map withoutArrival rs ≡ map madeOf (map sentAs rs)
+unfolding withoutArrival sentAs
+made rs = sym (map-map madeOf sentAs rs)
+
+all-made : (lines : List (List Reading)) → map (map withoutArrival) lines ≡ map (map madeOf) (map (map sentAs) lines)
+all-made [] = refl
+all-made (rs ∷ lines) = ap₂ _∷_ (made rs) (all-made lines)
+
+-- ---- whole
+
+abbrev pub handedOf : State → Columns → List ℕ → Handed
+handedOf st x text = record { state = st; columns = x; text = text }
+
+-- from the opening on
+module _ (st : State) (x : Columns) (text : List ℕ) (is : List Input) where
+  pub opened-left : leftAfter (boxOf (handedOf st x text)) is ≡ boxOn (runOf st x text is)
+  unfolding boxOf opening runOf begun
+  opened-left = left-is (settingsOn st x text) (begun st x text) is
+
+  pub opened-account : accountOf (handedOf st x text) is ≡ accountOn (runOf st x text is)
+  unfolding accountOf emptyAccount boxOf settingsIn opening runOf begun settingsOn
+  opened-account = account-is (settingsOn st x text) (begun st x text) is
+
+  pub opened-bytes : outputOf (handedOf st x text) is ≡ runOf st x text is .bytes
+  unfolding outputOf boxOf opening runOf begun
+  opened-bytes = bytes-are (settingsOn st x text) (begun st x text) is
+
+  pub opened-remaining : remaining (handedOf st x text) is ≡ leftOn (settingsOn st x text) (runOf st x text is)
+  unfolding remaining settingsIn settingsOn opening leftToWork stableBuckets leftOn
+  opened-remaining = ap (λ (a : Account). leftToWork (settingsOn st x text) (a .monitor)) opened-account
+
+  opened-sent : sentIn (accountOf (handedOf st x text) is) ≡ map (map madeOf) (sentOn (runOf st x text is))
+  unfolding sentIn sentOn
+  opened-sent = ap sentIn opened-account ∙ all-made (runOf st x text is .stables)
+
+  pub opened-boundaries : boundariesIn (accountOf (handedOf st x text) is) ≡ boundariesOn (runOf st x text is)
+  unfolding boundariesIn boundariesOn
+  opened-boundaries = ap boundariesIn opened-account
+
+pub plain : Demand3 → Plain
+unfolding isOpened opening settingsIn settingsOn failureFreeBytes owed stableBuckets Unchanged called left
+plain d =
+    record {
+      clean = λ st x text e is.
+          let s = settingsOn st x text in
+          let c = d .clean (handedOf st x text) e is in
+          let account = opened-account st x text is in
+          let bytes = opened-bytes st x text is in
+          record {
+            rest = c .tentative;
+            undone =
+                ap (applied recordIn []) (sym bytes) ∙ c .undone ∙
+                ap (λ (a : Account). map bytesOf (failureFree s (a .stables) (a .monitor .d) .records) ++ c .tentative) account;
+            restTentative = c .allTentative;
+            struckTentative =
+                subst (λ (bs : List (List ℕ)). Every (λ (b : List ℕ). isTentative (recordIn b .kind) ≡ true) (struck recordIn [] bs)) bytes
+                (c .neverStruck);
+            stables =
+                ap (stableRecords recordIn) (sym bytes) ∙ c .asTheyCame ∙
+                ap (λ (a : Account). map bytesOf (failureFree s (a .stables) (a .monitor .d) .records)) account;
+            noneAhead = subst (λ (a : Account). a .monitor .d ≤ stableBuckets s (a .monitor)) account (c .worked);
+          };
+      replicas = λ st x text zt z other e f same is js sent boundaries none-here none-there.
+          ap (stableRecords recordIn) (sym (opened-bytes st x text is)) ∙
+          d .replicas (handedOf st x text) (handedOf zt z other) e f same is js
+          (opened-sent st x text is ∙ ap (map (map madeOf)) sent ∙ sym (opened-sent zt z other js))
+          (opened-boundaries st x text is ∙ boundaries ∙ sym (opened-boundaries zt z other js))
+          (opened-remaining st x text is ∙ none-here)
+          (opened-remaining zt z other js ∙ none-there) ∙
+          ap (stableRecords recordIn) (opened-bytes zt z other js);
+      settles = λ st x text e is js only count.
+          let h = handedOf st x text in
+          let y = runOf st x text is in
+          let steps : Steps (leftAfter (boxOf h) is) (remaining h is + 2) js =
+          subst (λ (b : Box). Steps b (remaining h is + 2) js) (sym (opened-left st x text is))
+          (subst (λ (n : ℕ). Steps (boxOn y) n js) (count ∙ ap (λ (n : ℕ). n + 2) (sym (opened-remaining st x text is)))
+          (steps-are (y .state) (y .columns) js only)) in
+          let settled = d .settles h e is js steps in (
+            sym (opened-remaining st x text (is ++ js)) ∙ settled .0,
+            ap (doneDue recordIn false) (sym (opened-bytes st x text (is ++ js))) ∙ settled .1,
+          );
+      refused = λ st x text area e.
+          let same = d .refused (record { state = st; columns = x }) (Input.journal text area) e in
+          (ap (λ (b : Box). b .state) (same .0), ap (λ (b : Box). b .columns) (same .0), same .1, same .2);
+      inShape = λ st x text e is line area.
+          subst (λ (b : Box). (calledOn (b .state) (b .columns) line area .answer ≡ 3 → ⊥) × (calledOn (b .state) (b .columns) line area .answer ≡ 4 → ⊥))
+          (opened-left st x text is) (d .inShape (handedOf st x text) e is (Input.journal line area));
+    }

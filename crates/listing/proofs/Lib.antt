@@ -1,0 +1,3 @@
+-- The listing computed, and demand 3 applied to it.
+pub mod Computed
+pub mod Listing
