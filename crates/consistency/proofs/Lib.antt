@@ -10,4 +10,7 @@ pub mod Shaped
 pub mod ShapedRuns
 pub mod Plain
 pub mod Stated
+pub mod PlainExactly
+pub mod Opened
 pub mod Theorem
+pub mod Exactly

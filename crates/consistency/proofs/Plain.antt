@@ -1,5 +1,5 @@
--- The statement gives demand 3 in the plain words of specs/Plain.antt: by induction on the list a plain run leaves what the statement's lists
--- of calls leave, and the statement's conditions are met by the plain ones. Uses the statement and not its proof. Assumes nothing.
+-- The statement gives demand 3 in the plain words of specs/Plain.antt: by induction on the list a plain run leaves what the statement's
+-- lists of calls leave, and the statement's conditions are met by the plain ones. Uses the statement and not its proof. Assumes nothing.
 use Prim.Native.Nat.{ℕ, zero, suc, _+_, _≤_}
 use mathlib.Core.Path.{_≡_, refl, sym, _∙_, ap, ap₂, subst}
 use mathlib.Core.Bool.{Bool, true, false, cond, _&&_, false≢true}
@@ -42,7 +42,9 @@ unfolding cut pieces
 cut-is zero area = refl
 cut-is (suc n) area = ap (_∷_ (take recordBytes area)) (cut-is n (drop recordBytes area))
 
-noted-is : (s : Settings) (a : Account) (read : CallRead) (accepted : Bool) → accountWith s a read accepted ≡ record { monitor = noted s (a .monitor) read accepted; stables = counted (a .stables) read accepted }
+noted-is :
+    (s : Settings) (a : Account) (read : CallRead) (accepted : Bool) →
+    accountWith s a read accepted ≡ record { monitor = noted s (a .monitor) read accepted; stables = counted (a .stables) read accepted }
 unfolding accountWith noted counted
 noted-is s a (CallRead.Accepted k) accepted = refl
 noted-is s a CallRead.Malformed accepted = refl
@@ -91,7 +93,9 @@ unfolding readsAsStep
 one-step b n is text area (CallRead.Accepted k) q e a more = Steps.step text area k q (step-kind (kindOf (k .kind)) e) a more
 one-step b n is text area CallRead.Malformed q e a more = absurd (false≢true e)
 
-steps-are : (st : State) (x : Columns) (is : List Input) → onlySteps st x is ≡ true → Steps (record { state = st; columns = x }) (acceptedOf st x is) is
+pub steps-are :
+    (st : State) (x : Columns) (is : List Input) → onlySteps st x is ≡ true →
+    Steps (record { state = st; columns = x }) (acceptedOf st x is) is
 unfolding onlySteps acceptedOf called left
 steps-are st x [] e = Steps.rest
 steps-are st x (Input.journal text area ∷ is) e =

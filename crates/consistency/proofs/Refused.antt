@@ -9,3 +9,8 @@ unfolding Unchanged called left
 refused b (Input.journal text area) wasRefused =
     let same = refused-call (b .state) (b .columns) text area wasRefused in
     (λ i. record { state = same .state i; columns = same .columns i }, same .records, same .bytes)
+
+-- so the box behind it is the box before
+pub same-box : (b : Box) (i : Input) → (called b i .answer ≡ 0 → ⊥) → left b i ≡ b
+unfolding Unchanged
+same-box b (Input.journal text area) wasRefused = refused b (Input.journal text area) wasRefused .0

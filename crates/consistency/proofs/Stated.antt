@@ -1,5 +1,5 @@
--- The plain table of specs/Plain.antt gives the statement: with proofs/Plain.antt the two are one statement in two texts, and neither can be
--- weakened without the other. Assumes nothing.
+-- The plain table of specs/Plain.antt gives the statement: with proofs/Plain.antt the two are one statement in two texts, and neither can
+-- be weakened without the other. Assumes nothing.
 use Prim.Native.Nat.{ℕ, _+_, _≤_}
 use mathlib.Core.Path.{_≡_, refl, sym, _∙_, ap, ap₂, subst}
 use mathlib.Core.Bool.{true, false}
@@ -18,10 +18,10 @@ use Rattle.consistency.specs.Runs.{Box, Input, called, left, leftAfter, 
 use Rattle.consistency.specs.Accounts.{Account, sentIn}
 use Rattle.consistency.specs.Demand.{Handed, opening, isOpened, boxOf, settingsIn, failureFreeBytes, remaining, Steps, Unchanged, Demand3}
 use Rattle.consistency.specs.Plain.{Run, settingsOn, readsAsStep, onlySteps, acceptedOf, sentAs, sentOn, owed, Plain}
-use Rattle.consistency.proofs.Plain.{boxOn, accountOn, opened-left, opened-account, opened-bytes, opened-remaining, opened-boundaries}
+use Rattle.consistency.proofs.Plain.{accountOn, opened-left, opened-account, opened-bytes, opened-remaining, opened-boundaries}
 
 -- steps are plain steps
-steps-count :
+pub steps-count :
     {b : Box} {n : ℕ} {is : List Input} → Steps b n is →
     (onlySteps (b .state) (b .columns) is ≡ true) × (acceptedOf (b .state) (b .columns) is ≡ n)
 unfolding onlySteps acceptedOf readsAsStep isStep uses called left

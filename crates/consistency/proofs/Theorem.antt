@@ -1,6 +1,6 @@
--- Demand 3: the theorem. A list of calls from an accepted opening on has the account and, in bytes, the output of a run on the meaning;
--- what holds there of records holds of their bytes. Assumes nothing.
-use Prim.Native.Nat.{ℕ, _≤_, _<_}
+-- Demand 3: the theorem. What holds of a run on the meaning, of its account and of its records, holds of a list of calls, of its account
+-- and of the bytes of its records. Assumes nothing.
+use Prim.Native.Nat.{ℕ, _≤_}
 use mathlib.Core.Path.{_≡_, refl, sym, _∙_, ap, subst}
 use mathlib.Core.Bool.{true, false}
 use mathlib.Core.List.{List, [], _∷_, _++_, map, map-append}
@@ -9,7 +9,7 @@ use Rattle.settings.specs.declared.Settings.{Settings}
 use Rattle.record.specs.Layout.{bytesOf}
 use Rattle.record.specs.Kinds.{isTentative}
 use Rattle.store.specs.Lists.{Every}
-use Rattle.protocol.specs.Node.{Node, opened}
+use Rattle.protocol.specs.Node.{Node}
 use Rattle.protocol.specs.Refusals.{answerTo}
 use Rattle.protocol.specs.Monitor.{stableBuckets, leftToWork}
 use Rattle.protocol.specs.FailureFree.{failureFree}
@@ -19,67 +19,17 @@ use Rattle.protocol.specs.Demand.{stableResults, itself, sent, boundaries}
 use Rattle.protocol.specs.Demand as meaning
 use Rattle.protocol.proofs.Theorem as meaningProved
 use Rattle.node.specs.View.{view}
-use Rattle.node.proofs.Limits.{Limits}
-use Rattle.node.proofs.Opening as opening
 use Rattle.node.proofs.Calls.{accepted-call}
 use Rattle.consistency.specs.Runs.{Box, Input, called, left, leftAfter, recordIn}
-use Rattle.consistency.specs.Accounts.{Account, emptyAccount, sentIn, boundariesIn}
-use Rattle.consistency.specs.Demand.{Handed, opening as openingOf, isOpened, boxOf, settingsIn, accountOf, outputOf, failureFreeBytes, remaining, Clean, Steps, Demand3}
+use Rattle.consistency.specs.Accounts.{Account, sentIn, boundariesIn}
+use Rattle.consistency.specs.Demand.{Handed, isOpened, boxOf, settingsIn, accountOf, outputOf, failureFreeBytes, remaining, Clean, Steps, Demand3}
 use Rattle.store.proofs.Pairs.{every-right}
-use Rattle.node.proofs.Fits.{opened-fits}
 use Rattle.node.proofs.Records.{Decodes}
 use Rattle.consistency.proofs.Undos.{every-applied, every-struck, applied-bytesOf, struck-bytesOf, stableRecords-bytesOf, doneDue-bytesOf, tentative-bytesOf}
 use Rattle.consistency.proofs.Runs.{Stands, accountIn, eventOf, eventsOf, event-accepted, event-refused, call-follows, runs}
+use Rattle.consistency.proofs.Opened.{box-stands, some-bucket, some-lines, traceOf, Mirrors, mirrors}
 use Rattle.consistency.proofs.Refused.{refused}
 use Rattle.consistency.proofs.ShapedRuns.{in-shape}
-
--- ---- from the opening on
-
--- what an accepted opening leaves stands for the node as opened
-box-stands : (h : Handed) → isOpened h → Stands (settingsIn h) (boxOf h .state) (boxOf h .columns) (opened (settingsIn h))
-unfolding isOpened settingsIn boxOf openingOf
-box-stands h e =
-    let o = opening.opened-on (h .state) (h .columns) (h .text) e in
-    record {
-      settings = refl;
-      is =
-          opening.opened-view (h .state) (h .columns) (h .text) o ∙
-          ap opened (sym (opening.opened-settings (h .state) (h .columns) (h .text) o));
-      room = opening.opened-fits (h .state) (h .columns) (h .text) o;
-      fits = opened-fits (settingsIn h);
-    }
-
-settings-limits : (h : Handed) → isOpened h → Limits (settingsIn h)
-unfolding isOpened settingsIn openingOf
-settings-limits h e =
-    let o = opening.opened-on (h .state) (h .columns) (h .text) e in
-    subst Limits (sym (opening.opened-settings (h .state) (h .columns) (h .text) o)) (opening.opened-limits (h .state) (h .columns) (h .text) o)
-
-some-bucket : (h : Handed) → isOpened h → 0 < settingsIn h .bucket
-some-bucket h e = omega (arith, settings-limits h e .leastBucket)
-
-some-lines : (h : Handed) → isOpened h → 0 < settingsIn h .lines
-some-lines h e = omega (arith, settings-limits h e .someLines)
-
--- the run on the meaning
-abbrev traceOf : Settings → Handed → List Input → Trace
-traceOf s h is = after s (start s) (eventsOf (boxOf h) is)
-
--- it has the account and, in bytes, the output
-record Mirrors (s : Settings) (h : Handed) (is : List Input) : Type 0 where
-  pub account : accountOf h is ≡ accountIn (traceOf s h is)
-  pub decode : Every Decodes (traceOf s h is .output)
-  pub laid : outputOf h is ≡ map bytesOf (traceOf s h is .output)
-
-mirrors : (h : Handed) → isOpened h → (is : List Input) → Mirrors (settingsIn h) h is
-unfolding accountOf outputOf emptyAccount accountIn start
-mirrors h e is =
-    let run = runs (settingsIn h) is (start (settingsIn h)) (boxOf h) (box-stands h e) in
-    record {
-      account = run .account;
-      decode = rw (run .given) (run .decode);
-      laid = run .laid ∙ ap (map bytesOf) (sym (run .given));
-    }
 
 -- ---- 1 and 2
 

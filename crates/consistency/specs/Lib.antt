@@ -3,3 +3,5 @@ pub mod Runs
 pub mod Accounts
 pub mod Demand
 pub mod Plain
+pub mod Exactly
+pub mod PlainExactly

@@ -40,6 +40,7 @@ use Rattle.protocol.specs.Refusals.{firstFailed, lineOf, wrongLine, isZero, unu
 use Rattle.protocol.specs.Rules.{Outcome, firstRule, isCorrecting, isOverdue, someOverdue, ruleOf, without, boundaryAt, worked, act}
 use Rattle.protocol.specs.Calls.{input, done, accepted, outcomeOf}
 use Rattle.protocol.specs.Monitor.{freshMonitor, leastBoundary, stableBuckets, leftToWork, entryDue, anyDue, observeStep, entryOf, observeLine, observeInput, observeKind, observe}
+use Rattle.protocol.specs.StepCount.{stepsNeeded, leastBoundaryOf, bucketsLeft}
 use Rattle.protocol.specs.FailureFree.{stableReading, stableAfter, withoutArrival, failureFree}
 use Rattle.protocol.specs.Undos.{applyOne, applied, struckByOne, struck, stableRecords, doneDue}
 use Rattle.node.specs.declared.State.{State}
@@ -47,9 +48,10 @@ use Rattle.node.specs.View.{viewLine, viewLines, places, view, headOf, headsWit
 use Rattle.node.specs.Shape.{readingOk, idsRise, headOk, keptOk, phaseOk, bucketsOk, numbersOk, inShape}
 use Rattle.node.specs.Opening.{Opened, isShort, freshState, closedState, openedWith, openedOn}
 use Rattle.node.specs.Calls.{Called, hostTests, refusedWith, calledWith, calledOn}
-use Rattle.consistency.specs.Runs.{Input, called, left, leftAfter, pieces, readAs, recordIn, output}
+use Rattle.consistency.specs.Runs.{Box, Input, called, left, leftAfter, pieces, readAs, recordIn, output}
 use Rattle.consistency.specs.Accounts.{Account, emptyAccount, accountWith, accountNext, accountAfter, sentIn, boundariesIn}
 use Rattle.consistency.specs.Demand.{Handed, opening, boxOf, settingsIn, accountOf, outputOf, failureFreeBytes, remaining}
+use Rattle.consistency.specs.Exactly.{leftIn, stepsFrom}
 
 -- texts
 unfoldable pub settingsRead : List ℕ → SettingsRead
@@ -83,3 +85,8 @@ accountFrom h is = accountOf h is
 unfoldable pub outputFrom : Handed → List Input → List (List ℕ)
 unfolding accountFrom outputOf output pieces readAs recordIn decoded isWellFormed fieldsOf wordAt numberOf signedOf isRecord isResult isStableKind isTentative failureFree failureFreeBytes applyOne applied struckByOne struck stableRecords doneDue
 outputFrom h is = outputOf h is
+
+-- the steps that a box needs
+unfoldable pub leftFrom : Box → ℕ
+unfolding outputFrom leftIn stepsFrom stepsNeeded leastBoundaryOf bucketsLeft
+leftFrom b = leftIn b

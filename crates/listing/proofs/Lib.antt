@@ -1,3 +1,4 @@
--- The listing computed, and demand 3 applied to it.
+-- The listing computed, and demand 3 and the count of steps applied to it.
 pub mod Computed
 pub mod Listing
+pub mod Counted

@@ -31,7 +31,7 @@ abbrev stepCall : Call
 stepCall =
     record { now = record { 0 = 62 }; id = 0; time = record { 0 = 0 }; value = pos 0; line = 0; kind = 80; meter = 0 }
 
-twelve : _≡_ {A = ℕ} 12 0 → ⊥
+pub twelve : _≡_ {A = ℕ} 12 0 → ⊥
 twelve e = omega (arith, e)
 
 -- ---- the openings, the accounts and the outputs
@@ -56,19 +56,19 @@ twin-is : accountOf twin twinCalls ≡ twinAccount
 unfolding bytesIn storeOf settingsLine twin twinCall twinCalls arrived observed twinAccount outputFrom
 twin-is = refl
 
-one-left : remaining handed readings ≡ 1
+pub one-left : remaining handed readings ≡ 1
 unfolding remaining leftToWork stableBuckets leastBoundary settings arrived observed accountBefore
 one-left = ap₂ (λ (s : Settings) (a : Account). leftToWork s (a .monitor)) opens-with before-is
 
 -- ---- the steps
 
-abbrev before : Box
+abbrev pub before : Box
 before = leftAfter (boxOf handed) readings
 
-abbrev first : Box
+abbrev pub first : Box
 first = left before step
 
-abbrev passed : Box
+abbrev pub passed : Box
 passed = left first late
 
 abbrev second : Box
@@ -82,15 +82,15 @@ is-step : kindOf (stepCall .kind) ≡ Kind.P
 unfolding kindOf
 is-step = refl
 
-first-answer : called before step .answer ≡ 0
+pub first-answer : called before step .answer ≡ 0
 unfolding bytesIn storeOf settingsLine handed call readings step outputFrom
 first-answer = refl
 
-late-answer : called first late .answer ≡ 12
+pub late-answer : called first late .answer ≡ 12
 unfolding bytesIn storeOf settingsLine handed call readings step late outputFrom
 late-answer = refl
 
-second-answer : called passed step .answer ≡ 0
+pub second-answer : called passed step .answer ≡ 0
 unfolding bytesIn storeOf settingsLine handed call readings step late outputFrom
 second-answer = refl
 
@@ -98,12 +98,12 @@ third-answer : called second step .answer ≡ 0
 unfolding bytesIn storeOf settingsLine handed call readings step late outputFrom
 third-answer = refl
 
-one-step : (b : Box) (n : ℕ) (is : List Input) → called b step .answer ≡ 0 → Steps (left b step) n is → Steps b (suc n) (step ∷ is)
+pub one-step : (b : Box) (n : ℕ) (is : List Input) → called b step .answer ≡ 0 → Steps (left b step) n is → Steps b (suc n) (step ∷ is)
 unfolding step call
 one-step b n is accepted more =
     Steps.step (bytesIn "now=62 line=0 kind=P id=0 time=0 meter=0 value=0\n") (replicate 2080 0) stepCall reads is-step accepted more
 
-three-steps : Steps before 3 (step ∷ late ∷ step ∷ step ∷ [])
+pub three-steps : Steps before 3 (step ∷ late ∷ step ∷ step ∷ [])
 three-steps =
     one-step before 2 (late ∷ step ∷ step ∷ []) first-answer
     (Steps.refused {b = first} {n = 2} {is = step ∷ step ∷ []} late (λ e. twelve (sym late-answer ∙ e))

@@ -1,3 +1,4 @@
--- Document 01's listing as calls on a box, and what demand 3's words are on it.
+-- Document 01's listing as calls on a box, and what demand 3's words are on it; how many steps settle it (document 02, W4).
 pub mod Given
 pub mod Listing
+pub mod Counted

@@ -2,7 +2,7 @@
 -- accepted stable readings, and the output is measured against the failure-free run below c. Each call keeps it. Assumes nothing.
 use Prim.Native.Nat.{ℕ, suc, _+_, _*_, _-_, _≤_, _<_}
 use mathlib.Core.Path.{_≡_, refl, sym, _∙_, ap, subst}
-use mathlib.Core.Bool.{true, false, cond}
+use mathlib.Core.Bool.{true, false, cond, false≢true}
 use mathlib.Core.List.{List, [], _∷_, _++_, map, append-nil}
 use native.Mathlib.Omega.{arith}
 use native.Mathlib.Nat.{le-refl}
@@ -47,6 +47,7 @@ pub record Invariant (s : Settings) (t : Trace) : Type 0 where
   pub same-p : t .node .p ≡ t .monitor .t
   pub same-mark : isCorrecting (t .node .phase) ≡ t .monitor .mark
   pub order : t .node .c ≤ t .node .p
+  pub level : isCorrecting (t .node .phase) ≡ true → t .node .p ≡ t .node .c
   pub lines : Each (Agrees s (t .node .c)) (t .node .lines) (t .monitor .lines) (t .stables)
   pub output : Measured (t .node .c) (t .node .p) (t .node .phase) (t .node .operator) (t .node .checkpoint) (failureFree s (t .stables) (t .node .c)) (t .output)
 
@@ -112,6 +113,7 @@ module _ (s : Settings) (room : 0 < s .bucket) (t : Trace) (v : Invariant s t) w
         same-p = v .same-p;
         same-mark = v .same-mark;
         order = v .order;
+        level = v .level;
         lines =
             each-modify (onLine k kind) (observeLine k kind) (withStable k kind) noLine (k .line - 1)
             (λ g rs r. line-input s room (t .node .c) k (lineOf (t .node) k) g rs r kind e (h .id) (h .time) (h .free)) (v .lines);
@@ -133,6 +135,7 @@ module _ (s : Settings) (room : 0 < s .bucket) (t : Trace) (v : Invariant s t) w
         same-p = v .same-c;
         same-mark = refl;
         order = le-refl _;
+        level = λ _. refl;
         lines = v .lines;
         output =
             measured-withdraw _ _ _ _ _ _ _ (v .output) (failureFree-numbered s (t .stables) (t .node .c)) (record { 0 = 0 });
@@ -147,6 +150,7 @@ module _ (s : Settings) (room : 0 < s .bucket) (t : Trace) (v : Invariant s t) w
         same-p = ap suc (q ∙ v .same-c);
         same-mark = v .same-mark;
         order = omega (arith, v .order);
+        level = λ _. ap suc q;
         lines = each-without s (t .node .c) room (each-finished s (t .node .c) e (v .lines));
         output =
             measured-bucket s (t .node .c) (t .node .p) (t .node .phase) (t .node .operator) (t .node .checkpoint) (t .stables) (t .output) _
@@ -162,6 +166,7 @@ module _ (s : Settings) (room : 0 < s .bucket) (t : Trace) (v : Invariant s t) w
         same-p = v .same-p;
         same-mark = refl;
         order = v .order;
+        level = λ e. absurd (false≢true e);
         lines = v .lines;
         output = measured-done _ _ _ _ _ _ _ (v .output) (record { 0 = 0 });
       }
@@ -175,6 +180,7 @@ module _ (s : Settings) (room : 0 < s .bucket) (t : Trace) (v : Invariant s t) w
         same-p = ap suc (v .same-p);
         same-mark = sym m ∙ v .same-mark;
         order = omega (arith, v .order);
+        level = λ e. absurd (false≢true e);
         lines = v .lines;
         output =
             measured-tentative _ _ _ _ _ _ _ (v .output) (v .order) m _
@@ -190,6 +196,7 @@ module _ (s : Settings) (room : 0 < s .bucket) (t : Trace) (v : Invariant s t) w
         same-p = v .same-p;
         same-mark = v .same-mark;
         order = v .order;
+        level = v .level;
         lines = v .lines;
         output = measured-idle _ _ _ _ _ _ _ (v .output);
       }

@@ -45,6 +45,7 @@ at-opening s h =
       same-p = refl;
       same-mark = refl;
       order = le-refl _;
+      level = λ _. refl;
       lines = each-opened s (s .lines);
       output =
           record {

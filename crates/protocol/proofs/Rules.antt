@@ -1,9 +1,9 @@
 -- The node and the monitor choose the same rule: bucket c is stable where c is below the least boundary divided by the bucket length, and
 -- an overdue reading of bucket p or later is kept, since p is at or above c. Assumes nothing.
-use Prim.Native.Nat.{ℕ, suc, _+_, _*_, _/_, _≤_, _<_}
-use mathlib.Core.Path.{_≡_, refl, sym, _∙_, ap, ap₂, subst}
-use mathlib.Core.Bool.{Bool, true, false, cond, _&&_, _||_}
-use mathlib.Core.List.{List, _∷_, map}
+use Prim.Native.Nat.{ℕ, suc, _+_, _*_, _/_, _≤_, _<_, min}
+use mathlib.Core.Path.{_≡_, refl, sym, _∙_, ap, ap₂}
+use mathlib.Core.Bool.{Bool, true, false, cond, _&&_, _||_, and-true}
+use mathlib.Core.List.{List, [], _∷_, map}
 use native.Mathlib.Omega.{arith}
 use native.Mathlib.Nat.{le-div-iff-mul-le, not-suc-le-zero}
 use lib.Dec.{leb, ltb}
@@ -22,6 +22,7 @@ use Rattle.protocol.specs.Node.{Line, Node, isStable}
 use Rattle.protocol.specs.declared.Rule.{Rule}
 use Rattle.protocol.specs.declared.Rule.the-variants as Rule
 use Rattle.protocol.specs.Rules.{firstRule, isCorrecting, isOverdue, someOverdue, ruleOf}
+use Rattle.protocol.specs.StepCount.{leastBoundaryOf}
 use Rattle.protocol.specs.Monitor.{LineMonitor, Monitor, leastBoundary, stableBuckets, entryDue, anyDue, observeStep}
 use Rattle.protocol.proofs.Tests.{both-ways, leb-min}
 use Rattle.protocol.proofs.Lists.{some-kept}
@@ -61,30 +62,39 @@ pub monitor-step : (s : Settings) (y : Monitor) (now : ℕ) → observeStep s y 
 unfolding observeStep monitorAct monitorRule
 monitor-step s y now = by-tests y (ltb (y .d) (stableBuckets s y)) (ltb (y .d) (y .t)) (y .mark) (anyDue s (y .t) now (y .lines))
 
-module _ (s : Settings) (c : ℕ) where
-  -- a number at or below every line's boundary is at or below the least of the lines'
-  pub all-least : {ls : List Line} {gs : List LineMonitor} {zs : List (List Reading)} (x : ℕ) → 0 < length ls → Each (Agrees s c) ls gs zs → allOf (λ (l : Line). leb x (l .boundary .0)) ls ≡ leb x (leastBoundary gs)
-  unfolding allOf leastBoundary
-  all-least x h done = absurd (not-suc-le-zero h)
-  all-least x h (more {a = l} {b = g} r done) =
-      both-ways (leb x (l .boundary .0) && true) (leb x (g .boundary))
-      (λ e. subst (λ n. leb x n ≡ true) (r .boundary) (and-parts _ _ e .0)) (λ e. rw (r .boundary, e))
-  all-least x h (more {a = l} {b = g} r (more {b = g₁} {ys = gs} q rs)) =
-      ap₂ _&&_ (ap (leb x) (r .boundary)) (all-least x (omega arith) (more q rs)) ∙
-      sym (leb-min x (g .boundary) (leastBoundary (g₁ ∷ gs)))
+-- ---- the least boundary
 
-  pub stable-least : {ls : List Line} {gs : List LineMonitor} {zs : List (List Reading)} → 0 < s .bucket → 0 < length ls → Each (Agrees s c) ls gs zs → isStable s c ls ≡ ltb c (leastBoundary gs / s .bucket)
-  unfolding isStable finishes bucketEnd
-  stable-least {gs} room h v =
-      all-least (c * s .bucket + s .bucket) h v ∙
-      both-ways (leb (c * s .bucket + s .bucket) (leastBoundary gs)) (ltb c (leastBoundary gs / s .bucket))
-      (λ e.
-      let h : c * s .bucket + s .bucket ≤ leastBoundary gs = leb-true _ _ e in
-      let low : suc c * s .bucket ≤ leastBoundary gs = omega arith in
-      le-leb _ _ (le-div-iff-mul-le room .1 low))
-      (λ e.
-      let low : suc c * s .bucket ≤ leastBoundary gs = le-div-iff-mul-le room .0 (leb-true _ _ e) in
-      le-leb (c * s .bucket + s .bucket) (leastBoundary gs) (omega arith))
+-- a number at or below every line's boundary is at or below the least
+pub all-least : (x : ℕ) (ls : List Line) → 0 < length ls → allOf (λ (l : Line). leb x (l .boundary .0)) ls ≡ leb x (leastBoundaryOf ls)
+unfolding allOf leastBoundaryOf
+all-least x [] h = absurd (not-suc-le-zero h)
+all-least x (l ∷ []) h = and-true (leb x (l .boundary .0))
+all-least x (l ∷ m ∷ ls) h =
+    ap (_&&_ (leb x (l .boundary .0))) (all-least x (m ∷ ls) (omega arith)) ∙ sym (leb-min x (l .boundary .0) (leastBoundaryOf (m ∷ ls)))
+
+-- so bucket c is stable where it is below the least boundary divided by the bucket length
+pub stable-least : (s : Settings) (c : ℕ) (ls : List Line) → 0 < s .bucket → 0 < length ls → isStable s c ls ≡ ltb c (leastBoundaryOf ls / s .bucket)
+unfolding isStable finishes bucketEnd
+stable-least s c ls room h =
+    all-least (c * s .bucket + s .bucket) ls h ∙
+    both-ways (leb (c * s .bucket + s .bucket) (leastBoundaryOf ls)) (ltb c (leastBoundaryOf ls / s .bucket))
+    (λ e.
+    let h : c * s .bucket + s .bucket ≤ leastBoundaryOf ls = leb-true _ _ e in
+    let low : suc c * s .bucket ≤ leastBoundaryOf ls = omega arith in
+    le-leb _ _ (le-div-iff-mul-le room .1 low))
+    (λ e.
+    let low : suc c * s .bucket ≤ leastBoundaryOf ls = le-div-iff-mul-le room .0 (leb-true _ _ e) in
+    le-leb (c * s .bucket + s .bucket) (leastBoundaryOf ls) (omega arith))
+
+-- ---- the node and the monitor
+
+module _ (s : Settings) (c : ℕ) where
+  -- they have the same least boundary
+  pub same-least : {ls : List Line} {gs : List LineMonitor} {zs : List (List Reading)} → Each (Agrees s c) ls gs zs → leastBoundaryOf ls ≡ leastBoundary gs
+  unfolding leastBoundaryOf leastBoundary
+  same-least done = refl
+  same-least (more r done) = r .boundary
+  same-least (more r (more q rs)) = ap₂ min (r .boundary) (same-least (more q rs))
 
   overdue-from : (p : ℕ) (now : ArrivalTick) → c ≤ p → (rs : List Reading) → Every (λ (r : Reading). isOverdue s p now r ≡ true → isFrom (s .bucket) c r ≡ true) rs
   unfolding isOverdue isFrom
@@ -113,4 +123,11 @@ module _ (s : Settings) (c : ℕ) where
 pub same-rule : (s : Settings) → 0 < s .bucket → (n : Node) (y : Monitor) (zs : List (List Reading)) (now : ArrivalTick) → 0 < length (n .lines) → n .c ≡ y .d → n .p ≡ y .t → isCorrecting (n .phase) ≡ y .mark → n .c ≤ n .p → Each (Agrees s (n .c)) (n .lines) (y .lines) zs → ruleOf s n now ≡ monitorRule s y (now .0)
 unfolding ruleOf monitorRule stableBuckets
 same-rule s room n y zs now h same-c same-p same-mark order v =
-    rw (stable-least s (n .c) room h v, overdue-kept s (n .c) (n .p) now order v, same-mark, same-c, same-p)
+    rw (
+      stable-least s (n .c) (n .lines) room h,
+      same-least s (n .c) v,
+      overdue-kept s (n .c) (n .p) now order v,
+      same-mark,
+      same-c,
+      same-p,
+    )

@@ -1,107 +1,163 @@
--- How many steps are left until no stable bucket is left to work and no R is due: the undo, the buckets, the R. Every accepted
--- step takes one off while there is one, and there are at most the buckets and two. Assumes nothing.
-use Prim.Native.Nat.{ℕ, suc, _+_, _-_, _≤_, _<_}
-use mathlib.Core.Path.{_≡_, refl, _∙_}
-use mathlib.Core.Bool.{Bool, true, false, cond}
+-- How many steps settle a node: every accepted step takes exactly one off the steps that it needs, as long as it needs one. So nothing is
+-- left to work and the node is not correcting exactly where no step is needed; with k buckets left, k + 2 steps are always enough. Assumes
+-- nothing.
+use Prim.Native.Nat.{ℕ, zero, suc, _+_, _-_, _/_, _≤_, _<_, min}
+use mathlib.Core.Path.{_≡_, refl, sym, _∙_, ap, ap₂}
+use mathlib.Core.Bool.{Bool, true, false, true≢false}
+use mathlib.Core.Logic.{_↔_}
+use mathlib.Core.List.{List, [], _∷_, map}
 use native.Mathlib.Omega.{arith}
 use native.Mathlib.Nat.{le-refl}
 use lib.Dec.{ltb}
+use lib.ListN.{length}
 use borrow.Author.Tests.{ltb-false, ltb-true, le-ltb}
+use Rattle.clock.specs.declared.ArrivalTick.{ArrivalTick}
 use Rattle.settings.specs.declared.Settings.{Settings}
 use Rattle.journal.specs.declared.Call.{Call}
 use Rattle.protocol.specs.Kinds.{Kind, kindOf, uses, isStep}
+use Rattle.protocol.specs.Node.{Line, Node, isStable}
 use Rattle.protocol.specs.declared.Rule.{Rule}
-use Rattle.protocol.specs.declared.Rule.the-variants as Rule
+use Rattle.protocol.specs.Rules.{isCorrecting, ruleOf, without, act}
 use Rattle.protocol.specs.Refusals.{answerTo}
-use Rattle.protocol.specs.Monitor.{Monitor, stableBuckets, leftToWork, observeKind, observe}
+use Rattle.protocol.specs.Calls.{done, accepted, outcomeOf}
+use Rattle.protocol.specs.Monitor.{stableBuckets, leftToWork}
 use Rattle.protocol.specs.Undos.{doneDue}
-use Rattle.protocol.specs.Runs.{Event, Trace, isAccepted, next}
+use Rattle.protocol.specs.Runs.{Event, Trace, next}
+use Rattle.protocol.specs.StepCount.{stepsNeeded, leastBoundaryOf, bucketsLeft}
 use Rattle.protocol.specs.Demand.{itself, Steps, rest, step}
-use Rattle.protocol.proofs.Rules.{monitorRule, monitorAct, monitor-step, rule-cases}
+use Rattle.protocol.proofs.Rules.{rule-cases, stable-least, same-least}
 use Rattle.protocol.proofs.Invariant.{Invariant, next-kept}
 
-unfoldable pub stepsNeeded : ℕ → ℕ → ℕ → Bool → ℕ
-stepsNeeded m d t mark =
-    cond (ltb d m) (cond (ltb d t) (suc (suc (m - d))) (suc (m - d))) (cond mark 1 0)
+-- ---- the count
 
-unfoldable pub stepsLeft : Settings → Monitor → ℕ
-stepsLeft s y = stepsNeeded (stableBuckets s y) (y .d) (y .t) (y .mark)
+-- none is needed exactly where nothing is left and the box is not correcting
+pub none-needed : (k : ℕ) (out correcting : Bool) → (stepsNeeded k out correcting ≡ 0) ↔ ((k ≡ 0) × (correcting ≡ false))
+unfolding stepsNeeded
+none-needed zero out true = (λ e. absurd (omega arith), λ h. absurd (true≢false (h .1)))
+none-needed zero out false = (λ e. (refl, refl), λ h. refl)
+none-needed (suc k) out correcting = (λ e. absurd (omega arith), λ h. absurd (omega (arith, h .0)))
 
-at-most : (a b mark : Bool) (k : ℕ) → cond a (cond b (suc (suc k)) (suc k)) (cond mark 1 0) ≤ k + 2
-at-most true true mark k = omega arith
-at-most true false mark k = omega arith
-at-most false b true k = omega arith
-at-most false b false k = omega arith
+-- no box is both ahead and correcting, so that two are the most beyond the buckets
+at-most : (k : ℕ) (out correcting : Bool) → (correcting ≡ true → out ≡ false) → stepsNeeded k out correcting ≤ k + 2
+unfolding stepsNeeded
+at-most zero out true h = omega arith
+at-most zero out false h = omega arith
+at-most (suc k) true true h = absurd (true≢false (h refl))
+at-most (suc k) true false h = omega arith
+at-most (suc k) false true h = omega arith
+at-most (suc k) false false h = omega arith
 
-pub left-and-two : (s : Settings) (y : Monitor) → stepsLeft s y ≤ leftToWork s y + 2
-unfolding stepsLeft stepsNeeded leftToWork
-left-and-two s y = at-most (ltb (y .d) (stableBuckets s y)) (ltb (y .d) (y .t)) (y .mark) (stableBuckets s y - y .d)
-
-one-bucket-less : (a mark : Bool) (m d : ℕ) → ltb (suc d) m ≡ a → d < m → cond a (suc (m - suc d)) (cond mark 1 0) ≤ suc (m - d) - 1
-one-bucket-less true mark m d e h = omega (arith, ltb-true)
-one-bucket-less false true m d e h = omega arith
-one-bucket-less false false m d e h = omega arith
-
-module _ (m d t : ℕ) (mark : Bool) where
-  withdraw-down : ltb d m ≡ true → ltb d t ≡ true → stepsNeeded m d d true ≤ stepsNeeded m d t mark - 1
+-- what a rule leaves needs one step less, or none as before
+module _ (correcting : Bool) where
+  less-withdrawn : (k : ℕ) → 0 < k → correcting ≡ false → stepsNeeded k false true ≡ stepsNeeded k true correcting - 1
   unfolding stepsNeeded
-  withdraw-down a b = rw (a, b, le-ltb d d (le-refl d)) (omega arith)
+  less-withdrawn zero h e = absurd (omega arith)
+  less-withdrawn (suc k) h e = rw e (omega arith)
 
-  stable-down : ltb d m ≡ true → ltb d t ≡ false → stepsNeeded m (suc d) (suc d) mark ≤ stepsNeeded m d t mark - 1
+  less-worked : (j k : ℕ) → k ≡ suc j → stepsNeeded j false correcting ≡ stepsNeeded k false correcting - 1
   unfolding stepsNeeded
-  stable-down a b =
-      rw (a, b, le-ltb (suc d) (suc d) (le-refl (suc d))) (one-bucket-less (ltb (suc d) m) mark m d refl (ltb-true _ _ a))
+  less-worked zero k e = rw e (omega arith)
+  less-worked (suc j) k e = rw e (omega arith)
 
-  mark-down : ltb d m ≡ false → mark ≡ true → stepsNeeded m d t false ≤ stepsNeeded m d t mark - 1
+  less-ended : (out : Bool) (k : ℕ) → k ≡ 0 → correcting ≡ true → stepsNeeded k out false ≡ stepsNeeded k out correcting - 1
   unfolding stepsNeeded
-  mark-down a e = rw (a, e) (omega arith)
+  less-ended out k e f = rw (e, f) refl
 
-  none-down : (u : ℕ) → ltb d m ≡ false → mark ≡ false → stepsNeeded m d u mark ≤ stepsNeeded m d t mark - 1
+  none-less :
+      (out now still : Bool) (k : ℕ) → k ≡ 0 → correcting ≡ false → still ≡ false → stepsNeeded k now still ≡ stepsNeeded k out correcting - 1
   unfolding stepsNeeded
-  none-down u a e = rw (a, e) (omega arith)
+  none-less out now still k e f g = rw (e, f, g) refl
 
-  none-needed : stepsNeeded m d t mark ≤ 0 → (m - d ≡ 0) × (mark ≡ false)
-  unfolding stepsNeeded
-  none-needed =
-      (elim (ltb d m) as (λ a. ltb d m ≡ a → cond a (cond (ltb d t) (suc (suc (m - d))) (suc (m - d))) (cond mark 1 0) ≤ 0 → (m - d ≡ 0) × (mark ≡ false)) [
-        | true ↦ λ a h. absurd (some (ltb d t) h)
-        | false ↦ λ a h. (omega (arith, ltb-false d m a), off mark h)
-      ])
-      refl
-    where
-      some : (b : Bool) → cond b (suc (suc (m - d))) (suc (m - d)) ≤ 0 → ⊥
-      some true h = omega arith
-      some false h = omega arith
+-- ---- one step
 
-      off : (b : Bool) → cond b 1 0 ≤ 0 → b ≡ false
-      off true h = absurd (omega arith)
-      off false h = refl
+-- the steps that a node needs; tentative work is out where p is above c
+unfoldable pub stepsAhead : Settings → Node → ℕ
+stepsAhead s n = stepsNeeded (bucketsLeft s n) (ltb (n .c) (n .p)) (isCorrecting (n .phase))
 
-step-down : (s : Settings) (y : Monitor) (now : ℕ) → stepsLeft s (monitorAct y (monitorRule s y now)) ≤ stepsLeft s y - 1
-unfolding monitorRule stepsLeft monitorAct stableBuckets
-step-down s y now =
-    rule-cases _ _ _ _ (λ (q : Rule). stepsLeft s (monitorAct y q) ≤ stepsLeft s y - 1) (λ a b. withdraw-down _ _ _ _ a b)
-    (λ a b. stable-down _ _ _ _ a b) (λ a m. mark-down _ _ _ _ a m) (λ a m d. none-down _ _ _ _ _ a m)
-    (λ a m. none-down _ _ _ _ _ a m)
+-- what a step counts on: some bucket length, some line, and no tentative work out in a correction
+pub record Level (s : Settings) (n : Node) : Type 0 where
+  pub bucket : 0 < s .bucket
+  pub lines : 0 < length (n .lines)
+  pub level : isCorrecting (n .phase) ≡ true → n .p ≡ n .c
 
--- an accepted step is a step of the monitor
-next-monitor : (s : Settings) (t : Trace) (k : Call) → kindOf (k .kind) ≡ Kind.P → answerTo s (t .node) k ≡ 0 → next s t (Event.journal k) .monitor ≡ monitorAct (t .monitor) (monitorRule s (t .monitor) (k .now .0))
-unfolding next observe isAccepted observeKind isStep uses
-next-monitor s t k e a = rw (a, e) (monitor-step s (t .monitor) (k .now .0))
+-- readings that leave take no boundary with them
+least-without : (s : Settings) (j : ℕ) (ls : List Line) → leastBoundaryOf (map (without s j) ls) ≡ leastBoundaryOf ls
+unfolding leastBoundaryOf without
+least-without s j [] = refl
+least-without s j (l ∷ []) = refl
+least-without s j (l ∷ m ∷ ls) = ap (min (l .boundary .0)) (least-without s j (m ∷ ls))
 
-steps-down : (s : Settings) → 0 < s .bucket → {n : ℕ} {t u : Trace} → Steps s t n u → Invariant s t → Invariant s u × (stepsLeft s (u .monitor) ≤ stepsLeft s (t .monitor) - n)
-steps-down s room rest v = (v, omega arith)
-steps-down s room {u} (step {t = t} {n = n} k e a q) v =
-    let r : Invariant s u × (stepsLeft s (u .monitor) ≤ stepsLeft s (next s t (Event.journal k) .monitor) - n) =
-    steps-down s room q (next-kept s room t v (Event.journal k)) in
-    let h : stepsLeft s (next s t (Event.journal k) .monitor) ≤ stepsLeft s (t .monitor) - 1 =
-    rw (next-monitor s t k e a) (step-down s (t .monitor) (k .now .0)) in
-    (r .0, omega arith)
+module _ (s : Settings) (n : Node) (v : Level s n) where
+  -- by the test of rules 1 and 2
+  some-left : isStable s (n .c) (n .lines) ≡ true → n .c < leastBoundaryOf (n .lines) / s .bucket
+  some-left e = ltb-true _ _ (sym (stable-least s (n .c) (n .lines) (v .bucket) (v .lines)) ∙ e)
 
-pub settled : (s : Settings) → 0 < s .bucket → {n : ℕ} (t u : Trace) → Invariant s t → Steps s t n u → stepsLeft s (t .monitor) ≤ n → (leftToWork s (u .monitor) ≡ 0) × (doneDue itself false (u .output) ≡ false)
-unfolding leftToWork stepsLeft
-settled s room {n} t u v q enough =
-    let r : Invariant s u × (stepsLeft s (u .monitor) ≤ stepsLeft s (t .monitor) - n) = steps-down s room q v in
-    let none : (stableBuckets s (u .monitor) - u .monitor .d ≡ 0) × (u .monitor .mark ≡ false) =
-    none-needed (stableBuckets s (u .monitor)) (u .monitor .d) (u .monitor .t) (u .monitor .mark) (omega (arith, enough, r .1)) in
-    (none .0, r .0 .output .due ∙ r .0 .same-mark ∙ none .1)
+  none-left : isStable s (n .c) (n .lines) ≡ false → leastBoundaryOf (n .lines) / s .bucket ≤ n .c
+  none-left e = ltb-false _ _ (sym (stable-least s (n .c) (n .lines) (v .bucket) (v .lines)) ∙ e)
+
+  not-correcting : n .c < n .p → (b : Bool) → isCorrecting (n .phase) ≡ b → b ≡ false
+  not-correcting h true e = absurd (omega (arith, v .level e))
+  not-correcting h false e = refl
+
+  none-out : isCorrecting (n .phase) ≡ true → ltb (n .c) (n .p) ≡ false
+  none-out e = le-ltb (n .c) (n .p) (omega (arith, v .level e))
+
+  rule-takes-one : (now : ArrivalTick) → stepsAhead s (act s n (ruleOf s n now) .node) ≡ stepsAhead s n - 1
+  unfolding ruleOf stepsAhead bucketsLeft act isCorrecting
+  rule-takes-one now =
+      let out = ltb (n .c) (n .p) in
+      let correcting = isCorrecting (n .phase) in
+      rule-cases _ _ _ _ (λ (q : Rule). stepsAhead s (act s n q .node) ≡ stepsAhead s n - 1)
+      (λ a b.
+      rw (b, le-ltb (n .c) (n .c) (le-refl (n .c)))
+      (less-withdrawn correcting _ (omega (arith, some-left a)) (not-correcting (ltb-true _ _ b) correcting refl)))
+      (λ a b.
+      rw (b, le-ltb (suc (n .c)) (suc (n .p)) (omega (arith, ltb-false (n .c) (n .p) b)), least-without s (n .c) (n .lines))
+      (less-worked correcting _ _ (omega (arith, some-left a))))
+      (λ a m. less-ended correcting out _ (omega (arith, none-left a)) m)
+      (λ a m d. none-less correcting out _ _ _ (omega (arith, none-left a)) m refl)
+      (λ a m. none-less correcting out _ _ _ (omega (arith, none-left a)) m m)
+
+  -- an accepted step
+  pub step-takes-one :
+      (k : Call) → kindOf (k .kind) ≡ Kind.P → answerTo s n k ≡ 0 → stepsAhead s (outcomeOf s n k .node) ≡ stepsAhead s n - 1
+  unfolding outcomeOf done accepted isStep uses stepsAhead bucketsLeft
+  step-takes-one k e a = rw (a, e) (rule-takes-one (k .now))
+
+-- ---- from the opening on
+
+module _ (s : Settings) (room : 0 < s .bucket) where
+  invariant-level : {t : Trace} → Invariant s t → Level s (t .node)
+  invariant-level v = record { bucket = room; lines = v .some; level = v .level }
+
+  -- what the monitor has left to work, the node has
+  pub left-same : {t : Trace} → Invariant s t → leftToWork s (t .monitor) ≡ bucketsLeft s (t .node)
+  unfolding leftToWork stableBuckets bucketsLeft
+  left-same {t} v = sym (ap₂ (λ (m c : ℕ). m / s .bucket - c) (same-least s (t .node .c) (v .lines)) (v .same-c))
+
+  steps-take : {n : ℕ} {t u : Trace} → Steps s t n u → Invariant s t → Invariant s u × (stepsAhead s (u .node) ≡ stepsAhead s (t .node) - n)
+  unfolding next
+  steps-take rest v = (v, omega arith)
+  steps-take {u} (step {t = t} {n = n} k e a q) v =
+      let r : Invariant s u × (stepsAhead s (u .node) ≡ stepsAhead s (next s t (Event.journal k) .node) - n) =
+      steps-take q (next-kept s room t v (Event.journal k)) in
+      let h : stepsAhead s (next s t (Event.journal k) .node) ≡ stepsAhead s (t .node) - 1 =
+      step-takes-one s (t .node) (invariant-level v) k e a in
+      (r .0, omega (arith, r .1, h))
+
+  pub left-and-two : {t : Trace} → Invariant s t → stepsAhead s (t .node) ≤ leftToWork s (t .monitor) + 2
+  unfolding stepsAhead
+  left-and-two {t} v =
+      rw (left-same v)
+      (at-most (bucketsLeft s (t .node)) (ltb (t .node .c) (t .node .p)) (isCorrecting (t .node .phase))
+      (none-out s (t .node) (invariant-level v)))
+
+  pub settled :
+      {n : ℕ} (t u : Trace) → Invariant s t → Steps s t n u → stepsAhead s (t .node) ≤ n →
+      (leftToWork s (u .monitor) ≡ 0) × (doneDue itself false (u .output) ≡ false)
+  unfolding stepsAhead
+  settled {n} t u v q enough =
+      let r : Invariant s u × (stepsAhead s (u .node) ≡ stepsAhead s (t .node) - n) = steps-take q v in
+      let needed = none-needed (bucketsLeft s (u .node)) (ltb (u .node .c) (u .node .p)) (isCorrecting (u .node .phase)) in
+      let none = needed .0 (omega (arith, enough, r .1)) in
+      (left-same (r .0) ∙ none .0, r .0 .output .due ∙ none .1)

@@ -18,13 +18,14 @@ use Rattle.store.proofs.Pairs.{every-to}
 use Rattle.operator.specs.Work.{Worked}
 use Rattle.protocol.specs.Node.{Line}
 use Rattle.protocol.specs.Monitor.{LineMonitor, leastBoundary, stableBuckets, leftToWork}
+use Rattle.protocol.specs.StepCount.{leastBoundaryOf}
 use Rattle.protocol.specs.FailureFree.{failureFree}
 use Rattle.protocol.specs.Undos.{applied, struck, stableRecords}
 use Rattle.protocol.specs.Runs.{Trace, start, after}
 use Rattle.protocol.specs.Demand.{stableResults, itself, Clean, boundaries, sent, Demand3}
 use Rattle.protocol.proofs.Places.{Each, done, more}
 use Rattle.protocol.proofs.Lines.{Agrees}
-use Rattle.protocol.proofs.Rules.{all-least}
+use Rattle.protocol.proofs.Rules.{all-least, same-least}
 use Rattle.protocol.proofs.Numbers.{Numbered, failureFree-numbered}
 use Rattle.protocol.proofs.FailureFree.{failureFree-without}
 use Rattle.protocol.proofs.Invariant.{Invariant}
@@ -41,10 +42,10 @@ all-past s c (more {a = l} r rs) = rw (le-leb (c * s .bucket) (l .boundary .0) (
 worked-stable : (s : Settings) → 0 < s .bucket → (t : Trace) → Invariant s t → t .monitor .d ≤ stableBuckets s (t .monitor)
 unfolding stableBuckets
 worked-stable s room t v =
+    let low : t .node .c * s .bucket ≤ leastBoundaryOf (t .node .lines) =
+    leb-true _ _ (sym (all-least (t .node .c * s .bucket) (t .node .lines) (v .some)) ∙ all-past s (t .node .c) (v .lines)) in
     subst (λ n. n ≤ leastBoundary (t .monitor .lines) / s .bucket) (v .same-c)
-    (le-div-iff-mul-le room .1
-    (leb-true _ _
-    (sym (all-least s (t .node .c) (t .node .c * s .bucket) (v .some) (v .lines)) ∙ all-past s (t .node .c) (v .lines))))
+    (le-div-iff-mul-le room .1 (subst (λ n. t .node .c * s .bucket ≤ n) (same-least s (t .node .c) (v .lines)) low))
 
 -- clean
 
@@ -122,6 +123,5 @@ demand3 =
           sym (came s (after s (start s) fs) (invariant s room h fs));
       settles =
           λ s room h es t q.
-          settled s room (after s (start s) es) t (invariant s room h es) q
-          (omega (arith, left-and-two s (after s (start s) es .monitor)));
+          settled s room (after s (start s) es) t (invariant s room h es) q (left-and-two s room (invariant s room h es));
     }

@@ -9,4 +9,5 @@ pub mod Monitor
 pub mod FailureFree
 pub mod Undos
 pub mod Runs
+pub mod StepCount
 pub mod Demand

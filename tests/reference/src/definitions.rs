@@ -2,6 +2,7 @@
 //! as an equation that the definitions, computed, must meet.
 
 mod columns;
+mod counts;
 mod literal;
 mod means;
 mod pick;

@@ -12,7 +12,7 @@ mod random;
 mod workload;
 
 pub use aim::{any_call, fitting_call, spoil_call};
-pub use host::{host_case, host_state, some_sum, Host, HostCase};
+pub use host::{host_case, host_state, near_host_state, some_sum, Host, HostCase};
 pub use host_fault::{break_shape, FAULTS};
 pub use malformed::spoil_text;
 pub use random::Random;

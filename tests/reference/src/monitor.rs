@@ -1,12 +1,15 @@
 //! The monitor, which is document 01's day book (section 'From the opening on'), and the checks of
-//! demand 3 that rest on it, with code of its own throughout.
+//! demand 3 that rest on it, with code of its own throughout; how many steps settle a box (document
+//! 02, W4).
 
+mod count;
 mod failure_free;
 mod output;
 mod replica;
 mod run;
 mod watch;
 
+pub use count::{is_settled, left_in, steps_from, steps_needed};
 pub use failure_free::failure_free;
 pub use output::Output;
 pub use replica::{are_replicas, check_replicas};

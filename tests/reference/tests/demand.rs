@@ -1,6 +1,9 @@
-//! Demand 3 on generated journals: clean, never struck, failure-free, settling, replicas.
+//! Demand 3 on generated journals: clean, never struck, failure-free, settling in exactly as many
+//! steps as document 02 counts, replicas.
 
 mod common;
+
+use std::collections::BTreeMap;
 
 use common::replica::replica;
 use reference::generate::{journal, Kind, Random};
@@ -22,6 +25,9 @@ struct Tally {
     results: usize,
     undone: u64,
     replicas: u32,
+    /// From which state, and with how many stable buckets left (2 stands for two or more), steps
+    /// were counted.
+    counted: BTreeMap<(&'static str, u32), u32>,
 }
 
 /// Plays a journal, sometimes over short areas; checks at some places on the way and at the end.
@@ -47,6 +53,8 @@ fn play(kind: Kind, seed: u64, lines: u64, tally: &mut Tally) -> Option<(Run, Ve
             check_facts(&run, &accepted);
             if run.watch.monitor.left() < FAR {
                 let pace = random.pick(&[0, 1, 60, 900_000]);
+                let from = (run.state.word.name(), run.watch.monitor.left().min(2));
+                *tally.counted.entry(from).or_insert(0) += 1;
                 run.clone().settle(pace).unwrap();
             }
         }
@@ -121,6 +129,8 @@ fn demand_3_on_nasty_journals() {
     assert!(tally.journals > 2_300 && tally.calls > 900_000, "{tally:?}");
     assert!(tally.results > 15_000 && tally.undone > 6_000, "{tally:?}");
     assert!(tally.replicas > 2_100, "{tally:?}");
+    assert_eq!(tally.counted.len(), 9, "{tally:?}");
+    assert!(tally.counted.values().all(|&times| times > 50), "{tally:?}");
 }
 
 #[test]

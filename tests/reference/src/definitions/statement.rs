@@ -4,6 +4,7 @@ use super::columns::Columns;
 use super::literal::{bytes, integer, spelled_list};
 use super::question::{HostQuestion, Left, NodeQuestion};
 use super::value;
+use crate::generate::Host;
 use crate::node::mean;
 use crate::refusal::answer;
 use crate::text::{read_call, read_settings};
@@ -159,6 +160,17 @@ pub(super) fn of_mean(number: usize, sum: i64, count: u32) -> String {
         "-- {sum}/{count}\nmean-{number} : meanOf ({}) {count} ≡ {}\nunfolding meanOf\nmean-{number} = refl\n\n",
         integer(sum),
         integer(mean(sum, count)),
+    )
+}
+
+/// How many steps a node needs.
+pub(super) fn of_steps(number: usize, host: &Host, steps: u32) -> String {
+    format!(
+        "-- {}, c {}\nsteps-{number} : stepsOf ({}) ({}) ≡ {steps}\nunfolding stepsOf\nsteps-{number} = refl\n\n",
+        host.state.word.name(),
+        host.state.c,
+        value::settings(&host.state.settings),
+        value::node(&host.state, &host.store),
     )
 }
 

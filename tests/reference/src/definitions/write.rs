@@ -4,12 +4,13 @@ use std::fs;
 use std::io;
 use std::path::Path;
 
+use super::counts::counts;
 use super::means::means;
 use super::pick;
 use super::statement;
 use super::tally::Tally;
 use super::texts;
-use crate::generate::Random;
+use crate::generate::{Host, Random};
 
 /// The equations that one file holds.
 const FILE_CASES: usize = 100;
@@ -81,6 +82,11 @@ fn sets(seed: u64, count: usize) -> Vec<Set> {
             ("means", "Mean"),
             |number, &(sum, count): &(i64, u32)| statement::of_mean(number, sum, count),
             |tally| means(random, 2 * count, tally),
+        ),
+        set(
+            ("steps to settle", "Steps"),
+            |number, (host, steps): &(Host, u32)| statement::of_steps(number, host, *steps),
+            |tally| counts(random, count, tally),
         ),
         set(
             ("journal texts", "CallText"),

@@ -5,17 +5,31 @@ use super::host_fault::break_shape;
 use super::malformed::spoil_text;
 use super::nasty;
 use super::random::Random;
-use crate::node::{Head, Meter, Operator, Reading, State, Word};
+use crate::node::{call, Head, Meter, Operator, Reading, State, Word};
 use crate::node::{GREATEST_BUCKET, LINES, METERS, SHARE};
 use crate::record::AREA_BYTES;
 use crate::refusal::Refusal;
-use crate::text::{spell_call, STABLE, TENTATIVE};
+use crate::text::{spell_call, Call, STABLE, TENTATIVE};
 
 /// What a host hands over from call to call.
 #[derive(Clone, Debug, PartialEq, Eq)]
 pub struct Host {
     pub state: State,
     pub store: Vec<Reading>,
+}
+
+impl Host {
+    /// A step at the state's own clock, over an area of the least length; gives the answer.
+    pub fn step(&mut self) -> u32 {
+        let text = spell_call(&Call::step(self.state.clock));
+        call(
+            &mut self.state,
+            &mut self.store,
+            &text,
+            &mut [0; AREA_BYTES],
+        )
+        .0
+    }
 }
 
 /// One call as a host may make it.
@@ -86,6 +100,20 @@ pub fn host_state(random: &mut Random) -> Host {
     let mut store = vec![Reading::ZERO; places];
     fill_lines(random, &mut state, &mut store);
     Host { state, store }
+}
+
+/// A state and store in shape whose boundaries lie some buckets past c, or short of it: few steps
+/// settle it.
+pub fn near_host_state(random: &mut Random) -> Host {
+    let mut host = host_state(random);
+    let (c, settings) = (u64::from(host.state.c), host.state.settings);
+    let (lines, bucket) = (settings.lines as usize, u64::from(settings.bucket));
+    for head in &mut host.state.heads[..lines] {
+        let finished = (c + random.below(7)).saturating_sub(1);
+        let boundary = finished * bucket + random.below(bucket);
+        head.boundary = boundary.min(u64::from(u32::MAX)) as u32;
+    }
+    host
 }
 
 /// A bucket number, often one that boundaries can finish, often a limit.

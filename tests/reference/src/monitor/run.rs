@@ -1,10 +1,11 @@
 //! A run of the node of this crate under watch.
 
+use super::count::{is_settled, left_in, steps_from};
 use super::watch::{check_settled, Watch};
 use crate::node::{call, open, Reading, State, LINES, SHARE};
 use crate::record::{AREA_BYTES, RECORD_BYTES};
 use crate::refusal::Refusal;
-use crate::text::{read_call, write_call, Call, JOURNAL_LONGEST, STEP};
+use crate::text::{read_call, write_call, Call, JOURNAL_LONGEST};
 
 /// A node with its store, from a fresh opening on, and the watch over it.
 #[derive(Clone, Debug)]
@@ -49,26 +50,35 @@ impl Run {
 
     /// A step at some arrival tick.
     pub fn step(&mut self, now: u32) -> Result<u32, String> {
-        self.feed_call(&Call {
-            now,
-            line: 0,
-            kind: STEP,
-            id: 0,
-            time: 0,
-            meter: 0,
-            value: 0,
-        })
+        self.feed_call(&Call::step(now))
     }
 
-    /// The third part of demand 3: k + 2 steps, each some ticks after the one before, settle it.
+    /// The third part of demand 3, by document 02's count: steps, each some ticks after the one
+    /// before, settle it when they are as many as needed, no sooner and for good; k + 2 always are.
     pub fn settle(&mut self, pace: u32) -> Result<(), String> {
-        for _ in 0..self.watch.monitor.left() + 2 {
+        let enough = self.watch.monitor.left() + 2;
+        let needed = steps_from(&self.state, self.watch.monitor.left());
+        for taken in 0..enough {
+            self.check_count(taken, needed)?;
             let now = self.state.clock.saturating_add(pace);
             let answer = self.step(now)?;
             if answer != 0 {
                 return Err(format!("a step refused with {answer}"));
             }
         }
+        self.check_count(enough, needed)?;
         check_settled(&self.watch)
+    }
+
+    /// Whether so many steps of those needed have left what they should.
+    fn check_count(&self, taken: u32, needed: u32) -> Result<(), String> {
+        let left = self.watch.monitor.left();
+        if left_in(&self.state) != left {
+            return Err(format!("{left} buckets left, otherwise by the state"));
+        }
+        if is_settled(&self.state, left) != (taken >= needed) {
+            return Err(format!("{taken} steps of {needed} needed, {left} left"));
+        }
+        Ok(())
     }
 }

@@ -34,6 +34,19 @@ pub struct Call {
 }
 
 impl Call {
+    /// A step at some arrival tick.
+    pub fn step(now: u32) -> Self {
+        Call {
+            now,
+            line: 0,
+            kind: STEP,
+            id: 0,
+            time: 0,
+            meter: 0,
+            value: 0,
+        }
+    }
+
     /// Whether the call hands over a reading.
     pub fn is_reading(&self) -> bool {
         self.kind == STABLE || self.kind == TENTATIVE
