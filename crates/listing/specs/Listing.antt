@@ -1,6 +1,6 @@
 -- The statement on document 01's listing, computed, so that none of its words can come to be said of nothing: the opening is accepted, the
--- output is what the document prints, one tentative result is struck, the R is due and then given, steps settle and fewer do not, and two
--- boxes agree for which everything differs that may. Assumes nothing.
+-- output is what the document prints, with the mean of document 02 (W1), one tentative result is struck, the R is due and then given, steps
+-- settle and fewer do not, and two boxes agree for which everything differs that may. Assumes nothing.
 use Prim.Native.Nat.{ℕ, _+_}
 use mathlib.Core.Path.{_≡_}
 use mathlib.Core.Bool.{true, false}
@@ -38,7 +38,7 @@ pub record Listing : Type 0 where
   pub isTentativeNow : isTentative (recordIn stable .kind) ≡ false
   pub dueAgain : doneDue recordIn false (undo ∷ corrected ∷ undo ∷ []) ≡ true
   pub notEvery : Every (λ (b : List ℕ). isTentative (recordIn b .kind) ≡ true) (tentative ∷ stable ∷ []) → ⊥
-  -- the day book: d is 0 and then 1, t is 1
+  -- the monitor: d is 0 and then 1, t is 1
   pub before : accountOf handed readings ≡ accountBefore
   pub behind : accountOf handed (readings ++ step ∷ step ∷ []) ≡ accountBehind
   -- one bucket is left to work, and nothing is owed; two steps later none is, and the stable result is owed
