@@ -12,5 +12,8 @@ pub mod Plain
 pub mod Stated
 pub mod PlainExactly
 pub mod Opened
+pub mod Heats
+pub mod PlainBalance
 pub mod Theorem
 pub mod Exactly
+pub mod Balance

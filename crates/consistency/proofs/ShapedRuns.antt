@@ -40,7 +40,7 @@ use Rattle.consistency.specs.Demand.{Handed, opening as openingOf, isOpe
 use Rattle.operator.specs.Bounds.{countLimit}
 use Rattle.operator.proofs.Meters.{Counted}
 use Rattle.consistency.proofs.ShapedTests.{facts-inShape}
-use Rattle.consistency.proofs.ShapedLines.{kept-shape, heads-shape}
+use Rattle.consistency.proofs.ShapedLines.{LineShaped, kept-shape, heads-shape}
 use Rattle.consistency.proofs.ShapedWork.{CountedAt, readingsPerBucket}
 use Rattle.consistency.proofs.Shaped.{Shaped, opened-shaped, outcome-shaped}
 
@@ -162,6 +162,13 @@ opening-sound h e =
           rw (opening.opened-view (h .state) (h .columns) (h .text) o, opening.opened-settings (h .state) (h .columns) (h .text) o)
           (opened-shaped (o .settings) (o .accepts .limits));
     }
+
+-- from an opening on, what a box keeps is in shape
+pub kept-shaped :
+    (h : Handed) → isOpened h → (is : List Input) →
+    let b : Box = leftAfter (boxOf h) is in
+    Every LineShaped (view (b .state) (b .columns) .lines)
+kept-shaped h e is = list-sound is (boxOf h) (opening-sound h e) .shaped .lines
 
 sound-answers : (b : Box) → Sound b → (i : Input) (m : ℕ) → OfStore m → called b i .answer ≡ m → ⊥
 unfolding called

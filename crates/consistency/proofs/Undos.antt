@@ -21,6 +21,10 @@ recordIn-bytesOf : (r : Record) → Decodes r → recordIn (bytesOf r) ≡ r
 unfolding recordIn readAs
 recordIn-bytesOf r d = ap readAs d
 
+pub records-read : (rs : List Record) → Every Decodes rs → map recordIn (map bytesOf rs) ≡ rs
+records-read [] h = refl
+records-read (r ∷ rs) h = ap₂ _∷_ (recordIn-bytesOf r (h .0)) (records-read rs (h .1))
+
 -- ---- a choice, through a function
 
 cond-through : {A B : Type 0} (f : A → B) (test : Bool) (x y : A) (u v : B) → u ≡ f x → v ≡ f y → cond test u v ≡ f (cond test x y)

@@ -1,7 +1,10 @@
--- Demand 3 on texts, areas, states and columns: lists of calls, their output in bytes, undos applied to it, and the statement.
+-- Demand 3 on texts, areas, states and columns: lists of calls, their output in bytes, undos applied to it, and the statement;
+-- document 02's count of steps and heat balance over the same lists.
 pub mod Runs
 pub mod Accounts
 pub mod Demand
 pub mod Plain
 pub mod Exactly
 pub mod PlainExactly
+pub mod Balance
+pub mod PlainBalance

@@ -1,7 +1,7 @@
 -- What computes on the listing: each definition here names all those that its part of a call goes through, so that to unfold it is to unfold
 -- them. A definition that a change of specs/ adds on the way is added to its line. Assumes nothing.
 use Prim.Native.Nat.{ℕ}
-use mathlib.Core.List.{List}
+use mathlib.Core.List.{List, flatten}
 use Rattle.area.specs.Laid.{inFront}
 use Rattle.clock.specs.Buckets.{bucketOf, bucketEnd, finishes}
 use Rattle.clock.specs.Windows.{closesWindow, windowStart}
@@ -52,6 +52,8 @@ use Rattle.consistency.specs.Runs.{Box, Input, called, left, leftAfter, pieces,
 use Rattle.consistency.specs.Accounts.{Account, emptyAccount, accountWith, accountNext, accountAfter, sentIn, boundariesIn}
 use Rattle.consistency.specs.Demand.{Handed, opening, boxOf, settingsIn, accountOf, outputOf, failureFreeBytes, remaining}
 use Rattle.consistency.specs.Exactly.{leftIn, stepsFrom}
+use Rattle.consistency.specs.Balance.{Heat, noHeat, plus, heatOf, ofReading, ofMeter, ofResult, countsFor, paysFor}
+use Rattle.consistency.specs.Balance.{sentHeat, paidHeat, openHeat, keptStables, keptHeat}
 
 -- texts
 unfoldable pub settingsRead : List ℕ → SettingsRead
@@ -90,3 +92,8 @@ outputFrom h is = outputOf h is
 unfoldable pub leftFrom : Box → ℕ
 unfolding outputFrom leftIn stepsFrom stepsNeeded leastBoundaryOf bucketsLeft
 leftFrom b = leftIn b
+
+-- the parts of the balance
+unfoldable pub heatFrom : Settings → Box → ℕ → Heat
+unfolding outputFrom heatOf noHeat plus ofReading ofMeter ofResult countsFor paysFor sentHeat paidHeat openHeat keptStables keptHeat flatten
+heatFrom s b i = keptHeat s b i

@@ -1,4 +1,5 @@
--- The listing computed, and demand 3 and the count of steps applied to it.
+-- The listing computed, and demand 3 and the count of steps applied to it; an outage computed, and the heat balance applied to it.
 pub mod Computed
 pub mod Listing
 pub mod Counted
+pub mod Balanced

@@ -35,7 +35,7 @@ add-number s o r =
       | false ↦ refl
     ]
 
-add-length : (s : Settings) (o : Operator) (r : Reading) → length (add s o r .meters) ≡ length (o .meters)
+pub add-length : (s : Settings) (o : Operator) (r : Reading) → length (add s o r .meters) ≡ length (o .meters)
 unfolding add
 add-length s o r =
     elim (isCounted s (r .value)) as

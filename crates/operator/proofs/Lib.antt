@@ -7,6 +7,7 @@ pub mod Results
 pub mod Numbers
 pub mod Gives
 pub mod Closing
+pub mod Measures
 pub mod Sums
 pub mod Meters
 pub mod Bounds

@@ -4,19 +4,25 @@
 use Prim.Native.Nat.{ℕ, _+_}
 use mathlib.Core.Path.{_≡_, refl, sym, _∙_, ap}
 use mathlib.Core.Bool.{Bool, true, false, cond, _&&_}
-use mathlib.Core.List.{List, [], _∷_, _++_}
+use mathlib.Core.List.{List, [], _∷_, _++_, map}
 use lib.Dec.{eqb}
 use lib.IntN.{ℤ, pos, _+ℤ_, +ℤ-idl, +ℤ-assoc, +ℤ-comm}
 use lib.ListN.{length, length-append}
 use Rattle.settings.specs.declared.Settings.{Settings}
+use Rattle.store.specs.declared.Reading.{Reading}
+use Rattle.store.specs.Lists.{keep}
 use Rattle.store.specs.Order.{Placed}
 use Rattle.store.specs.Sorted.{Permutation, empty, behind, exchange, chain}
-use Rattle.store.proofs.Permutations.{permutation-same, length-permuted}
+use Rattle.store.proofs.Choices.{cond-map}
+use Rattle.store.proofs.Permutations.{length-permuted, keep-permuted, map-permuted}
 use Rattle.operator.specs.Meters.{isCounted}
 
 -- a reading of meter i with a value that is not dropped
+abbrev pub counts : Settings → ℕ → Reading → Bool
+counts s i r = isCounted s (r .value) && eqb (r .meter) i
+
 unfoldable pub countsFor : Settings → ℕ → Placed → Bool
-countsFor s i r = isCounted s (r .reading .value) && eqb (r .reading .meter) i
+countsFor s i r = counts s i (r .reading)
 
 -- the values of these readings
 unfoldable pub valuesOf : Settings → ℕ → List Placed → List ℤ
@@ -76,24 +82,17 @@ lastOr-append old (v ∷ vs) ws = lastOr-append v vs ws
 
 -- ---- in any order
 
+values-kept :
+    (s : Settings) (i : ℕ) (rs : List Placed) → valuesOf s i rs ≡ map (λ (r : Placed). r .reading .value) (keep (countsFor s i) rs)
+unfolding valuesOf keep
+values-kept s i [] = refl
+values-kept s i (r ∷ rs) =
+    rw (values-kept s i rs)
+    (cond-map (map (λ (a : Placed). a .reading .value)) (countsFor s i r) (r ∷ keep (countsFor s i) rs) (keep (countsFor s i) rs))
+
 valuesOf-permuted : (s : Settings) (i : ℕ) {rs qs : List Placed} → Permutation rs qs → Permutation (valuesOf s i rs) (valuesOf s i qs)
-unfolding valuesOf
-valuesOf-permuted s i empty = empty
-valuesOf-permuted s i (behind x {xs} {ys} p) =
-    elim (countsFor s i x) as
-    (λ b.
-    Permutation (cond b (x .reading .value ∷ valuesOf s i xs) (valuesOf s i xs)) (cond b (x .reading .value ∷ valuesOf s i ys) (valuesOf s i ys))) [
-      | true ↦ behind (x .reading .value) (valuesOf-permuted s i p)
-      | false ↦ valuesOf-permuted s i p
-    ]
-valuesOf-permuted s i (exchange x y xs) = exchanged (countsFor s i x) (countsFor s i y) (x .reading .value) (y .reading .value) (valuesOf s i xs)
-  where
-    exchanged : (b c : Bool) (v w : ℤ) (vs : List ℤ) → Permutation (cond b (v ∷ cond c (w ∷ vs) vs) (cond c (w ∷ vs) vs)) (cond c (w ∷ cond b (v ∷ vs) vs) (cond b (v ∷ vs) vs))
-    exchanged true true v w vs = exchange v w vs
-    exchanged true false v w vs = permutation-same _
-    exchanged false true v w vs = permutation-same _
-    exchanged false false v w vs = permutation-same _
-valuesOf-permuted s i (chain p q) = chain (valuesOf-permuted s i p) (valuesOf-permuted s i q)
+valuesOf-permuted s i {rs} {qs} p =
+    rw (values-kept s i rs, values-kept s i qs) (map-permuted (λ (r : Placed). r .reading .value) (keep-permuted (countsFor s i) p))
 
 total-permuted : {vs ws : List ℤ} → Permutation vs ws → total vs ≡ total ws
 unfolding total

@@ -13,6 +13,8 @@ pub mod Output
 pub mod Passed
 pub mod Invariant
 pub mod Opening
+pub mod FailureFreeTotals
+pub mod Balance
 pub mod Settling
 pub mod Theorem
 pub mod Faults

@@ -4,7 +4,7 @@ use Prim.Native.Nat.{ℕ, zero, suc, _+_, _-_, _≤_}
 use mathlib.Core.Path.{_≡_, refl, sym, _∙_, ap, ap₂, subst}
 use mathlib.Core.Bool.{Bool, true, false}
 use mathlib.Core.Logic.{_↔_}
-use mathlib.Core.List.{List, [], _∷_, _++_, map, append-nil, List·Memᴰ, Memᴰ·cast, Memᴰ·map, Memᴰ·of-map}
+use mathlib.Core.List.{List, [], _∷_, _++_, map, map-append, flatten, append-nil, List·Memᴰ, Memᴰ·cast, Memᴰ·map, Memᴰ·of-map}
 use native.Mathlib.Omega.{arith}
 use lib.Dec.{eqb}
 use lib.ListN.{getD}
@@ -61,6 +61,22 @@ gather-of-line length j n (suc i) (kept ∷ lines) =
     (λ (m : ℕ). keep (λ (a : Placed). eqb (a .line) m) others ≡ map (place m) (keep (isIn length j) (getD lines i [])))
     (omega arith)
     (gather-of-line length j (suc n) i lines))
+
+-- but for the numbers the gathered readings are those of the bucket among the readings of all lines
+pub gather-readings :
+    (length j n : ℕ) (lines : List (List Reading)) →
+    map (λ (a : Placed). a .reading) (gather length j n lines) ≡ keep (isIn length j) (flatten lines)
+unfolding gather flatten keep
+gather-readings length j n [] = refl
+gather-readings length j n (kept ∷ lines) =
+    let own : List Reading = keep (isIn length j) kept in
+    map-append (λ (a : Placed). a .reading) (map (place n) own) (gather length j (suc n) lines) ∙
+    ap₂ _++_ (unplaced own) (gather-readings length j (suc n) lines) ∙
+    sym (keep-append (isIn length j) kept (flatten lines))
+  where
+    unplaced : (rs : List Reading) → map (λ (a : Placed). a .reading) (map (place n) rs) ≡ rs
+    unplaced [] = refl
+    unplaced (r ∷ rs) = ap (λ (l : List Reading). r ∷ l) (unplaced rs)
 
 -- the test for a bucket's readings
 isIn-bucket : (length j : ℕ) (r : Reading) → (isIn length j r ≡ true) ↔ (bucketOf length (r .time) ≡ j)

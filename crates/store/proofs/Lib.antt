@@ -3,6 +3,8 @@ pub mod Choices
 pub mod Pairs
 pub mod Permutations
 pub mod Keeping
+pub mod Splitting
+pub mod Amounts
 pub mod Order
 pub mod Sorting
 pub mod Uniqueness

@@ -114,12 +114,12 @@ level-not-before a b e = false-unless (before a b) (λ h. equal-not-earlier (lev
     equal-not-earlier q (by-line e h) = omega arith
     equal-not-earlier q (by-id e f h) = omega arith
 
-data Compared (m n : ℕ) : Type 0 where
+pub data Compared (m n : ℕ) : Type 0 where
   below : m < n → Compared m n
   same : m ≡ n → Compared m n
   above : n < m → Compared m n
 
-compare : (m n : ℕ) → Compared m n
+pub compare : (m n : ℕ) → Compared m n
 compare m n =
     (elim (ltb m n) as (λ t. ltb m n ≡ t → Compared m n) [
       | true ↦ λ e. below (ltb-true m n e)

@@ -1,10 +1,11 @@
 -- Laws of permutations: they go back, they keep the length, and what holds of every element, or of every two whichever comes first, holds
--- after them too. Each goes by the permutation. Assumes nothing.
+-- after them too; a map, and what a test keeps, is permuted with the list. Each goes by the permutation or the list. Assumes nothing.
 use Prim.Native.Nat.{suc}
 use mathlib.Core.Path.{_≡_, refl, _∙_, ap}
-use mathlib.Core.List.{List, [], _∷_, List·Memᴰ}
+use mathlib.Core.Bool.{Bool, true, false, cond}
+use mathlib.Core.List.{List, [], _∷_, _++_, map, List·Memᴰ}
 use lib.ListN.{length}
-use Rattle.store.specs.Lists.{Every}
+use Rattle.store.specs.Lists.{Every, keep}
 use Rattle.store.specs.Sorted.{Pairwise, Permutation, empty, behind, exchange, chain}
 use Rattle.store.proofs.Pairs.{every-of, every-self}
 
@@ -41,3 +42,38 @@ module _ {A : Type 0} where
   pub permutation-holds : {z : A} {xs ys : List A} → Permutation xs ys → List·Memᴰ z xs → List·Memᴰ z ys
   permutation-holds {ys} p m =
       every-of (λ x. List·Memᴰ x ys) m (every-permuted (λ x. List·Memᴰ x ys) (permutation-back p) (every-self ys))
+
+  -- an element in front may stand further on, and a list may be put in front
+  pub permutation-between : (x : A) (xs ys : List A) → Permutation (x ∷ (xs ++ ys)) (xs ++ x ∷ ys)
+  permutation-between x [] ys = permutation-same (x ∷ ys)
+  permutation-between x (y ∷ xs) ys = chain (exchange x y (xs ++ ys)) (behind y (permutation-between x xs ys))
+
+  pub append-permuted : (xs : List A) {ys zs : List A} → Permutation ys zs → Permutation (xs ++ ys) (xs ++ zs)
+  append-permuted [] p = p
+  append-permuted (x ∷ xs) p = behind x (append-permuted xs p)
+
+  -- what a test keeps is permuted too
+  pub keep-permuted : (test : A → Bool) {xs ys : List A} → Permutation xs ys → Permutation (keep test xs) (keep test ys)
+  unfolding keep
+  keep-permuted test empty = empty
+  keep-permuted test (behind x {xs} {ys} p) =
+      elim (test x) as (λ b. Permutation (cond b (x ∷ keep test xs) (keep test xs)) (cond b (x ∷ keep test ys) (keep test ys))) [
+        | true ↦ behind x (keep-permuted test p)
+        | false ↦ keep-permuted test p
+      ]
+  keep-permuted test (exchange x y xs) = exchanged (test x) (test y) (keep test xs)
+    where
+      exchanged :
+          (b c : Bool) (zs : List A) →
+          Permutation (cond b (x ∷ cond c (y ∷ zs) zs) (cond c (y ∷ zs) zs)) (cond c (y ∷ cond b (x ∷ zs) zs) (cond b (x ∷ zs) zs))
+      exchanged true true zs = exchange x y zs
+      exchanged true false zs = permutation-same (x ∷ zs)
+      exchanged false true zs = permutation-same (y ∷ zs)
+      exchanged false false zs = permutation-same zs
+  keep-permuted test (chain p q) = chain (keep-permuted test p) (keep-permuted test q)
+
+pub map-permuted : {A B : Type 0} (f : A → B) {xs ys : List A} → Permutation xs ys → Permutation (map f xs) (map f ys)
+map-permuted f empty = empty
+map-permuted f (behind x p) = behind (f x) (map-permuted f p)
+map-permuted f (exchange x y xs) = exchange (f x) (f y) (map f xs)
+map-permuted f (chain p q) = chain (map-permuted f p) (map-permuted f q)

@@ -3,6 +3,8 @@
 
 mod columns;
 mod counts;
+mod heat_statement;
+mod heats;
 mod literal;
 mod means;
 mod pick;

@@ -1,10 +1,12 @@
 //! Runs another program `merge` on an input and compares what it prints with the reference.
 
+mod balance;
 mod coverage;
 mod difference;
 mod feed;
 mod inputs;
 
+pub use balance::{due_balance, paid_in_balance, paid_in_output};
 pub use coverage::Coverage;
 pub use difference::first_difference;
 pub use feed::{run, Feed, Run};

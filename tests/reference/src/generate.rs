@@ -1,4 +1,4 @@
-//! Seeded journals and host-made states to try a merge box with.
+//! Seeded journals, host-made states and records to try a merge box with.
 
 mod aim;
 mod crowded;
@@ -9,6 +9,7 @@ mod journal;
 mod malformed;
 mod nasty;
 mod random;
+mod record;
 mod workload;
 
 pub use aim::{any_call, fitting_call, spoil_call};
@@ -16,6 +17,7 @@ pub use host::{host_case, host_state, near_host_state, some_sum, Host, HostCase}
 pub use host_fault::{break_shape, FAULTS};
 pub use malformed::spoil_text;
 pub use random::Random;
+pub use record::{any_bytes, any_record_bytes};
 pub use workload::{write_still, write_workload, Workload, WORKLOADS};
 
 use std::io::{self, Write};

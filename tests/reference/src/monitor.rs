@@ -1,7 +1,8 @@
 //! The monitor, which is document 01's day book (section 'From the opening on'), and the checks of
 //! demand 3 that rest on it, with code of its own throughout; how many steps settle a box (document
-//! 02, W4).
+//! 02, W4), and the heat balance (W11).
 
+mod balance;
 mod count;
 mod failure_free;
 mod output;
@@ -9,6 +10,7 @@ mod replica;
 mod run;
 mod watch;
 
+pub use balance::{balance_text, check_balance, kept_heat, open_heat, paid_heat, Balance, Heat};
 pub use count::{is_settled, left_in, steps_from, steps_needed};
 pub use failure_free::failure_free;
 pub use output::Output;

@@ -1,10 +1,11 @@
 //! Demand 3 on generated journals: clean, never struck, failure-free, settling in exactly as many
-//! steps as document 02 counts, replicas.
+//! steps as document 02 counts, replicas; and the heat balance wherever it is checked.
 
 mod common;
 
 use std::collections::BTreeMap;
 
+use common::balance::Balances;
 use common::replica::replica;
 use reference::generate::{journal, Kind, Random};
 use reference::monitor::{check, check_replicas, Run};
@@ -28,16 +29,24 @@ struct Tally {
     /// From which state, and with how many stable buckets left (2 stands for two or more), steps
     /// were counted.
     counted: BTreeMap<(&'static str, u32), u32>,
+    balances: Balances,
+}
+
+/// A journal played, with its calls of the form by how they were answered.
+struct Played {
+    run: Run,
+    accepted: Vec<Call>,
+    refused: Vec<Call>,
 }
 
 /// Plays a journal, sometimes over short areas; checks at some places on the way and at the end.
-fn play(kind: Kind, seed: u64, lines: u64, tally: &mut Tally) -> Option<(Run, Vec<Call>)> {
+fn play(kind: Kind, seed: u64, lines: u64, tally: &mut Tally) -> Option<Played> {
     let bytes = journal(kind, seed, lines);
     let mut random = Random::new(seed);
     let settings = next_line(&bytes);
     let mut rest = &bytes[settings.len()..];
     let mut run = Run::open(settings).ok()?;
-    let mut accepted = Vec::new();
+    let (mut accepted, mut refused) = (Vec::new(), Vec::new());
     while !rest.is_empty() {
         let text = next_line(rest);
         rest = &rest[text.len()..];
@@ -47,9 +56,15 @@ fn play(kind: Kind, seed: u64, lines: u64, tally: &mut Tally) -> Option<(Run, Ve
         assert_eq!(answer == 5, short == 1);
         tally.calls += 1;
         tally.undone += u64::from(answer == 0 && area[0] == b'U');
-        accepted.extend(read_call(text).filter(|_| answer == 0));
+        let answered = if answer == 0 {
+            &mut accepted
+        } else {
+            &mut refused
+        };
+        answered.extend(read_call(text));
         if random.once_in(60) {
             check(&run.watch).unwrap();
+            tally.balances.check(&run, &refused);
             check_facts(&run, &accepted);
             if run.watch.monitor.left() < FAR {
                 let pace = random.pick(&[0, 1, 60, 900_000]);
@@ -60,7 +75,11 @@ fn play(kind: Kind, seed: u64, lines: u64, tally: &mut Tally) -> Option<(Run, Ve
         }
     }
     tally.journals += 1;
-    Some((run, accepted))
+    Some(Played {
+        run,
+        accepted,
+        refused,
+    })
 }
 
 /// What ties the node to the monitor after any list of calls from a fresh opening, and what is
@@ -99,23 +118,32 @@ fn check_line(state: &State, store: &[Reading], line: usize, stable: u32) {
 fn play_all(kind: Kind, seeds: std::ops::Range<u64>, lines: u64) -> Tally {
     let mut tally = Tally::default();
     for seed in seeds {
-        let Some((mut run, accepted)) = play(kind, seed, lines, &mut tally) else {
+        let Some(played) = play(kind, seed, lines, &mut tally) else {
             continue;
         };
+        let Played {
+            mut run,
+            accepted,
+            refused,
+        } = played;
         let mut random = Random::new(seed ^ 0xFF);
         check(&run.watch).unwrap();
+        tally.balances.check(&run, &refused);
         let left = run.watch.monitor.left();
         if left >= TOO_FAR || (left >= FAR && seed % 10 != 0) {
             continue;
         }
         run.settle(random.pick(&[0, 3, 100])).unwrap();
         check(&run.watch).unwrap();
+        tally.balances.check(&run, &refused);
         check_facts(&run, &accepted);
         tally.results += run.watch.output.stable().unwrap().len();
         if let Some(mut other) = replica(&run, &accepted, &mut random) {
             check(&other.watch).unwrap();
+            tally.balances.check(&other, &[]);
             other.settle(1).unwrap();
             check(&other.watch).unwrap();
+            tally.balances.check(&other, &[]);
             let compared = check_replicas(&run.watch, &other.watch).unwrap();
             tally.replicas += u32::from(compared);
         }
@@ -131,6 +159,9 @@ fn demand_3_on_nasty_journals() {
     assert!(tally.replicas > 2_100, "{tally:?}");
     assert_eq!(tally.counted.len(), 9, "{tally:?}");
     assert!(tally.counted.values().all(|&times| times > 50), "{tally:?}");
+    assert!(tally.balances.places > 23_000, "{tally:?}");
+    assert!(tally.balances.are_of_all(1_000), "{tally:?}");
+    assert!(tally.balances.at_once > 100, "{tally:?}");
 }
 
 #[test]
@@ -139,6 +170,7 @@ fn demand_3_on_days() {
     assert!(tally.journals == 500 && tally.results > 15_000, "{tally:?}");
     assert!(tally.undone > 500, "{tally:?}");
     assert!(tally.replicas > 400, "{tally:?}");
+    assert!(tally.balances.are_of_all(1_000), "{tally:?}");
 }
 
 #[test]
@@ -146,4 +178,5 @@ fn demand_3_on_malformed_journals() {
     let tally = play_all(Kind::Malformed, 0..1_000, 400);
     assert!(tally.journals > 800 && tally.results > 1_500, "{tally:?}");
     assert!(tally.replicas > 700, "{tally:?}");
+    assert!(tally.balances.are_of_all(100), "{tally:?}");
 }

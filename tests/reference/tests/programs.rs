@@ -1,15 +1,21 @@
-//! The two programs as they are run from a shell.
+//! The programs as they are run from a shell.
 
+use std::fs::File;
 use std::io::Write;
 use std::process::{Command, Output, Stdio};
 
+use reference::differential::due_balance;
 use reference::generate::{journal, Kind};
 use reference::playback::merge;
 
-fn run_merge(input: &[u8]) -> Output {
-    let mut child = Command::new(env!("CARGO_BIN_EXE_reference-merge"))
+const MERGE: &str = env!("CARGO_BIN_EXE_reference-merge");
+const BALANCE: &str = env!("CARGO_BIN_EXE_reference-balance");
+
+fn run(program: &str, input: &[u8]) -> Output {
+    let mut child = Command::new(program)
         .stdin(Stdio::piped())
         .stdout(Stdio::piped())
+        .stderr(Stdio::piped())
         .spawn()
         .unwrap();
     let mut stdin = child.stdin.take().unwrap();
@@ -38,17 +44,49 @@ fn programs_agree_with_the_library() {
         assert!(generated.stdout == journal(kind, 12, 3_000));
         let mut due = Vec::new();
         merge(&generated.stdout[..], &mut due).unwrap();
-        let merged = run_merge(&generated.stdout);
+        let merged = run(MERGE, &generated.stdout);
         assert!(merged.status.success());
         assert!(merged.stdout == due);
+        let balanced = run(BALANCE, &generated.stdout);
+        assert!(balanced.status.success());
+        assert!(!balanced.stdout.is_empty());
+        assert!(balanced.stdout == due_balance(&generated.stdout).unwrap().into_bytes());
     }
 }
 
 #[test]
 fn merge_ends_at_refused_settings() {
-    let merged = run_merge(&b"x\n".repeat(100_000));
+    let merged = run(MERGE, &b"x\n".repeat(100_000));
     assert_eq!(merged.stdout, b"answer=1 records=0 state=none\n");
     assert!(merged.status.success());
+}
+
+#[test]
+fn balance_names_refused_settings() {
+    let beyond = b"lines=9 bucket=100 window=1 hold=50 low=-1000 high=1000\n";
+    for (input, refusal) in [(&b""[..], "1"), (b"x\nx\n", "1"), (beyond, "2")] {
+        let balanced = run(BALANCE, input);
+        assert_eq!(balanced.status.code(), Some(1));
+        assert_eq!(balanced.stdout, b"");
+        let due = format!("reference-balance: settings refused with {refusal}\n");
+        assert_eq!(balanced.stderr, due.into_bytes());
+    }
+}
+
+#[test]
+fn balance_names_an_input_that_cannot_be_read() {
+    let folder = File::open(env!("CARGO_MANIFEST_DIR")).unwrap();
+    let balanced = Command::new(BALANCE).stdin(folder).output().unwrap();
+    assert_eq!(balanced.status.code(), Some(1));
+    assert_eq!(balanced.stdout, b"");
+    assert!(balanced.stderr.starts_with(b"reference-balance: "));
+}
+
+#[test]
+fn balance_takes_no_arguments() {
+    let refused = Command::new(BALANCE).arg("--other").output().unwrap();
+    assert_eq!(refused.status.code(), Some(2));
+    assert!(refused.stdout.is_empty() && !refused.stderr.is_empty());
 }
 
 #[test]

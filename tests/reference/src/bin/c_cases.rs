@@ -8,8 +8,8 @@
 use std::io::{self, BufWriter, Write};
 use std::process::ExitCode;
 
-use reference::generate::{any_call, spoil_text, Random};
-use reference::record::{decode, encode, record_text, Record, RECORD_BYTES, RECORD_TEXT_LONGEST};
+use reference::generate::{any_bytes, any_call, any_record_bytes, spoil_text, Random};
+use reference::record::{decode, record_text, RECORD_TEXT_LONGEST};
 use reference::refusal::answer;
 use reference::text::{has_form, spell_call, JOURNAL_LONGEST};
 
@@ -85,11 +85,6 @@ fn any_line(random: &mut Random) -> Vec<u8> {
     spell_call(&any_call(random))
 }
 
-fn any_bytes(random: &mut Random, limit: u64) -> Vec<u8> {
-    let length = random.below(limit);
-    (0..length).map(|_| random.bits() as u8).collect()
-}
-
 fn write_record_case(random: &mut Random, output: &mut dyn Write) -> io::Result<()> {
     let record = any_record_bytes(random);
     let fill = random.bits() as u8;
@@ -102,37 +97,6 @@ fn write_record_case(random: &mut Random, output: &mut dyn Write) -> io::Result<
     write_numbers(output, &numbers)?;
     output.write_all(&record)?;
     output.write_all(&area)
-}
-
-/// A record, one with a fault, or any bytes.
-fn any_record_bytes(random: &mut Random) -> Vec<u8> {
-    let mut bytes = encode(&any_record(random)).to_vec();
-    let place = random.below(RECORD_BYTES as u64) as usize;
-    match random.below(12) {
-        0 => bytes[0] = random.bits() as u8,
-        1 => bytes[random.pick(&[2, 3])] = random.bits() as u8,
-        2 => bytes[place] ^= 1 << random.below(8),
-        3 => bytes.truncate(place),
-        4 => bytes.extend(any_bytes(random, RECORD_BYTES as u64)),
-        5 => bytes = any_bytes(random, 2 * RECORD_BYTES as u64),
-        _ => {}
-    }
-    bytes
-}
-
-fn any_record(random: &mut Random) -> Record {
-    let wide = random.bits() as i64 >> random.below(64);
-    let mean = random.signed_word();
-    Record {
-        kind: random.pick(b"STUBR"),
-        meter: random.word() as u8,
-        id: random.word(),
-        time: random.word(),
-        count: random.word(),
-        sum: random.pick(&[0, -1, i64::MIN, i64::MAX, wide, i64::from(mean)]),
-        mean,
-        last: random.signed_word(),
-    }
 }
 
 /// Lengths about that of the record's text, the longest and none at all.

@@ -7,7 +7,8 @@ use std::io;
 use std::path::{Path, PathBuf};
 use std::process::ExitCode;
 
-use reference::differential::{due_output, first_difference, odd_inputs, run, Coverage, Feed};
+use reference::differential::{due_balance, due_output, first_difference, odd_inputs};
+use reference::differential::{paid_in_balance, paid_in_output, run, Coverage, Feed};
 use reference::generate::{journal, Kind, Random};
 
 const USAGE: &str = "usage: differential MERGE STORED FOUND JOURNALS SEED";
@@ -15,6 +16,8 @@ const USAGE: &str = "usage: differential MERGE STORED FOUND JOURNALS SEED";
 const ENOUGH: u64 = 200;
 /// After so many failures a run is given up.
 const TOO_MANY: u64 = 10;
+/// The stored journal that must have its heat balance beside it.
+const BALANCED: &str = "heat-balance";
 /// The kinds of generated journals in turn.
 const KINDS: [Kind; 8] = [
     Kind::Nasty,
@@ -77,6 +80,7 @@ fn all(test: &mut Test, stored: &Path, journals: u64, seed: u64) -> io::Result<(
     let reached = stored_journals(test, stored, seed)?;
     println!("stored journals: {reached}");
     test.must_reach("stored journals", &reached);
+    stored_balances(test, stored)?;
     let reached = generated_journals(test, journals, seed)?;
     println!("generated journals: {reached}");
     if journals >= ENOUGH {
@@ -85,31 +89,54 @@ fn all(test: &mut Test, stored: &Path, journals: u64, seed: u64) -> io::Result<(
     Ok(())
 }
 
+/// The files of a folder with this extension, in order.
+fn files_of(folder: &Path, extension: &str) -> io::Result<Vec<PathBuf>> {
+    let mut paths = Vec::new();
+    for entry in fs::read_dir(folder)? {
+        let path = entry?.path();
+        if path.extension().is_some_and(|own| own == extension) {
+            paths.push(path);
+        }
+    }
+    paths.sort();
+    Ok(paths)
+}
+
+/// A file's name without its extension.
+fn name_of(path: &Path) -> String {
+    let stem = path.file_stem().unwrap_or_default();
+    stem.to_string_lossy().into_owned()
+}
+
 /// Every stored journal, by the output that is stored beside it.
 fn stored_journals(test: &mut Test, folder: &Path, seed: u64) -> io::Result<Coverage> {
     let mut reached = Coverage::default();
-    let mut paths = Vec::new();
-    for entry in fs::read_dir(folder)? {
-        paths.push(entry?.path());
-    }
-    paths.sort();
-    for path in paths {
-        if path
-            .extension()
-            .is_some_and(|extension| extension == "journal")
-        {
-            let name = path.file_stem().unwrap_or_default().to_string_lossy();
-            let input = fs::read(&path)?;
-            let due = fs::read(path.with_extension("output"))?;
-            match first_difference(&input, &due, &due_output(&input)) {
-                Some(difference) => test.fail(&format!("reference on {name}"), &difference),
-                None => test.passed += 1,
-            }
-            test.compare(&name, &input, &due, seed)?;
-            reached.note(&input);
+    for path in files_of(folder, "journal")? {
+        let name = name_of(&path);
+        let input = fs::read(&path)?;
+        let due = fs::read(path.with_extension("output"))?;
+        match first_difference(&input, &due, &due_output(&input)) {
+            Some(difference) => test.fail(&format!("reference on {name}"), &difference),
+            None => test.passed += 1,
         }
+        test.compare(&name, &input, &due, seed)?;
+        reached.note(&input);
     }
     Ok(reached)
+}
+
+/// Every heat balance that is stored beside a journal.
+fn stored_balances(test: &mut Test, folder: &Path) -> io::Result<()> {
+    let paths = files_of(folder, "balance")?;
+    for path in &paths {
+        let input = fs::read(path.with_extension("journal"))?;
+        test.balance(&name_of(path), &input, &fs::read(path)?)?;
+    }
+    println!("stored balances: {}", paths.len());
+    if !paths.iter().any(|path| name_of(path) == BALANCED) {
+        test.fail("stored balances", &format!("  none of {BALANCED}"));
+    }
+    Ok(())
 }
 
 /// So many generated journals, by the output of the reference.
@@ -150,6 +177,27 @@ impl Test {
             let said = [ran.fault.map(|fault| format!("  {fault}")), difference];
             let said: Vec<String> = said.into_iter().flatten().collect();
             self.fail(&what, &said.join("\n"));
+        }
+        Ok(())
+    }
+
+    /// Compares the reference's heat balance with the one due, and what the program prints as paid
+    /// with its paid part.
+    fn balance(&mut self, name: &str, input: &[u8], due: &[u8]) -> io::Result<()> {
+        let text = due_balance(input).unwrap_or_else(|error| error);
+        if text.as_bytes() == due {
+            self.passed += 1;
+        } else {
+            let said = format!("due:\n{}got:\n{text}", String::from_utf8_lossy(due));
+            self.fail(&format!("balance of reference on {name}"), &said);
+        }
+        let ran = run(&self.merge, input, &[], Feed::Whole)?;
+        let (printed, due) = (paid_in_output(&ran.output), paid_in_balance(due));
+        if due.is_some() && printed == due {
+            self.passed += 1;
+        } else {
+            let said = format!("  due: {due:?}\n  got: {printed:?}");
+            self.fail(&format!("paid on {name}"), &said);
         }
         Ok(())
     }

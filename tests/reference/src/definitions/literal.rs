@@ -38,9 +38,10 @@ pub(super) fn signed_words(list: &[i32]) -> String {
 }
 
 /// A signed number.
-pub(super) fn integer(number: i64) -> String {
+pub(super) fn integer(number: impl Into<i128>) -> String {
+    let number = number.into();
     if number < 0 {
-        format!("negsuc {}", -(i128::from(number) + 1))
+        format!("negsuc {}", -(number + 1))
     } else {
         format!("pos {number}")
     }

@@ -25,7 +25,7 @@ fn columns_left(number: usize, question: &HostQuestion, left: &Left) -> String {
     }
 }
 
-fn definition(name: &str, kind: &str, body: &str) -> String {
+pub(super) fn definition(name: &str, kind: &str, body: &str) -> String {
     format!("abbrev {name} : {kind}\n{name} = {body}\n\n")
 }
 

@@ -5,6 +5,8 @@ use std::io;
 use std::path::Path;
 
 use super::counts::counts;
+use super::heat_statement::{of_box, of_paid};
+use super::heats;
 use super::means::means;
 use super::pick;
 use super::statement;
@@ -16,12 +18,13 @@ use crate::generate::{Host, Random};
 const FILE_CASES: usize = 100;
 
 /// The hand-written files: names and texts.
-const LAWS: [(&str, &str); 5] = [
+const LAWS: [(&str, &str); 6] = [
     ("Packed", include_str!("laws/Packed.antt.txt")),
     ("Rows", include_str!("laws/Rows.antt.txt")),
     ("Quick", include_str!("laws/Quick.antt.txt")),
     ("Compared", include_str!("laws/Compared.antt.txt")),
     ("Cases", include_str!("laws/Cases.antt.txt")),
+    ("Heats", include_str!("laws/Heats.antt.txt")),
 ];
 
 /// The head of every file of equations.
@@ -88,6 +91,12 @@ fn sets(seed: u64, count: usize) -> Vec<Set> {
             |number, (host, steps): &(Host, u32)| statement::of_steps(number, host, *steps),
             |tally| counts(random, count, tally),
         ),
+        set(("open and kept", "Box"), of_box, |tally| {
+            heats::boxes(random, count / 2, tally)
+        }),
+        set(("paid", "Paid"), of_paid, |tally| {
+            heats::payments(random, count / 2, tally)
+        }),
         set(
             ("journal texts", "CallText"),
             |number, text: &Vec<u8>| statement::of_call_text(number, text),

@@ -1,10 +1,11 @@
 //! The output of a list of calls with its undos applied, and what went wrong on the way.
 
-use crate::record::{decode, RECORD_BYTES};
+use crate::record::{decode, Record, RECORD_BYTES};
 
 /// An output read record by record.
 #[derive(Clone, Debug, Default)]
 pub struct Output {
+    records: Vec<Record>,
     results: Vec<[u8; RECORD_BYTES]>,
     mark_due: bool,
     struck_stable: bool,
@@ -15,6 +16,7 @@ impl Output {
     pub fn read(&mut self, bytes: &[u8]) -> Result<(), String> {
         for chunk in bytes.chunks(RECORD_BYTES) {
             let record = decode(chunk).map_err(|_| format!("no record: {chunk:?}"))?;
+            self.records.push(record);
             match record.kind {
                 b'S' | b'T' => self.results.push(encoded(chunk)),
                 b'U' => self.strike(record.id),
@@ -23,6 +25,11 @@ impl Output {
             }
         }
         Ok(())
+    }
+
+    /// All records as they came.
+    pub fn records(&self) -> &[Record] {
+        &self.records
     }
 
     /// The results that no undo has struck.

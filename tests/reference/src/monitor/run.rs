@@ -5,7 +5,7 @@ use super::watch::{check_settled, Watch};
 use crate::node::{call, open, Reading, State, LINES, SHARE};
 use crate::record::{AREA_BYTES, RECORD_BYTES};
 use crate::refusal::Refusal;
-use crate::text::{read_call, write_call, Call, JOURNAL_LONGEST};
+use crate::text::{next_line, read_call, write_call, Call, JOURNAL_LONGEST};
 
 /// A node with its store, from a fresh opening on, and the watch over it.
 #[derive(Clone, Debug)]
@@ -26,6 +26,20 @@ impl Run {
             store,
             watch,
         })
+    }
+
+    /// Plays a journal, settings line first.
+    pub fn play(journal: &[u8]) -> Result<Self, String> {
+        let settings = next_line(journal);
+        let refused = |refusal| format!("settings refused with {}", refusal as u32);
+        let mut run = Run::open(settings).map_err(refused)?;
+        let mut rest = &journal[settings.len()..];
+        while !rest.is_empty() {
+            let text = next_line(rest);
+            rest = &rest[text.len()..];
+            run.feed(text)?;
+        }
+        Ok(run)
     }
 
     /// Calls the node with a text and a fresh area of so many bytes; gives the answer.

@@ -1,6 +1,7 @@
 //! A bench for small tests: a node, its store and an area, and short ways to call it.
 #![allow(dead_code)]
 
+pub mod balance;
 pub mod literal;
 mod literal_step;
 pub mod replica;
