@@ -1,7 +1,7 @@
--- The heat balance (document 02, W11) on a run of calls, computed. Windows have two buckets; the first is paid, of the second one bucket is
--- worked as stable when line 2 falls silent, and the other then as tentative, with one bucket more. Every part of the balance is above 0, and
--- whatever it must not count is there: values outside low to high, worked and kept; a refused reading; a tentative one; a tentative result;
--- and an operator that holds something else than the checkpoint. Assumes nothing.
+-- The heat balance (document 02, W11) on a run of calls, computed. Windows have two buckets; the first is paid, of the second one bucket
+-- is worked as stable when line 2 falls silent, and the other then as tentative, with one bucket more. Every part of the balance is above
+-- 0, and whatever it must not count is there: values outside low to high, worked and kept; a refused reading; a tentative one; a tentative
+-- result; and an operator that holds something else than the checkpoint. Assumes nothing.
 use Prim.Native.Nat.{ℕ}
 use mathlib.Core.Path.{_≡_}
 use mathlib.Core.List.{List, [], _∷_, _++_, flatten, map}
