@@ -17,12 +17,11 @@ use Rattle.record.specs.declared.Record.{Record}
 use Rattle.store.specs.declared.Reading.{Reading}
 use Rattle.store.specs.Lists.{keep}
 use Rattle.store.specs.Order.{Placed}
-use Rattle.store.proofs.Choices.{not-both, cond-either}
 use Rattle.store.specs.Sorted.{Permutation}
+use Rattle.store.proofs.Choices.{not-both, cond-either}
 use Rattle.store.proofs.Permutations.{keep-permuted}
-use Rattle.store.proofs.Keeping.{keep-append}
 use Rattle.store.proofs.Splitting.{EitherOf, keep-split}
-use Rattle.store.proofs.Amounts.{CommutativeMonoid, none-plus, totalOf, total-append, total-permuted}
+use Rattle.store.proofs.Amounts.{CommutativeMonoid, none-plus, totalOf, kept-append, total-permuted}
 use Rattle.operator.specs.declared.Meter.{Meter}
 use Rattle.operator.specs.declared.Operator.{Operator}
 use Rattle.operator.specs.Meters.{meterCount, noMeter, withValue, add, addAll, clear}
@@ -61,9 +60,7 @@ module _ {M : Type 0} (m : Measure M) where
   reportedOf kind i rs = totalOf (m .amounts) (m .ofResult) (keep (reports kind i) rs)
 
   pub brought-append : (s : Settings) (i : ℕ) (rs qs : List Reading) → brought s i (rs ++ qs) ≡ plus (brought s i rs) (brought s i qs)
-  brought-append s i rs qs =
-      ap (totalOf (m .amounts) (m .ofReading)) (keep-append (counts s i) rs qs) ∙
-      total-append (m .amounts) (m .ofReading) (keep (counts s i) rs) (keep (counts s i) qs)
+  brought-append s i rs qs = kept-append (m .amounts) (m .ofReading) (counts s i) rs qs
 
   pub brought-permuted : (s : Settings) (i : ℕ) {rs qs : List Reading} → Permutation rs qs → brought s i rs ≡ brought s i qs
   brought-permuted s i p = total-permuted (m .amounts) (m .ofReading) (keep-permuted (counts s i) p)
@@ -77,9 +74,7 @@ module _ {M : Type 0} (m : Measure M) where
 
   pub reported-append :
       (kind i : ℕ) (rs qs : List Record) → reportedOf kind i (rs ++ qs) ≡ plus (reportedOf kind i rs) (reportedOf kind i qs)
-  reported-append kind i rs qs =
-      ap (totalOf (m .amounts) (m .ofResult)) (keep-append (reports kind i) rs qs) ∙
-      total-append (m .amounts) (m .ofResult) (keep (reports kind i) rs) (keep (reports kind i) qs)
+  reported-append kind i rs qs = kept-append (m .amounts) (m .ofResult) (reports kind i) rs qs
 
   -- ---- readings added
 

@@ -1,19 +1,21 @@
 -- The values that a run of readings brings to one meter, in order, with their number, sum and last: what a meter is to hold. A run of
--- readings behind another brings its values behind the other's, and number and sum do not mind the order. Each law goes by the list or by
--- the permutation. Assumes nothing.
+-- readings behind another brings its values behind the other's, and number and sum do not mind the order. Sums are amounts that add up;
+-- the other laws go by the list. Assumes nothing.
 use Prim.Native.Nat.{ℕ, _+_}
-use mathlib.Core.Path.{_≡_, refl, sym, _∙_, ap}
+use mathlib.Core.Path.{_≡_, refl, _∙_, ap}
 use mathlib.Core.Bool.{Bool, true, false, cond, _&&_}
-use mathlib.Core.List.{List, [], _∷_, _++_, map}
+use mathlib.Core.List.{List, [], _∷_, _++_, foldr, map}
 use lib.Dec.{eqb}
-use lib.IntN.{ℤ, pos, _+ℤ_, +ℤ-idl, +ℤ-assoc, +ℤ-comm}
+use lib.IntN.{ℤ, pos, _+ℤ_, +ℤ-idr, +ℤ-assoc, +ℤ-comm}
 use lib.ListN.{length, length-append}
 use Rattle.settings.specs.declared.Settings.{Settings}
 use Rattle.store.specs.declared.Reading.{Reading}
 use Rattle.store.specs.Lists.{keep}
 use Rattle.store.specs.Order.{Placed}
-use Rattle.store.specs.Sorted.{Permutation, empty, behind, exchange, chain}
+use Rattle.store.specs.Sorted.{Permutation}
 use Rattle.store.proofs.Choices.{cond-map}
+use Rattle.store.proofs.Amounts.{CommutativeMonoid}
+use Rattle.store.proofs.Amounts as amounts
 use Rattle.store.proofs.Permutations.{length-permuted, keep-permuted, map-permuted}
 use Rattle.operator.specs.Meters.{isCounted}
 
@@ -30,8 +32,7 @@ valuesOf s i [] = []
 valuesOf s i (r ∷ rs) = cond (countsFor s i r) (r .reading .value ∷ valuesOf s i rs) (valuesOf s i rs)
 
 unfoldable pub total : List ℤ → ℤ
-total [] = pos 0
-total (v ∷ vs) = v +ℤ total vs
+total = foldr _+ℤ_ (pos 0)
 
 -- the last of these, or the first argument where there is none
 unfoldable pub lastOr : ℤ → List ℤ → ℤ
@@ -56,10 +57,13 @@ valuesOf-append s i (r ∷ rs) qs =
       | false ↦ valuesOf-append s i rs qs
     ]
 
+-- sums are amounts that add up
+sums : CommutativeMonoid ℤ
+sums = record { none = pos 0; plus = _+ℤ_; plus-none = +ℤ-idr; plus-assoc = +ℤ-assoc; plus-comm = +ℤ-comm }
+
 pub total-append : (vs ws : List ℤ) → total (vs ++ ws) ≡ total vs +ℤ total ws
-unfolding total
-total-append [] ws = sym (+ℤ-idl (total ws))
-total-append (v ∷ vs) ws = ap (λ (z : ℤ). v +ℤ z) (total-append vs ws) ∙ sym (+ℤ-assoc v (total vs) (total ws))
+unfolding total sums
+total-append vs ws = amounts.total-append sums (λ v. v) vs ws
 
 pub countOf-append : (s : Settings) (i : ℕ) (rs qs : List Placed) → countOf s i (rs ++ qs) ≡ countOf s i rs + countOf s i qs
 unfolding countOf
@@ -95,12 +99,8 @@ valuesOf-permuted s i {rs} {qs} p =
     rw (values-kept s i rs, values-kept s i qs) (map-permuted (λ (r : Placed). r .reading .value) (keep-permuted (countsFor s i) p))
 
 total-permuted : {vs ws : List ℤ} → Permutation vs ws → total vs ≡ total ws
-unfolding total
-total-permuted empty = refl
-total-permuted (behind v p) = ap (λ (z : ℤ). v +ℤ z) (total-permuted p)
-total-permuted (exchange v w vs) =
-    sym (+ℤ-assoc v w (total vs)) ∙ ap (λ (z : ℤ). z +ℤ total vs) (+ℤ-comm v w) ∙ +ℤ-assoc w v (total vs)
-total-permuted (chain p q) = total-permuted p ∙ total-permuted q
+unfolding total sums
+total-permuted p = amounts.total-permuted sums (λ v. v) p
 
 pub countOf-permuted : (s : Settings) (i : ℕ) {rs qs : List Placed} → Permutation rs qs → countOf s i rs ≡ countOf s i qs
 unfolding countOf

@@ -1,8 +1,11 @@
 -- Amounts that add up, and what the elements of a list bring together: it adds up along the list and does not mind the order. Which
 -- amounts, and what an element brings, is left open. Assumes nothing.
 use mathlib.Core.Path.{_≡_, refl, sym, _∙_, ap}
+use mathlib.Core.Bool.{Bool}
 use mathlib.Core.List.{List, [], _∷_, _++_, foldr}
+use Rattle.store.specs.Lists.{keep}
 use Rattle.store.specs.Sorted.{Permutation, empty, behind, exchange, chain}
+use Rattle.store.proofs.Keeping.{keep-append}
 
 -- amounts with a sum, in any order and grouping, and an amount that adds nothing
 pub record CommutativeMonoid (M : Type 0) : Type 0 where
@@ -25,6 +28,11 @@ module _ {M : Type 0} (m : CommutativeMonoid M) where
     total-append [] ys = sym (none-plus (totalOf ys))
     total-append (x ∷ xs) ys =
         ap (m .plus (brings x)) (total-append xs ys) ∙ sym (m .plus-assoc (brings x) (totalOf xs) (totalOf ys))
+
+    pub kept-append :
+        (test : A → Bool) (xs ys : List A) →
+        totalOf (keep test (xs ++ ys)) ≡ m .plus (totalOf (keep test xs)) (totalOf (keep test ys))
+    kept-append test xs ys = ap totalOf (keep-append test xs ys) ∙ total-append (keep test xs) (keep test ys)
 
     pub total-permuted : {xs ys : List A} → Permutation xs ys → totalOf xs ≡ totalOf ys
     total-permuted empty = refl

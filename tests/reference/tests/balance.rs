@@ -21,6 +21,13 @@ fn heat(count: u64, sum: i128) -> Heat {
     Heat { count, sum }
 }
 
+/// The meter's balance in a run that was tampered with, which must not hold.
+fn upset(run: &Run) -> Balance {
+    let balance = Balance::of(run, METER);
+    assert!(!balance.holds(), "{balance}");
+    balance
+}
+
 #[test]
 fn stored_journal_has_its_balance() {
     assert_eq!(due_balance(JOURNAL).unwrap(), BALANCE);
@@ -49,9 +56,7 @@ fn stored_journal_balances_on_the_way() {
 fn operator_is_not_the_checkpoint() {
     let mut run = played();
     run.state.checkpoint = run.state.operator.clone();
-    let balance = Balance::of(&run, METER);
-    assert_eq!(balance.open, heat(1, 9));
-    assert!(!balance.holds());
+    assert_eq!(upset(&run).open, heat(1, 9));
 }
 
 #[test]
@@ -62,9 +67,7 @@ fn tentative_readings_kept_do_not_count() {
             reading.kind = STABLE;
         }
     }
-    let balance = Balance::of(&run, METER);
-    assert_eq!(balance.kept, heat(3, 569));
-    assert!(!balance.holds());
+    assert_eq!(upset(&run).kept, heat(3, 569));
 }
 
 /// The journal's stable readings, whether accepted or not.
@@ -74,9 +77,7 @@ fn refused_readings_do_not_count() {
     let lines = JOURNAL.split_inclusive(|&byte| byte == b'\n');
     let calls = lines.filter_map(read_call);
     run.watch.stable = calls.filter(|call| call.kind == STABLE).collect();
-    let balance = Balance::of(&run, METER);
-    assert_eq!(balance.sent, heat(6, 905));
-    assert!(!balance.holds());
+    assert_eq!(upset(&run).sent, heat(6, 905));
 }
 
 /// Accepted above high and below low; the latter is kept.
@@ -84,14 +85,10 @@ fn refused_readings_do_not_count() {
 fn readings_outside_the_limits_do_not_count() {
     let mut run = played();
     run.watch.settings.high = i32::MAX;
-    let balance = Balance::of(&run, METER);
-    assert_eq!(balance.sent, heat(6, 1_606));
-    assert!(!balance.holds());
+    assert_eq!(upset(&run).sent, heat(6, 1_606));
     let mut run = played();
     run.state.settings.low = i32::MIN;
-    let balance = Balance::of(&run, METER);
-    assert_eq!(balance.kept, heat(3, -441));
-    assert!(!balance.holds());
+    assert_eq!(upset(&run).kept, heat(3, -441));
 }
 
 #[test]
