@@ -116,7 +116,8 @@ static const struct {
     LACKS("only 0A", "\n"),
     LACKS("only NUL", "\0"),
     LACKS("a settings line",
-          "lines=2 bucket=100 window=1 hold=50 low=-1000 high=1000\n"),
+          "lines=2 bucket=100 window=1 hold=50 low=-1000 high=1000 "
+          "displays=1\n"),
     LACKS("no 0A", "now=0 line=1 kind=S id=1 time=9 meter=3 value=7"),
     LACKS("longest, no 0A",
           "now=4294967295 line=255 kind=S id=4294967295 time=4294967295 "

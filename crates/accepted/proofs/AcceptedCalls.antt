@@ -11,7 +11,7 @@ use lib.ListN.{length, getD, set, length-take}
 use Rattle.area.specs.Laid.{inFront}
 use Rattle.clock.specs.declared.ArrivalTick.{ArrivalTick}
 use Rattle.settings.specs.declared.Settings.{Settings}
-use Rattle.settings.specs.Limits.{maxLines}
+use Rattle.settings.specs.Limits.{maxLines, maxDisplays}
 use Rattle.journal.specs.declared.Call.{Call}
 use Rattle.journal.specs.declared.CallRead.{CallRead}
 use Rattle.journal.specs.declared.CallRead.the-variants as CallRead
@@ -24,32 +24,35 @@ use Rattle.store.proofs.Pairs.{every-index}
 use Rattle.store.proofs.Columns.{length-rowsFrom, take-rows}
 use Rattle.columns.specs.Shape.{rises}
 use Rattle.shares.proofs.Rows.{ids-share}
+use Rattle.retransmission.specs.Places.{placesOf, withPlaces, holding}
+use Rattle.retransmission.proofs.Stores.{with-same}
 use Rattle.protocol.specs.Kinds.{Kind, kindOf, uses, isStep}
 use Rattle.protocol.specs.Node.{Line, Node, noLine, onLine}
+use Rattle.protocol.specs.declared.Rule.{Rule}
 use Rattle.protocol.specs.Rules.{Outcome, ruleOf, act}
-use Rattle.protocol.specs.Refusals.{firstFailed, lineOf, wrongLine, isFull, callTests, lineTests, testsOf, answerTo}
+use Rattle.protocol.specs.Refusals.{firstFailed, lineOf, wrongLine, isFull, answerTo}
 use Rattle.protocol.specs.Calls.{input, done, accepted}
-use Rattle.protocol.proofs.Passed.{none-failed}
+use Rattle.protocol.proofs.Passed as passes
 use Rattle.protocol.proofs.Faults.{line-iff}
 use Rattle.protocol.proofs.Acceptance.{accepted-is-done}
 use Rattle.node.specs.declared.LineHead.{LineHead}
 use Rattle.node.specs.declared.State.{State}
-use Rattle.node.specs.View.{viewLine, places, view, headOf, putState, putColumns}
-use Rattle.node.specs.Calls.{Called, hostTests, calledWith}
+use Rattle.node.specs.View.{Lent, lentOf, viewLine, places, view, headOf, putState, putColumns}
+use Rattle.node.specs.Calls.{Called, hostTests, putLent, calledWith}
 use Rattle.node.proofs.Limits.{limits-hold}
 use Rattle.node.proofs.Shares.{SmallLine}
 use Rattle.node.proofs.View.{Fits, view-sized}
-use Rattle.node.proofs.Shape.{Rising, KeptShape, inShape-facts}
-use Rattle.node.proofs.Outcomes.{not-full, onLine-small}
+use Rattle.node.proofs.Shape.{Rising, KeptShape, StateShape, state-facts, state-in-shape}
+use Rattle.node.proofs.Outcomes.{onLine-small}
 use Rattle.node.proofs.Calls.{HostPassed, host-passed}
-use Rattle.node.proofs.AfterCalls.{shape-fits}
 use Rattle.node.proofs.OneLine.{line-of, head-small, heads-line, putColumns-line}
+use Rattle.corrections.specs.Acted.{Acted}
+use Rattle.corrections.proofs.LinesStay.{Kept, fits, acknowledged-stay}
 
 -- ---- step or input
 
 line-passed : (s : Settings) (n : Node) (k : Call) → answerTo s n k ≡ 0 → wrongLine s (kindOf (k .kind)) (k .line) ≡ false
-unfolding answerTo testsOf callTests lineTests
-line-passed s n k e = none-failed (testsOf s n k (kindOf (k .kind))) (omega arith) e .1 .0
+line-passed s n k e = passes.passed s n k e .line
 
 module _ (s : Settings) (n : Node) (k : Call) where
   not-none : not (leb 1 (k .line) && leb (k .line) (s .lines)) ≡ false → k .line ≡ 0 → ⊥
@@ -92,33 +95,67 @@ atTick st now =
       c = st .c;
       p = st .p;
       phase = st .phase;
+      acknowledged = st .acknowledged;
+    }
+
+-- the state with this head at place i
+abbrev pub withHead : State → ℕ → LineHead → State
+withHead st i head =
+    record {
+      operator = st .operator;
+      checkpoint = st .checkpoint;
+      heads = set (st .heads) i head;
+      settings = st .settings;
+      clock = st .clock;
+      c = st .c;
+      p = st .p;
+      phase = st .phase;
+      acknowledged = st .acknowledged;
     }
 
 -- an outcome laid down, and the clock set
-abbrev laidAt : State → Columns → List ℕ → ArrivalTick → Outcome → Called
+abbrev laidAt : State → Lent → List ℕ → ArrivalTick → Outcome → Called
 laidAt st x area now o =
     record {
       answer = 0;
       records = length (o .records);
       state = atTick (putState st (o .node)) now;
-      columns = putColumns st x (o .node);
+      lent = putLent st x o;
       area = inFront (allBytes (o .records)) area;
     }
 
-module _ (st : State) (x : Columns) (area : List ℕ) (k : Call) (ok : answerTo (st .settings) (view st x) k ≡ 0) where
-  called-laid : (o : Outcome) → done (st .settings) (view st x) k (kindOf (k .kind)) ≡ o → calledWith st x area (CallRead.Accepted k) ≡ laidAt st x area (k .now) o
-  unfolding calledWith accepted putState putColumns
-  called-laid o e =
-      rw (eq-eqb (answerTo (st .settings) (view st x) k) 0 ok, accepted-is-done (st .settings) (view st x) k ok, e)
+module _ (st : State) (x : Lent) (area : List ℕ) (k : Call) (ok : answerTo (st .settings) (view st (x .readings)) k ≡ 0) where
+  abbrev node : Node
+  node = view st (x .readings)
 
-  abbrev stepped : Outcome
-  stepped = act (st .settings) (view st x) (ruleOf (st .settings) (view st x) (k .now))
+  called-laid :
+      (o : Outcome) → done (st .settings) node k (kindOf (k .kind)) ≡ o →
+      calledWith st x area (CallRead.Accepted k) ≡ laidAt st x area (k .now) o
+  unfolding calledWith accepted putState putColumns putLent
+  called-laid o e = rw (eq-eqb (answerTo (st .settings) node k) 0 ok, accepted-is-done (st .settings) node k ok, e)
 
-  -- what the function of a step ensures is what the call leaves
-  pub step-laid : k .line ≡ 0 → {next : State} {n : ℕ} {y : Columns} {bytes : List ℕ} → next ≡ putState st (stepped .node) → n ≡ length (stepped .records) → y ≡ putColumns st x (stepped .node) → bytes ≡ inFront (allBytes (stepped .records)) area → record { answer = 0; records = n; state = atTick next (k .now); columns = y; area = bytes } ≡ calledWith st x area (CallRead.Accepted k)
-  step-laid z e f g h =
-      (λ t. record { answer = 0; records = f t; state = atTick (e t) (k .now); columns = g t; area = h t }) ∙
-      sym (called-laid stepped (step-done (st .settings) (view st x) k (kindOf (k .kind)) (line-passed (st .settings) (view st x) k ok) z))
+  abbrev rule : Rule
+  rule = ruleOf (st .settings) node (k .now)
+
+  -- what the functions of a step and of the results held ensure is what the call leaves
+  pub step-laid :
+      k .line ≡ 0 → {next : State} {n : ℕ} {y : Columns} {sent bytes : List ℕ} → Acted rule st (x .readings) area next y bytes n →
+      sent ≡ withPlaces (x .sent) (holding (placesOf (x .sent)) (act (st .settings) node rule .records)) →
+      record { answer = 0; records = n; state = atTick next (k .now); lent = lentOf y sent; area = bytes } ≡
+      calledWith st x area (CallRead.Accepted k)
+  unfolding putLent
+  step-laid z acted held =
+      (λ t.
+      record {
+        answer = 0;
+        records = acted .count t;
+        state = atTick (acted .state t) (k .now);
+        lent = lentOf (acted .columns t) (held t);
+        area = acted .bytes t;
+      }) ∙
+      sym
+      (called-laid (act (st .settings) node rule)
+      (step-done (st .settings) node k (kindOf (k .kind)) (line-passed (st .settings) node k ok) z))
 
 -- ---- an input
 
@@ -140,7 +177,18 @@ InputReady head x base k =
     (isFull (lineFrom head x base) (kindOf (k .kind)) ≡ false) ×
     (rises (share base (head .kept) (x .ids)) ≡ true)
 
-module _ (st : State) (x : Columns) (area : List ℕ) (k : Call) (ok : answerTo (st .settings) (view st x) k ≡ 0) (host : firstFailed (hostTests st x area) ≡ 0) (named : k .line ≡ 0 → ⊥) where
+module _
+    (st : State) (lent : Lent) (area : List ℕ) (k : Call) (ok : answerTo (st .settings) (view st (lent .readings)) k ≡ 0)
+    (host : firstFailed (hostTests st lent area) ≡ 0) (named : k .line ≡ 0 → ⊥) where
+  abbrev x : Columns
+  x = lent .readings
+
+  passed : HostPassed st lent area
+  passed = host-passed st lent area host
+
+  shape : StateShape st x
+  shape = state-facts st x (state-in-shape st lent (passed .shape))
+
   on-line : InputOn (st .settings) (view st x) k (kindOf (k .kind))
   on-line = input-done (st .settings) (view st x) k (kindOf (k .kind)) (line-passed (st .settings) (view st x) k ok) named
 
@@ -150,7 +198,7 @@ module _ (st : State) (x : Columns) (area : List ℕ) (k : Call) (ok : answerTo 
 
   pub line-below : k .line - 1 < 8
   line-below =
-      omega (arith, line-last, limits-hold (st .settings) (inShape-facts st x (host-passed st x area host .shape) .limits) .lines)
+      omega (arith, line-last, limits-hold (st .settings) (shape .limits) .lines)
 
   abbrev head : LineHead
   head = getD (st .heads) (k .line - 1) (headOf noLine)
@@ -158,11 +206,12 @@ module _ (st : State) (x : Columns) (area : List ℕ) (k : Call) (ok : answerTo 
   abbrev base : ℕ
   base = (k .line - 1) * readingsPerLine
 
-  module _ (eight : length (st .heads) ≡ maxLines) where
+  module _ (heads : length (st .heads) ≡ maxLines) (displays : length (st .acknowledged) ≡ maxDisplays) where
+    kept : Kept st x
+    kept = record { heads = heads; displays = displays; room = passed .room; shape = state-in-shape st lent (passed .shape) }
+
     fitted : Fits st x
-    fitted =
-        let h : HostPassed st x area = host-passed st x area host in
-        shape-fits st x eight (h .room) (h .shape)
+    fitted = fits st x kept
 
     same-line : lineOf (view st x) k ≡ lineFrom head x base
     unfolding lineOf
@@ -170,24 +219,36 @@ module _ (st : State) (x : Columns) (area : List ℕ) (k : Call) (ok : answerTo 
 
     -- it has a place for the reading
     free : isFull (lineFrom head x base) (kindOf (k .kind)) ≡ false
-    free = rw same-line at (not-full (st .settings) (view st x) k ok)
+    free = rw same-line at (passes.passed (st .settings) (view st x) k ok .room)
 
     pub input-ready : InputReady head x base k
     unfolding places viewLine lineOf
     input-ready =
         let small : head .kept ≤ readingsPerLine = head-small st x fitted (k .line - 1) line-last in
-        let below : k .line - 1 < length (view st x .lines) = omega (arith, line-last, view-sized st x (fitted .heads) .lines) in
-        let shape : KeptShape (lineOf (view st x) k) = every-index KeptShape (view st x .lines) (k .line - 1) noLine below (inShape-facts st x (host-passed st x area host .shape) .lines) in
+        let below : k .line - 1 < length (view st x .lines) = omega (arith, line-last, view-sized st x (fitted .heads) (fitted .displays) .lines) in
+        let line : KeptShape (lineOf (view st x) k) = every-index KeptShape (view st x .lines) (k .line - 1) noLine below (shape .lines) in
         let wide : base + readingsPerLine ≤ storeLength x = omega (arith, line-last, fitted .room) in
         let kept : lineOf (view st x) k .kept ≡ rowsFrom x base (head .kept) = ap (λ (l : Line). l .kept) same-line ∙ take-rows x base readingsPerLine (head .kept) small in
-        let ids : rises (map (λ (r : Reading). r .id) (rowsFrom x base (head .kept))) ≡ true = rw kept at (rising-ids (lineOf (view st x) k .kept) (shape .rising)) in
+        let ids : rises (map (λ (r : Reading). r .id) (rowsFrom x base (head .kept))) ≡ true = rw kept at (rising-ids (lineOf (view st x) k .kept) (line .rising)) in
         (wide, small, free, rw (ids-share x base (head .kept) (omega arith)) at ids)
 
-    -- what the function of an input ensures of line and share is what the call leaves
-    pub input-laid : {after : LineHead} {y : Columns} → after ≡ headOf (onLine k (kindOf (k .kind)) (lineFrom head x base)) → y ≡ withKept x base (head .kept) (onLine k (kindOf (k .kind)) (lineFrom head x base) .kept) → record { answer = 0; records = 0; state = record { operator = st .operator; checkpoint = st .checkpoint; heads = set (st .heads) (k .line - 1) after; settings = st .settings; clock = k .now; c = st .c; p = st .p; phase = st .phase }; columns = y; area = area } ≡ calledWith st x area (CallRead.Accepted k)
-    unfolding input putState allBytes inFront view viewLine
+    -- what the function of an input ensures of line and share is what the call leaves; it gives no record, so the send-back store stays
+    pub input-laid :
+        {after : LineHead} {y : Columns} → after ≡ headOf (onLine k (kindOf (k .kind)) (lineFrom head x base)) →
+        y ≡ withKept x base (head .kept) (onLine k (kindOf (k .kind)) (lineFrom head x base) .kept) →
+        record { answer = 0; records = 0; state = atTick (withHead st (k .line - 1) after) (k .now); lent = lentOf y (lent .sent); area = area } ≡
+        calledWith st lent area (CallRead.Accepted k)
+    unfolding input putState putLent allBytes inFront view viewLine holding
     input-laid e f =
         let kind : Kind = kindOf (k .kind) in
-        let small : SmallLine (onLine k kind (lineFrom head x base)) = onLine-small k kind (lineFrom head x base) free (omega (arith, length-take (head .kept) (rowsFrom x base readingsPerLine), length-rowsFrom x base readingsPerLine)) in
-        rw (e, f, ← heads-line st x fitted (k .line - 1) line-last (onLine k kind), ← putColumns-line st x fitted (k .line - 1) line-last (onLine k kind) (input (view st x) k kind .node) refl small)
-        (sym (called-laid st x area k ok (input (view st x) k kind) (on-line .1)))
+        let small : SmallLine (onLine k kind (lineFrom head x base)) =
+        onLine-small k kind (lineFrom head x base) free
+        (omega (arith, length-take (head .kept) (rowsFrom x base readingsPerLine), length-rowsFrom x base readingsPerLine)) in
+        rw (
+          e,
+          f,
+          ← heads-line st x fitted (k .line - 1) line-last (onLine k kind),
+          ← putColumns-line st x fitted (k .line - 1) line-last (onLine k kind) (input (view st x) k kind .node) refl small,
+        )
+        (rw (with-same (lent .sent) (passed .sent), acknowledged-stay st x kept) at
+        (sym (called-laid st lent area k ok (input (view st x) k kind) (on-line .1))))

@@ -1,2 +1,3 @@
 -- Laws on an accepted call.
+pub mod Held
 pub mod AcceptedCalls

@@ -1,18 +1,62 @@
 // What an accepted call does: a step, or an input on the line that it names.
 ghost use mathlib.Core.Path.{_≡_};
 ghost use Rattle.journal.specs.declared.CallRead.the-variants as Read;
-ghost use Rattle.store.specs.Columns.{columnsOf};
+ghost use Rattle.store.specs.Columns.{Columns, columnsOf};
+ghost use Rattle.retransmission.specs.Places.{placesOf, withPlaces, holding};
+ghost use Rattle.protocol.specs.Rules.{ruleOf, act};
 ghost use Rattle.protocol.specs.Refusals.{firstFailed, answerTo};
-ghost use Rattle.node.specs.View.{view};
+ghost use Rattle.node.specs.View.{Lent, lentOf, view};
 ghost use Rattle.node.specs.Calls.{hostTests, calledWith};
+ghost use Rattle.corrections.specs.Acted.{Acted};
+use clock::ArrivalTick;
+use corrections::Stepped;
 use journal::Call;
+use node::CallReply;
 use node::State;
 
-// What a call answers; the records stand in the output area.
-pub struct CallReply {
-    pub state: State,
-    pub records: u32,
-    pub answer: u32,
+// Does a step, and lays the stable results that it gives at their places in the send-back store.
+fn step_and_hold(
+    state: State,
+    ids: &mut [u32],
+    times: &mut [u32],
+    values: &mut [i32],
+    arrivals: &mut [u32],
+    kinds: &mut [u8],
+    meters: &mut [u8],
+    sent: &mut [u8],
+    tick: ArrivalTick,
+    area: &mut [u8],
+) -> Stepped
+    requires { ⌜ (let x : Columns = columnsOf (now ids) (now times) (now values) (now arrivals) (now kinds) (now meters) in
+        firstFailed (hostTests state (lentOf x (now sent)) (now area)) ≡ 0) ⌝ }
+    ensures { λ r. ⌜ (let x : Columns = columnsOf (now (ids .entry)) (now (times .entry)) (now (values .entry)) (now (arrivals .entry))
+        (now (kinds .entry)) (now (meters .entry)) in
+        let x′ : Columns = columnsOf (now (ids .exit)) (now (times .exit)) (now (values .exit)) (now (arrivals .exit))
+        (now (kinds .exit)) (now (meters .exit)) in
+        Acted (ruleOf (state .settings) (view state x) tick) state x (now (area .entry)) (r .state) x′ (now (area .exit)) (r .records)) ⌝ }
+    ensures { λ _. ⌜ (let x : Columns = columnsOf (now (ids .entry)) (now (times .entry)) (now (values .entry)) (now (arrivals .entry))
+        (now (kinds .entry)) (now (meters .entry)) in
+        now (sent .exit) ≡
+        withPlaces (now (sent .entry))
+        (holding (placesOf (now (sent .entry)))
+        (act (state .settings) (view state x) (ruleOf (state .settings) (view state x) tick) .records))) ⌝ }
+{
+    let old = state.checkpoint;
+    let done = steps::step(
+        state,
+        ids,
+        times,
+        values,
+        arrivals,
+        kinds,
+        meters,
+        tick,
+        area,
+    );
+    let new = done.state.checkpoint;
+    let results = (new.number - old.number) as usize;
+    retransmission::hold(sent, old.number, area, results);
+    done
 }
 
 // Does what an accepted call asks, and sets the clock.
@@ -24,15 +68,22 @@ pub fn accept(
     arrivals: &mut [u32],
     kinds: &mut [u8],
     meters: &mut [u8],
+    sent: &mut [u8],
     area: &mut [u8],
     k: Call,
 ) -> CallReply
-    requires { ⌜ (firstFailed (hostTests state (columnsOf (now ids) (now times) (now values) (now arrivals) (now kinds) (now meters)) (now area)) ≡ 0) × (answerTo (state .settings) (view state (columnsOf (now ids) (now times) (now values) (now arrivals) (now kinds) (now meters))) k ≡ 0) ⌝ }
-    ensures { λ r. ⌜ record { answer = r .answer; records = r .records; state = r .state; columns = columnsOf (now (ids .exit)) (now (times .exit)) (now (values .exit)) (now (arrivals .exit)) (now (kinds .exit)) (now (meters .exit)); area = now (area .exit) } ≡ calledWith state (columnsOf (now (ids .entry)) (now (times .entry)) (now (values .entry)) (now (arrivals .entry)) (now (kinds .entry)) (now (meters .entry))) (now (area .entry)) (Read.Accepted k) ⌝ }
+    requires { ⌜ (let x : Columns = columnsOf (now ids) (now times) (now values) (now arrivals) (now kinds) (now meters) in
+        (firstFailed (hostTests state (lentOf x (now sent)) (now area)) ≡ 0) × (answerTo (state .settings) (view state x) k ≡ 0)) ⌝ }
+    ensures { λ r. ⌜ (let x : Lent = lentOf (columnsOf (now (ids .entry)) (now (times .entry)) (now (values .entry)) (now (arrivals .entry))
+        (now (kinds .entry)) (now (meters .entry))) (now (sent .entry)) in
+        let x′ : Lent = lentOf (columnsOf (now (ids .exit)) (now (times .exit)) (now (values .exit)) (now (arrivals .exit))
+        (now (kinds .exit)) (now (meters .exit))) (now (sent .exit)) in
+        record { answer = r .answer; records = r .records; state = r .state; lent = x′; area = now (area .exit) } ≡
+        calledWith state x (now (area .entry)) (Read.Accepted k)) ⌝ }
 {
     let now = k.now;
     if k.line == 0 {
-        let done = steps::step(
+        let done = step_and_hold(
             state,
             ids,
             times,
@@ -40,6 +91,7 @@ pub fn accept(
             arrivals,
             kinds,
             meters,
+            sent,
             now,
             area,
         );

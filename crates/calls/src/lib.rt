@@ -1,9 +1,10 @@
-// The box's entry point for a journal line. Whatever state, store, text and area come, it answers.
+// The box's entry point for a journal line. Whatever state, stores, text and area come, it answers.
 ghost use mathlib.Core.Path.{_≡_};
 ghost use Rattle.store.specs.Columns.{columnsOf};
+ghost use Rattle.node.specs.View.{Lent, lentOf};
 ghost use Rattle.node.specs.Calls.{calledOn};
-use accepted::CallReply;
 use judging::Judged;
+use node::CallReply;
 use node::State;
 
 // What a refused call gives.
@@ -31,11 +32,18 @@ pub fn call(
     arrivals: &mut [u32],
     kinds: &mut [u8],
     meters: &mut [u8],
+    sent: &mut [u8],
     text: &[u8],
     area: &mut [u8],
 ) -> CallReply
-    ensures { λ r. ⌜ record { answer = r .answer; records = r .records; state = r .state; columns = columnsOf (now (ids .exit)) (now (times .exit)) (now (values .exit)) (now (arrivals .exit)) (now (kinds .exit)) (now (meters .exit)); area = now (area .exit) } ≡ calledOn state (columnsOf (now (ids .entry)) (now (times .entry)) (now (values .entry)) (now (arrivals .entry)) (now (kinds .entry)) (now (meters .entry))) (now (text .entry)) (now (area .entry)) ⌝ }
+    ensures { λ r. ⌜ (let x : Lent = lentOf (columnsOf (now (ids .entry)) (now (times .entry)) (now (values .entry)) (now (arrivals .entry))
+        (now (kinds .entry)) (now (meters .entry))) (now (sent .entry)) in
+        let x′ : Lent = lentOf (columnsOf (now (ids .exit)) (now (times .exit)) (now (values .exit)) (now (arrivals .exit))
+        (now (kinds .exit)) (now (meters .exit))) (now (sent .exit)) in
+        record { answer = r .answer; records = r .records; state = r .state; lent = x′; area = now (area .exit) } ≡
+        calledOn state x (now (text .entry)) (now (area .entry))) ⌝ }
 {
+    let read = journal::read_call(text);
     let judged = judging::judge(
         state,
         ids,
@@ -44,7 +52,8 @@ pub fn call(
         arrivals,
         kinds,
         meters,
-        text,
+        sent,
+        read,
         area.len(),
     );
     match judged {
@@ -57,6 +66,7 @@ pub fn call(
             arrivals,
             kinds,
             meters,
+            sent,
             area,
             k,
         ),

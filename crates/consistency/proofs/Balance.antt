@@ -1,4 +1,4 @@
--- Document 02, W11: the theorem. The node balances by any measure of readings, so by heat; carried to bytes, states and columns.
+-- Document 02, W11: the theorem. The node balances by any measure of readings, so by heat; carried to bytes, states and stores.
 -- Assumes nothing.
 use Prim.Native.Nat.{ℕ, _<_}
 use mathlib.Core.Path.{_≡_, sym, _∙_, ap, ap₂}
@@ -57,7 +57,7 @@ module _ (h : Handed) (e : isOpened h) (is : List Input) (i : ℕ) where
   abbrev b : Box
   b = leftAfter (boxOf h) is
 
-  stands : Stands s (b .state) (b .columns) (t .node)
+  stands : Stands s (b .state) (b .lent) (t .node)
   unfolding start
   stands = runs s is (start s) (boxOf h) (box-stands h e) .stands
 
@@ -74,7 +74,7 @@ module _ (h : Handed) (e : isOpened h) (is : List Input) (i : ℕ) where
   kept : keptHeat s b i ≡ brought heatMeasure s i (keep isStableReading (flatten (keptOf (t .node .lines))))
   unfolding keptHeat keptStables
   kept =
-      let ls : List Line = view (b .state) (b .columns) .lines in
+      let ls : List Line = view (b .state) (b .lent .readings) .lines in
       readings-heat s i _ ∙
       ap (brought heatMeasure s i)
       (keep-same _ isStableReading (flatten (keptOf ls)) (kept-letters ls (kept-shaped h e is)) ∙

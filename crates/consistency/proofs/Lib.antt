@@ -1,8 +1,12 @@
--- Laws that lead from demand 3 on the node's meaning to demand 3 on texts, areas, states and columns.
-pub mod Pieces
+-- Laws that lead from demand 3 on the node's meaning to demand 3 on texts, areas, states and stores, and to the theorems beside it.
 pub mod Undos
 pub mod Refused
+pub mod Displays
 pub mod Runs
+pub mod Opened
+pub mod SentStore
+pub mod SentShape
+pub mod SentAnswers
 pub mod ShapedTests
 pub mod ShapedWork
 pub mod ShapedLines
@@ -11,9 +15,13 @@ pub mod ShapedRuns
 pub mod Plain
 pub mod Stated
 pub mod PlainExactly
-pub mod Opened
 pub mod Heats
 pub mod PlainBalance
+pub mod PlainDisplays
+pub mod PlainBytes
+pub mod PlainAnswers
+pub mod PlainSentBack
 pub mod Theorem
 pub mod Exactly
 pub mod Balance
+pub mod SentBack

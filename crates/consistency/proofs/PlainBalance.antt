@@ -18,14 +18,11 @@ use Rattle.journal.specs.declared.CallRead.the-variants as CallRead
 use Rattle.journal.specs.ReadLine.{callOf}
 use Rattle.journal.specs.Kinds.{letterS}
 use Rattle.record.specs.declared.Record.{Record}
-use Rattle.record.specs.declared.Decoded.the-variants as Decoded
 use Rattle.record.specs.Layout.{bytesOf}
 use Rattle.record.specs.Fields.{fieldsOf}
-use Rattle.record.specs.Decoded.{isWellFormed, decoded}
 use Rattle.store.specs.declared.Reading.{Reading}
 use Rattle.store.specs.Lists.{keep, modify, Every}
 use Rattle.store.specs.Sorted.{Permutation, chain}
-use Rattle.store.specs.Columns.{Columns}
 use Rattle.store.proofs.Choices.{cond-either}
 use Rattle.store.proofs.Permutations.{append-permuted, permutation-between, permutation-back}
 use Rattle.store.proofs.Keeping.{keep-append}
@@ -39,21 +36,25 @@ use Rattle.protocol.proofs.Letters.{S-kind}
 use Rattle.protocol.proofs.Places.{length-modify}
 use Rattle.protocol.proofs.Acceptance.{accepts-S}
 use Rattle.node.specs.declared.State.{State}
-use Rattle.node.specs.View.{view}
+use Rattle.node.specs.View.{Lent, view}
 use Rattle.node.specs.Calls.{Called, calledOn}
+use Rattle.node.specs.Displays.{acknowledgedOn, fetchedOn}
 use Rattle.node.proofs.Calls.{accepted-call}
 use Rattle.node.proofs.Records.{Decodes}
 use Rattle.node.proofs.AfterCalls.{called-settings}
+use Rattle.node.proofs.Displays.{fetch-leaves}
 use Rattle.consistency.specs.Runs.{Box, Input, leftAfter}
 use Rattle.consistency.specs.Accounts.{Account}
 use Rattle.consistency.specs.Demand.{Handed, opening, isOpened, boxOf, settingsIn, accountOf}
 use Rattle.consistency.specs.Balance.{Heat, noHeat, plus, ofReading, ofMeter, ofResult}
 use Rattle.consistency.specs.Balance.{sentHeat, paidHeat, openHeat, keptStables, keptHeat, Balance}
-use Rattle.consistency.specs.Plain.{Run, counted, begun, answered, continued, settingsOn, runOf}
+use Rattle.consistency.specs.Plain.{Run, counted, begun, answered, passedOver, continued, settingsOn, runOf}
 use Rattle.consistency.specs.PlainBalance.{valueIf, sentBy, sentValues, valuesAmong, keptValues, sumOf}
 use Rattle.consistency.specs.PlainBalance.{isPaid, paidCount, paidSum, sentOf, keptOn, openOn, PlainBalance}
+use Rattle.consistency.proofs.Displays.{acknowledgement-aside}
 use Rattle.consistency.proofs.Plain.{boxOn, handedOf, opened-left, opened-account, opened-bytes}
 use Rattle.consistency.proofs.Opened.{traceOf, mirrors}
+use Rattle.consistency.proofs.SentShape.{decodes-fields}
 use Rattle.consistency.proofs.Heats.{same-heat, heatMonoid, heatMeasure, readings-heat, paid-reported}
 
 -- ---- heat of values
@@ -92,7 +93,7 @@ no-value s i kind meter value e = rw e
 
 -- ---- a call
 
-module _ (st : State) (x : Columns) (text area : List ℕ) where
+module _ (st : State) (x : Lent) (text area : List ℕ) where
   -- an accepted stable reading is on one of the lines
   on-a-line :
       (k : Call) → callOf text ≡ CallRead.Accepted k → calledOn st x text area .answer ≡ 0 → k .kind ≡ 83 →
@@ -101,7 +102,7 @@ module _ (st : State) (x : Columns) (text area : List ℕ) where
       let v = accepted-call st x text area accepted in
       let same : v .call ≡ k = cc (read, v .read) in
       let kind : kindOf (v .call .kind) ≡ Kind.S = S-kind _ (eq-eqb _ letterS (ap (λ (c : Call). c .kind) same ∙ stable)) in
-      let reaches = accepts-S (st .settings) (view st x) (v .call) kind .0 (v .answered) .0 .reaches in
+      let reaches = accepts-S (st .settings) (view st (x .readings)) (v .call) kind .0 (v .answered) .0 .reaches in
       subst (λ (c : Call). (1 ≤ c .line) × (c .line ≤ st .settings .lines)) same (reaches .firstLine, reaches .lastLine)
 
 lines-stay : (lines : List (List Reading)) (read : CallRead) (accepted : Bool) → length (counted lines read accepted) ≡ length lines
@@ -168,23 +169,31 @@ module _ (s : Settings) (i : ℕ) where
   run-brings :
       (y : Run) (is : List Input) → y .state .settings ≡ s → length (y .stables) ≡ s .lines →
       brought heatMeasure s i (flatten (continued s y is .stables)) ≡
-      plus (brought heatMeasure s i (flatten (y .stables))) (ofValues (sentValues s i (y .state) (y .columns) is))
-  unfolding continued answered sentValues heatMonoid plus
+      plus (brought heatMeasure s i (flatten (y .stables))) (ofValues (sentValues s i (y .state) (y .lent) is))
+  unfolding continued answered passedOver sentValues heatMonoid plus
   run-brings y [] same lines = nothing-more _
   run-brings y (Input.journal text area ∷ is) same lines =
-      let r : Called = calledOn (y .state) (y .columns) text area in
+      let r : Called = calledOn (y .state) (y .lent) text area in
       let z : Run = answered s y (callOf text) r in
       let now : List ℤ = cond (eqb (r .answer) 0) (sentBy s i (callOf text)) [] in
-      let later : List ℤ = sentValues s i (r .state) (r .columns) is in
+      let later : List ℤ = sentValues s i (r .state) (r .lent) is in
       let old : Heat = brought heatMeasure s i (flatten (y .stables)) in
-      run-brings z is (called-settings (y .state) (y .columns) text area ∙ same)
+      run-brings z is (called-settings (y .state) (y .lent) text area ∙ same)
       (lines-stay (y .stables) (callOf text) (eqb (r .answer) 0) ∙ lines) ∙
       ap (λ (h : Heat). plus h (ofValues later))
       (call-brings (y .stables) (callOf text) (eqb (r .answer) 0)
       (λ k read accepted stable.
-      let there = on-a-line (y .state) (y .columns) text area k read (eqb-true _ _ accepted) stable in
+      let there = on-a-line (y .state) (y .lent) text area k read (eqb-true _ _ accepted) stable in
       omega (arith, lines, ap (λ (z : Settings). z .lines) same, there))) ∙
       heatMonoid .plus-assoc old (ofValues now) (ofValues later) ∙ ap (plus old) (sym (values-append now later))
+  run-brings y (Input.acknowledge display id area ∷ is) same lines =
+      let r : Called = acknowledgedOn (y .state) (y .lent) display id area in
+      let settings = ap (λ (z : State). z .settings) (acknowledgement-aside (y .state) (y .lent) display id area .state) in
+      run-brings (passedOver y r) is (settings ∙ same) lines
+  run-brings y (Input.fetch display from area ∷ is) same lines =
+      let r : Called = fetchedOn (y .state) (y .lent) display from area in
+      let settings = ap (λ (z : State). z .settings) (fetch-leaves (y .state) (y .lent) display from area .0) in
+      run-brings (passedOver y r) is (settings ∙ same) lines
 
 -- ---- kept, and paid
 
@@ -219,17 +228,6 @@ module _ (s : Settings) (i : ℕ) where
       brought-append heatMeasure s i (keep stable (l .kept)) (keep stable (flatten (keptOf ls))) ∙
       ap₂ plus (kept-among (l .kept)) (kept-values ls) ∙ sym (values-append (valuesAmong s i (l .kept)) (keptValues s i ls))
 
--- bytes that are read as a record have its fields at their places
-fields-read : (r : Record) → Decodes r → fieldsOf (bytesOf r) ≡ r
-unfolding decoded
-fields-read r e =
-    (elim (isWellFormed (bytesOf r)) as
-    (λ w. cond w (Decoded.Is (fieldsOf (bytesOf r))) Decoded.Malformed ≡ Decoded.Is r → fieldsOf (bytesOf r) ≡ r) [
-      | true ↦ λ q. cc q
-      | false ↦ λ q. cc q
-    ])
-    e
-
 -- what a record pays on top of others
 abbrev paying : ℕ → Heat → Record → Heat
 paying i more r =
@@ -244,7 +242,7 @@ paid-bytes i [] h = refl
 paid-bytes i (r ∷ rs) h =
     let more : Heat = record { count = paidCount i (map bytesOf rs); sum = paidSum i (map bytesOf rs) } in
     on-top (eqb (r .kind) 83 && eqb (r .meter) i) (keep (reports letterS i) rs) more (paid-bytes i rs (h .1)) ∙
-    ap (paying i more) (sym (fields-read r (h .0)))
+    ap (paying i more) (sym (decodes-fields r (h .0)))
   where
     on-top :
         (paid : Bool) (others : List Record) (more : Heat) → totalOf heatMonoid ofResult others ≡ more →
@@ -260,7 +258,7 @@ unfolding flatten
 none-sent zero = refl
 none-sent (suc n) = none-sent n
 
-module _ (st : State) (x : Columns) (text : List ℕ) (is : List Input) (i : ℕ) where
+module _ (st : State) (x : Lent) (text : List ℕ) (is : List Input) (i : ℕ) where
   abbrev h : Handed
   h = handedOf st x text
 
@@ -296,7 +294,7 @@ module _ (st : State) (x : Columns) (text : List ℕ) (is : List Input) (i : ℕ
   unfolding keptHeat keptStables keptOn
   kept-is =
       ap (λ (z : Box). keptHeat s z i) (opened-left st x text is) ∙
-      readings-heat s i (keptStables (boxOn y)) ∙ kept-values s i (view (y .state) (y .columns) .lines)
+      readings-heat s i (keptStables (boxOn y)) ∙ kept-values s i (view (y .state) (y .lent .readings) .lines)
 
   -- the equation in the table's words
   abbrev Equation : Type 0
@@ -329,6 +327,6 @@ plain-balance q =
 pub stated-balance : PlainBalance → Balance
 unfolding isOpened opening settingsIn settingsOn plus ofMeter
 stated-balance p h o is i inside =
-    in-statement-words (h .state) (h .columns) (h .text) is i o
-    (same-heat (omega (arith, p .counts (h .state) (h .columns) (h .text) o is i inside))
-    (p .sums (h .state) (h .columns) (h .text) o is i inside ∙ grouped (h .state) (h .columns) (h .text) is i))
+    in-statement-words (h .state) (h .lent) (h .text) is i o
+    (same-heat (omega (arith, p .counts (h .state) (h .lent) (h .text) o is i inside))
+    (p .sums (h .state) (h .lent) (h .text) o is i inside ∙ grouped (h .state) (h .lent) (h .text) is i))

@@ -14,14 +14,13 @@ use Rattle.signed.proofs.Comparing.{lt-or-le}
 use Rattle.store.specs.declared.Reading.{Reading}
 use Rattle.store.proofs.Choices.{not-both}
 use Rattle.store.specs.Sizes.{readingsPerLine}
-use Rattle.store.specs.Columns.{Columns}
 use Rattle.protocol.specs.declared.Phase.{Phase}
 use Rattle.protocol.specs.declared.Phase.the-variants as Phase
 use Rattle.protocol.specs.Rules.{isCorrecting}
 use Rattle.protocol.specs.StepCount.{stepsNeeded, leastBoundaryOf, bucketsLeft}
 use Rattle.node.specs.declared.LineHead.{LineHead}
 use Rattle.node.specs.declared.State.{State}
-use Rattle.node.specs.View.{viewLine, viewLines, view}
+use Rattle.node.specs.View.{Lent, viewLine, viewLines, view}
 use Rattle.node.proofs.Shape.{PhaseShape, inShape-facts}
 use Rattle.node.proofs.Calls.{accepted-call}
 use Rattle.consistency.specs.Runs.{Box, Input, called, left, leftAfter}
@@ -30,6 +29,7 @@ use Rattle.consistency.specs.Plain.{Run, settingsOn, runOf, onlySteps, a
 use Rattle.consistency.specs.Exactly.{leftIn, stepsFrom, Exactly}
 use Rattle.consistency.specs.PlainExactly.{stepsIn, stateAfter, leastOf, leftBy, PlainExactly}
 use Rattle.consistency.proofs.Refused.{same-box}
+use Rattle.consistency.proofs.Displays.{acknowledgement-aside, fetched-same}
 use Rattle.consistency.proofs.Plain.{boxOn, steps-are, handedOf, opened-left, opened-remaining}
 use Rattle.consistency.proofs.Stated.{steps-count}
 
@@ -60,17 +60,25 @@ shaped-words :
     (k : ℕ) → stepsFrom (b .state) k ≡ stepsIn (b .state .phase) k
 unfolding called stepsFrom
 shaped-words b text area e =
-    let v = accepted-call (b .state) (b .columns) text area e in
-    in-words (b .state .c) (b .state .p) (b .state .phase) (inShape-facts (b .state) (b .columns) (v .host .shape) .buckets .phase)
+    let v = accepted-call (b .state) (b .lent) text area e in
+    in-words (b .state .c) (b .state .p) (b .state .phase) (inShape-facts (b .state) (b .lent) (v .host .shape) .buckets .phase)
 
-same-count : {b : Box} {n : ℕ} {js : List Input} → Steps b n js → (k : ℕ) → (stepsFrom (b .state) k ≤ n) ↔ (stepsIn (b .state .phase) k ≤ n)
-unfolding stepsFrom
+-- either count says the same of n
+abbrev SameCount : State → ℕ → ℕ → Type 0
+SameCount st k n = (stepsFrom st k ≤ n) ↔ (stepsIn (st .phase) k ≤ n)
+
+same-count : {b : Box} {n : ℕ} {js : List Input} → Steps b n js → (k : ℕ) → SameCount (b .state) k n
+unfolding stepsFrom left called
 same-count {b} Steps.rest k = none-in-words (ltb (b .state .c) (b .state .p)) (b .state .phase) k
 same-count {b} (Steps.step {n = n} text area call read kind accepted more) k =
     let same = shaped-words b text area accepted k in
     (λ h. subst (λ (m : ℕ). m ≤ suc n) same h, λ h. subst (λ (m : ℕ). m ≤ suc n) (sym same) h)
 same-count {b} {n} (Steps.refused i wasRefused more) k =
-    subst (λ (z : Box). (stepsFrom (z .state) k ≤ n) ↔ (stepsIn (z .state .phase) k ≤ n)) (same-box b i wasRefused) (same-count more k)
+    subst (λ (z : Box). SameCount (z .state) k n) (same-box b i wasRefused) (same-count more k)
+same-count {b} {n} (Steps.acknowledge display id area more) k =
+    subst (λ (z : State). SameCount z k n) (acknowledgement-aside (b .state) (b .lent) display id area .state) (same-count more k)
+same-count {b} {n} (Steps.fetch display from area more) k =
+    subst (λ (z : Box). SameCount (z .state) k n) (fetched-same b display from area) (same-count more k)
 
 -- ---- too few, and enough
 
@@ -124,26 +132,28 @@ left-by : (b : Box) → leftIn b ≡ leftBy (b .state)
 unfolding leftIn bucketsLeft leftBy view
 left-by b = rw (least-view (b .state .settings .lines) (b .state .heads) _)
 
-state-after : (b : Box) (is : List Input) → leftAfter b is .state ≡ stateAfter (b .state) (b .columns) is
+state-after : (b : Box) (is : List Input) → leftAfter b is .state ≡ stateAfter (b .state) (b .lent) is
 unfolding leftAfter stateAfter left called
 state-after b [] = refl
 state-after b (Input.journal text area ∷ is) = state-after (left b (Input.journal text area)) is
+state-after b (Input.acknowledge display id area ∷ is) = state-after (left b (Input.acknowledge display id area)) is
+state-after b (Input.fetch display from area ∷ is) = state-after (left b (Input.fetch display from area)) is
 
 -- ---- the table
 
 -- from any box on, in the table's words
-module _ (e : Exactly) (st : State) (x : Columns) (heads : length (st .heads) ≡ 8) (js : List Input) (only : onlySteps st x js ≡ true) where
+module _ (e : Exactly) (st : State) (x : Lent) (heads : length (st .heads) ≡ 8) (js : List Input) (only : onlySteps st x js ≡ true) where
   anywhere :
       ((leftBy (stateAfter st x js) ≡ 0) × (isCorrecting (stateAfter st x js .phase) ≡ false)) ↔
       (stepsIn (st .phase) (leftBy st) ≤ acceptedOf st x js)
   anywhere =
-      let b : Box = record { state = st; columns = x } in
+      let b : Box = record { state = st; lent = x } in
       let steps = steps-are st x js only in
       rw (← left-by b, ← (state-after b js), ← (left-by (leftAfter b js)))
       (Iff·trans (e .fromAnyBox b heads js (acceptedOf st x js) steps) (same-count steps (leftIn b)))
 
 -- from an opening on
-module _ (st : State) (x : Columns) (text : List ℕ) (is js : List Input) where
+module _ (st : State) (x : Lent) (text : List ℕ) (is js : List Input) where
   abbrev before : Run
   before = runOf st x text is
 
@@ -154,16 +164,16 @@ module _ (st : State) (x : Columns) (text : List ℕ) (is js : List Input) where
   abbrev OpenedExactly : Type 0
   OpenedExactly =
       ((leftOn (settingsOn st x text) behind ≡ 0) × (isCorrecting (behind .state .phase) ≡ false)) ↔
-      (stepsIn (before .state .phase) (leftOn (settingsOn st x text) before) ≤ acceptedOf (before .state) (before .columns) js)
+      (stepsIn (before .state .phase) (leftOn (settingsOn st x text) before) ≤ acceptedOf (before .state) (before .lent) js)
 
-  opened-exactly : Exactly → isOpened (handedOf st x text) → onlySteps (before .state) (before .columns) js ≡ true → OpenedExactly
+  opened-exactly : Exactly → isOpened (handedOf st x text) → onlySteps (before .state) (before .lent) js ≡ true → OpenedExactly
   opened-exactly e o only =
-      let steps = steps-are (before .state) (before .columns) js only in
+      let steps = steps-are (before .state) (before .lent) js only in
       let b = opened-left st x text is in
       let z = opened-left st x text (is ++ js) in
       let exact =
-      e .settlesExactly (handedOf st x text) o is js (acceptedOf (before .state) (before .columns) js)
-      (subst (λ (b : Box). Steps b (acceptedOf (before .state) (before .columns) js) js) (sym b) steps) in
+      e .settlesExactly (handedOf st x text) o is js (acceptedOf (before .state) (before .lent) js)
+      (subst (λ (b : Box). Steps b (acceptedOf (before .state) (before .lent) js) js) (sym b) steps) in
       Iff·trans (rw (opened-remaining st x text (is ++ js), opened-remaining st x text is, z, b) at exact)
       (same-count steps (leftOn (settingsOn st x text) before))
 
@@ -188,8 +198,8 @@ from-any-box :
 from-any-box p b heads js n steps =
     let count = steps-count steps in
     let exact =
-    both _ _ _ _ (p .tooFewAnywhere (b .state) (b .columns) heads js (count .0))
-    (p .enoughAnywhere (b .state) (b .columns) heads js (count .0)) in
+    both _ _ _ _ (p .tooFewAnywhere (b .state) (b .lent) heads js (count .0))
+    (p .enoughAnywhere (b .state) (b .lent) heads js (count .0)) in
     rw (left-by (leftAfter b js), state-after b js, left-by b)
     (Iff·trans (rw (count .1) at exact) (Iff·symm (same-count steps (leftBy (b .state)))))
 
@@ -200,7 +210,7 @@ from-opening :
 unfolding isOpened opening
 from-opening p h e is js n steps =
     let st = h .state in
-    let x = h .columns in
+    let x = h .lent in
     let text = h .text in
     let run = runOf st x text is in
     let plain : Steps (boxOn run) n js = subst (λ (b : Box). Steps b n js) (opened-left st x text is) steps in
@@ -223,6 +233,6 @@ stated-exactly p =
       fromAnyBox = from-any-box p;
       leftAlike = λ h e is.
           left-by (leftAfter (boxOf h) is) ∙
-          ap (λ (b : Box). leftBy (b .state)) (opened-left (h .state) (h .columns) (h .text) is) ∙
-          p .eitherCount (h .state) (h .columns) (h .text) e is ∙ sym (opened-remaining (h .state) (h .columns) (h .text) is);
+          ap (λ (b : Box). leftBy (b .state)) (opened-left (h .state) (h .lent) (h .text) is) ∙
+          p .eitherCount (h .state) (h .lent) (h .text) e is ∙ sym (opened-remaining (h .state) (h .lent) (h .text) is);
     }

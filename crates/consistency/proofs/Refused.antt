@@ -1,16 +1,23 @@
--- A call that is refused leaves box and area as they were and gives no record: by the node's law on refused calls. Assumes nothing.
+-- A call that is refused leaves box and area as they were and gives no record: by the node's laws on refused calls. Assumes nothing.
 use mathlib.Core.Path.{_≡_}
-use Rattle.node.proofs.Calls.{refused-call}
-use Rattle.consistency.specs.Runs.{Box, Input, called, left}
+use Rattle.node.proofs.Calls.{Untouched, refused-call}
+use Rattle.node.proofs.Displays.{refused-acknowledgement, refused-fetch}
+use Rattle.consistency.specs.Runs.{Box, Input, called, areaOf, left}
 use Rattle.consistency.specs.Demand.{Unchanged}
 
+pub untouched : (b : Box) (i : Input) → (called b i .answer ≡ 0 → ⊥) → Untouched (b .state) (b .lent) (areaOf i) (called b i)
+unfolding called areaOf
+untouched b (Input.journal text area) e = refused-call (b .state) (b .lent) text area e
+untouched b (Input.acknowledge display id area) e = refused-acknowledgement (b .state) (b .lent) display id area e
+untouched b (Input.fetch display from area) e = refused-fetch (b .state) (b .lent) display from area e
+
 pub refused : (b : Box) (i : Input) → (called b i .answer ≡ 0 → ⊥) → Unchanged b i
-unfolding Unchanged called left
-refused b (Input.journal text area) wasRefused =
-    let same = refused-call (b .state) (b .columns) text area wasRefused in
-    (λ i. record { state = same .state i; columns = same .columns i }, same .records, same .bytes)
+unfolding Unchanged left
+refused b i wasRefused =
+    let same = untouched b i wasRefused in
+    (λ j. record { state = same .state j; lent = same .lent j }, same .records, same .bytes)
 
 -- so the box behind it is the box before
 pub same-box : (b : Box) (i : Input) → (called b i .answer ≡ 0 → ⊥) → left b i ≡ b
 unfolding Unchanged
-same-box b (Input.journal text area) wasRefused = refused b (Input.journal text area) wasRefused .0
+same-box b i wasRefused = refused b i wasRefused .0

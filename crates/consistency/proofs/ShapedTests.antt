@@ -1,6 +1,6 @@
 -- A state and a store of which the facts of refusal 4 hold pass its test: the other direction of the node's law on shape. Each fact by
 -- itself is turned into its test, then those of a list and the chain of all. Assumes nothing.
-use Prim.Native.Nat.{ℕ, _*_}
+use Prim.Native.Nat.{ℕ, _+_, _*_}
 use mathlib.Core.Path.{_≡_, refl}
 use mathlib.Core.Logic.{⊎-elim}
 use mathlib.Core.Bool.{Bool, true, false, cond, _&&_, _||_}
@@ -23,13 +23,13 @@ use Rattle.store.specs.Sizes.{readingsPerLine}
 use Rattle.node.specs.Sizes.{resultsPerBucket, lastBucket}
 use Rattle.operator.specs.Bounds.{countLimit, sumOk, meterOk}
 use Rattle.operator.proofs.Meters.{Counted}
-use Rattle.store.specs.Columns.{Columns}
 use Rattle.columns.specs.Shape.{rises, isReadingKind}
-use Rattle.node.specs.View.{view}
-use Rattle.node.specs.Shape.{readingOk, idsRise, headOk, keptOk, phaseOk, bucketsOk, numbersOk, inShape}
+use Rattle.node.specs.View.{Lent, view}
+use Rattle.retransmission.specs.Sizes.{heldResults}
+use Rattle.node.specs.Shape.{readingOk, idsRise, headOk, keptOk, phaseOk, bucketsOk, numbersOk, displayOk, displaysOk, sentOk, stateInShape, inShape}
 use Rattle.node.specs.declared.LineHead.{LineHead}
 use Rattle.node.specs.declared.State.{State}
-use Rattle.node.proofs.Shape.{HeadShape, ReadingShape, Rising, KeptShape, PhaseShape, BucketsShape, NumbersShape, InShape}
+use Rattle.node.proofs.Shape.{HeadShape, ReadingShape, Rising, KeptShape, PhaseShape, BucketsShape, NumbersShape, DisplayShape, InShape}
 
 -- ---- tests joined, and tests of a list
 
@@ -46,7 +46,9 @@ or-right : (a b : Bool) → b ≡ true → a || b ≡ true
 or-right true b e = refl
 or-right false b e = e
 
-all-pass : {A : Type 0} (law : A → Type 0) (test : A → Bool) → ((x : A) → law x → test x ≡ true) → (xs : List A) → Every law xs → allOf test xs ≡ true
+all-pass :
+    {A : Type 0} (law : A → Type 0) (test : A → Bool) → ((x : A) → law x → test x ≡ true) → (xs : List A) → Every law xs →
+    allOf test xs ≡ true
 unfolding allOf
 all-pass law test f [] h = refl
 all-pass law test f (x ∷ xs) h = both (test x) (allOf test xs) (f x (h .0)) (all-pass law test f xs (h .1))
@@ -125,19 +127,29 @@ meter-passes m v =
 
 -- ---- all tests
 
-pub facts-inShape : (st : State) (x : Columns) → InShape st x → inShape st x ≡ true
-unfolding inShape
+display-passes : (newest id : ℕ) → DisplayShape newest id → displayOk newest id ≡ true
+unfolding displayOk
+display-passes newest id v =
+    both (leb id newest) (leb newest (id + heldResults)) (le-leb id newest (v .known)) (le-leb newest (id + heldResults) (v .near))
+
+pub facts-inShape : (st : State) (x : Lent) → InShape st x → inShape st x ≡ true
+unfolding inShape stateInShape displaysOk
 facts-inShape st x v =
     let b : Bool = allOf headOk (take (st .settings .lines) (st .heads)) in
-    let c : Bool = allOf keptOk (view st x .lines) in
+    let c : Bool = allOf keptOk (view st (x .readings) .lines) in
     let d : Bool = bucketsOk st in
     let f : Bool = numbersOk st in
     let g : Bool = allOf meterOk (st .operator .meters) in
     let h : Bool = allOf meterOk (st .checkpoint .meters) in
-    both _ (b && (c && (d && (f && (g && h))))) (v .limits)
+    let ids : List ℕ = take (st .settings .displays) (st .acknowledged) in
+    let i : Bool = allOf (displayOk (st .checkpoint .number)) ids in
+    let j : Bool = sentOk st (x .sent) in
+    both _ (i && j)
+    (both _ (b && (c && (d && (f && (g && h))))) (v .limits)
     (both b (c && (d && (f && (g && h)))) (all-pass HeadShape headOk head-passes (take (st .settings .lines) (st .heads)) (v .heads))
-    (both c (d && (f && (g && h))) (all-pass KeptShape keptOk kept-passes (view st x .lines) (v .lines))
+    (both c (d && (f && (g && h))) (all-pass KeptShape keptOk kept-passes (view st (x .readings) .lines) (v .lines))
     (both d (f && (g && h)) (buckets-pass st (v .buckets))
     (both f (g && h) (numbers-pass st (v .numbers))
     (both g h (all-pass (Counted countLimit) meterOk meter-passes (st .operator .meters) (v .operator))
-    (all-pass (Counted countLimit) meterOk meter-passes (st .checkpoint .meters) (v .checkpoint)))))))
+    (all-pass (Counted countLimit) meterOk meter-passes (st .checkpoint .meters) (v .checkpoint))))))))
+    (both i j (all-pass (DisplayShape (st .checkpoint .number)) (displayOk (st .checkpoint .number)) (display-passes (st .checkpoint .number)) ids (v .displays)) (v .sent))

@@ -2,7 +2,8 @@
 -- and of the bytes of its records. Assumes nothing.
 use Prim.Native.Nat.{ℕ, _≤_}
 use mathlib.Core.Path.{_≡_, refl, sym, _∙_, ap, subst}
-use mathlib.Core.Bool.{true, false}
+use mathlib.Core.Bool.{true, false, cond}
+use lib.Dec.{eqb}
 use mathlib.Core.List.{List, [], _∷_, _++_, map, map-append}
 use native.Mathlib.Omega.{arith}
 use Rattle.settings.specs.declared.Settings.{Settings}
@@ -12,31 +13,26 @@ use Rattle.store.specs.Lists.{Every}
 use Rattle.protocol.specs.Node.{Node}
 use Rattle.protocol.specs.Refusals.{answerTo}
 use Rattle.protocol.specs.Monitor.{stableBuckets, leftToWork}
-use Rattle.protocol.specs.FailureFree.{failureFree}
 use Rattle.protocol.specs.Undos.{applied, struck, stableRecords, doneDue}
 use Rattle.protocol.specs.Runs.{Event, Trace, start, next, after}
 use Rattle.protocol.specs.Demand.{stableResults, itself, sent, boundaries}
 use Rattle.protocol.specs.Demand as meaning
 use Rattle.protocol.proofs.Theorem as meaningProved
 use Rattle.node.specs.View.{view}
+use Rattle.node.specs.Displays.{acknowledgedOn}
 use Rattle.node.proofs.Calls.{accepted-call}
 use Rattle.consistency.specs.Runs.{Box, Input, called, left, leftAfter, recordIn}
 use Rattle.consistency.specs.Accounts.{Account, sentIn, boundariesIn}
-use Rattle.consistency.specs.Demand.{Handed, isOpened, boxOf, settingsIn, accountOf, outputOf, failureFreeBytes, remaining, Clean, Steps, Demand3}
+use Rattle.consistency.specs.Demand.{Handed, isOpened, boxOf, settingsIn, accountOf, outputOf, remaining, Clean, Steps, Demand3}
 use Rattle.store.proofs.Pairs.{every-right}
 use Rattle.node.proofs.Records.{Decodes}
 use Rattle.consistency.proofs.Undos.{every-applied, every-struck, applied-bytesOf, struck-bytesOf, stableRecords-bytesOf, doneDue-bytesOf, tentative-bytesOf}
-use Rattle.consistency.proofs.Runs.{Stands, accountIn, eventOf, eventsOf, event-accepted, event-refused, call-follows, runs}
-use Rattle.consistency.proofs.Opened.{box-stands, some-bucket, some-lines, traceOf, Mirrors, mirrors}
+use Rattle.consistency.proofs.Runs.{Stands, accountIn, eventOf, eventsOf, event-accepted, refused-event, fetch-did, input-did, runs}
+use Rattle.consistency.proofs.Opened.{box-stands, some-bucket, some-lines, traceOf, Mirrors, mirrors, free-bytes}
 use Rattle.consistency.proofs.Refused.{refused}
 use Rattle.consistency.proofs.ShapedRuns.{in-shape}
 
 -- ---- 1 and 2
-
-free-bytes : (h : Handed) (is : List Input) → Mirrors (settingsIn h) h is → failureFreeBytes h is ≡ map bytesOf (stableResults (settingsIn h) (traceOf (settingsIn h) h is))
-unfolding failureFreeBytes stableResults accountIn
-free-bytes h is m =
-    ap (λ (a : Account). map bytesOf (failureFree (settingsIn h) (a .stables) (a .monitor .d) .records)) (m .account)
 
 clean : (h : Handed) → isOpened h → (is : List Input) → Clean h is
 unfolding accountIn
@@ -95,33 +91,62 @@ replicas h g eh eg same is js same-sent same-boundaries none-h none-g =
 
 -- ---- 4
 
+-- an acknowledgement between steps
+acknowledged-steps :
+    (s : Settings) {n : ℕ} (t : Trace) (b : Box) (display id : ℕ) (area : List ℕ) (u : Trace) →
+    meaning.Steps s (next s t (eventOf b (Input.acknowledge display id area))) n u → meaning.Steps s t n u
+unfolding eventOf next
+acknowledged-steps s {n} t b display id area u steps =
+    (elim (eqb (acknowledgedOn (b .state) (b .lent) display id area .answer) 0) as
+    (λ wasAccepted.
+    meaning.Steps s (next s t (cond wasAccepted (Event.acknowledge display id) Event.turnedAway)) n u → meaning.Steps s t n u) [
+      | true ↦ λ q. meaning.Steps.aside display id q
+      | false ↦ λ q. q
+    ])
+    steps
+
+fetched-steps :
+    (s : Settings) {n : ℕ} (t : Trace) (b : Box) (display from : ℕ) (area : List ℕ) (is : List Input) →
+    meaning.Steps s t n (after s t (eventsOf (left b (Input.fetch display from area)) is)) →
+    meaning.Steps s t n
+    (after s (next s t (eventOf b (Input.fetch display from area))) (eventsOf (left b (Input.fetch display from area)) is))
+unfolding eventOf next
+fetched-steps s t b display from area is q = q
+
 -- steps on the box are steps on the meaning
 steps-follow :
-    (s : Settings) {b : Box} {n : ℕ} {js : List Input} (t : Trace) → Stands s (b .state) (b .columns) (t .node) →
+    (s : Settings) {b : Box} {n : ℕ} {js : List Input} (t : Trace) → Stands s (b .state) (b .lent) (t .node) →
     Steps b n js → meaning.Steps s t n (after s t (eventsOf b js))
-unfolding after eventsOf called left next
+unfolding after eventsOf called next
 steps-follow s t stands Steps.rest = meaning.Steps.rest
 steps-follow s {b} t stands (Steps.step {n = n} {is = is} text area k read kind accepted more) =
     let st = b .state in
-    let x = b .columns in
+    let x = b .lent in
     let i = Input.journal text area in
     let v = accepted-call st x text area accepted in
     let same : v .call ≡ k = cc (read, v .read) in
     let answered : answerTo s (t .node) k ≡ 0 =
     ap (λ (z : Settings). answerTo z (t .node) k) (sym (stands .settings)) ∙
     ap (λ (z : Node). answerTo (st .settings) z k) (sym (stands .is)) ∙
-    ap (answerTo (st .settings) (view st x)) (sym same) ∙ v .answered in
-    let rest = steps-follow s (next s t (eventOf b i)) (call-follows s t b text area stands .stands) more in
+    ap (answerTo (st .settings) (view st (x .readings))) (sym same) ∙ v .answered in
+    let rest = steps-follow s (next s t (eventOf b i)) (input-did s t b i stands .stands) more in
     meaning.Steps.step k kind answered
     (subst (λ (z : Event). meaning.Steps s (next s t z) n (after s (next s t (eventOf b i)) (eventsOf (left b i) is)))
     (event-accepted b text area k read accepted) rest)
-steps-follow s {b} {n} t stands (Steps.refused {is = is} (Input.journal text area) wasRefused more) =
-    let i = Input.journal text area in
-    let away = event-refused b text area wasRefused in
-    let same : Stands s (left b i .state) (left b i .columns) (t .node) =
-    rw away at (call-follows s t b text area stands .stands) in
+steps-follow s {b} {n} t stands (Steps.refused {is = is} i wasRefused more) =
+    let away = refused-event b i wasRefused in
+    let same : Stands s (left b i .state) (left b i .lent) (t .node) = rw away at (input-did s t b i stands .stands) in
     subst (λ (z : Event). meaning.Steps s t n (after s (next s t z) (eventsOf (left b i) is))) (sym away)
     (steps-follow s t same more)
+steps-follow s {b} {n} t stands (Steps.acknowledge {is = is} display id area more) =
+    let i = Input.acknowledge display id area in
+    let u = next s t (eventOf b i) in
+    acknowledged-steps s t b display id area (after s u (eventsOf (left b i) is))
+    (steps-follow s u (input-did s t b i stands .stands) more)
+steps-follow s {b} {n} t stands (Steps.fetch {is = is} display from area more) =
+    let i = Input.fetch display from area in
+    fetched-steps s t b display from area is
+    (steps-follow s t (fetch-did s t b display from area stands .stands) more)
 
 events-append : (b : Box) (is js : List Input) → eventsOf b (is ++ js) ≡ eventsOf b is ++ eventsOf (leftAfter b is) js
 unfolding eventsOf leftAfter

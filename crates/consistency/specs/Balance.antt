@@ -52,11 +52,11 @@ countsFor s i r = isCounted s (r .value) && eqb (r .meter) i
 unfoldable pub paysFor : ℕ → Record → Bool
 paysFor i r = eqb (r .kind) letterS && eqb (r .meter) i
 
--- sent in: the accepted stable readings, by the calls' fields and answers alone
+-- sent in: the accepted stable readings, by the journal calls' fields and answers alone
 unfoldable pub sentHeat : Handed → List Input → ℕ → Heat
 sentHeat h is i = heatOf ofReading (keep (countsFor (settingsIn h) i) (flatten (accountOf h is .stables)))
 
--- paid: the stable results of the output as it came
+-- paid: the stable results of the output as it came; fetched records are no part of it
 unfoldable pub paidHeat : Handed → List Input → ℕ → Heat
 paidHeat h is i = heatOf ofResult (keep (paysFor i) (map recordIn (outputOf h is)))
 
@@ -66,7 +66,7 @@ openHeat b i = ofMeter (getD (b .state .checkpoint .meters) i noMeter)
 
 -- the stable readings that the store still keeps
 unfoldable pub keptStables : Box → List Reading
-keptStables b = keep (λ (r : Reading). eqb (r .kind) letterS) (flatten (keptOf (view (b .state) (b .columns) .lines)))
+keptStables b = keep (λ (r : Reading). eqb (r .kind) letterS) (flatten (keptOf (view (b .state) (b .lent .readings) .lines)))
 
 unfoldable pub keptHeat : Settings → Box → ℕ → Heat
 keptHeat s b i = heatOf ofReading (keep (countsFor s i) (keptStables b))

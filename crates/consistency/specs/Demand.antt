@@ -1,4 +1,4 @@
--- Demand 3: the statement. It speaks of texts and areas, states and columns, and of bytes. Assumes nothing.
+-- Demand 3: the statement. It speaks of texts and areas, states and stores, and of bytes. Assumes nothing.
 use Prim.Native.Nat.{ℕ, zero, suc, _+_, _≤_}
 use mathlib.Core.Path.{_≡_}
 use mathlib.Core.Bool.{true, false}
@@ -15,26 +15,26 @@ use Rattle.protocol.specs.Monitor.{stableBuckets, leftToWork}
 use Rattle.protocol.specs.FailureFree.{failureFree}
 use Rattle.protocol.specs.Undos.{applied, struck, stableRecords, doneDue}
 use Rattle.node.specs.declared.State.{State}
-use Rattle.store.specs.Columns.{Columns}
+use Rattle.node.specs.View.{Lent}
 use Rattle.node.specs.Opening.{Opened, openedOn}
-use Rattle.consistency.specs.Runs.{Box, Input, called, left, leftAfter, recordIn, output}
+use Rattle.consistency.specs.Runs.{Box, Input, called, areaOf, left, leftAfter, recordIn, output}
 use Rattle.consistency.specs.Accounts.{Account, emptyAccount, accountAfter, sentIn, boundariesIn}
 
--- what is handed to an opening: any earlier state, also one in use, any store, any text
+-- what is handed to an opening: any earlier state, also one in use, any stores, any text
 pub record Handed : Type 0 where
   pub state : State
-  pub columns : Columns
+  pub lent : Lent
   pub text : List ℕ
 
 unfoldable pub opening : Handed → Opened
-opening h = openedOn (h .state) (h .columns) (h .text)
+opening h = openedOn (h .state) (h .lent) (h .text)
 
 unfoldable pub isOpened : Handed → Type 0
 isOpened h = opening h .answer ≡ 0
 
 -- the box that an accepted opening leaves, its settings, and a list's account and output from there on
 unfoldable pub boxOf : Handed → Box
-boxOf h = record { state = opening h .state; columns = opening h .columns }
+boxOf h = record { state = opening h .state; lent = opening h .lent }
 
 unfoldable pub settingsIn : Handed → Settings
 settingsIn h = opening h .state .settings
@@ -64,7 +64,7 @@ pub record Clean (h : Handed) (is : List Input) : Type 0 where
   pub asTheyCame : stableRecords recordIn (outputOf h is) ≡ failureFreeBytes h is
   pub worked : accountOf h is .monitor .d ≤ stableBuckets (settingsIn h) (accountOf h is .monitor)
 
--- so many accepted steps, and between them nothing but refused calls; the texts, clocks and areas are anything
+-- so many accepted steps, and between them nothing but refused calls and the displays'; texts, clocks, ids and areas are anything
 pub data Steps : Box → ℕ → List Input → Type 0 where
   rest : {b : Box} → Steps b zero []
   step :
@@ -74,14 +74,19 @@ pub data Steps : Box → ℕ → List Input → Type 0 where
       called b (Input.journal text area) .answer ≡ 0 →
       Steps (left b (Input.journal text area)) n is →
       Steps b (suc n) (Input.journal text area ∷ is)
+  acknowledge :
+      {b : Box} {n : ℕ} {is : List Input} (display id : ℕ) (area : List ℕ) →
+      Steps (left b (Input.acknowledge display id area)) n is →
+      Steps b n (Input.acknowledge display id area ∷ is)
+  fetch :
+      {b : Box} {n : ℕ} {is : List Input} (display from : ℕ) (area : List ℕ) →
+      Steps (left b (Input.fetch display from area)) n is →
+      Steps b n (Input.fetch display from area ∷ is)
   refused : {b : Box} {n : ℕ} {is : List Input} (i : Input) → (called b i .answer ≡ 0 → ⊥) → Steps (left b i) n is → Steps b n (i ∷ is)
 
 -- a call leaves the box and the lent area as they were, and gives no record
 unfoldable pub Unchanged : Box → Input → Type 0
-Unchanged b (Input.journal text area) =
-    (left b (Input.journal text area) ≡ b) ×
-    (called b (Input.journal text area) .records ≡ 0) ×
-    (called b (Input.journal text area) .area ≡ area)
+Unchanged b i = (left b i ≡ b) × (called b i .records ≡ 0) × (called b i .area ≡ areaOf i)
 
 pub record Demand3 : Type 0 where
   -- 1 and 2

@@ -17,13 +17,13 @@ use Rattle.consistency.specs.Demand.{Handed, isOpened, boxOf, remaining,
 
 -- the stable buckets that a box has left to work, by its state alone
 unfoldable pub leftIn : Box → ℕ
-leftIn b = bucketsLeft (b .state .settings) (view (b .state) (b .columns))
+leftIn b = bucketsLeft (b .state .settings) (view (b .state) (b .lent .readings))
 
 -- the steps that a state needs with k stable buckets left: tentative work is out where p is above c
 unfoldable pub stepsFrom : State → ℕ → ℕ
 stepsFrom st k = stepsNeeded k (ltb (st .c) (st .p)) (isCorrecting (st .phase))
 
--- n accepted steps, with nothing but refused calls between them, are enough if and only if they are as many as needed, or more
+-- n accepted steps, with only refused calls and displays' calls between them, are enough if and only if they are as many as needed, or more
 pub record Exactly : Type 0 where
   -- from an opening on, k being the monitor's
   pub settlesExactly :

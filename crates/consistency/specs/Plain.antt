@@ -1,6 +1,6 @@
--- Demand 3 once more, in other words, to test the statement: states, columns, texts and areas as they are handed over, one record for all
--- that a list of calls leaves, and every condition and conclusion written out. Whatever weakens a clause of Demand.antt, a condition more
--- or a conclusion less, no longer gives this table. Assumes nothing.
+-- Demand 3 once more, in other words, to test the statement: states, stores, texts and areas as they are handed over, one record for all
+-- that a list of calls leaves, and every condition and conclusion written out, for each of the three calls by itself. Whatever weakens a
+-- clause of Demand.antt, a condition more or a conclusion less, no longer gives this table. Assumes nothing.
 use Prim.Native.Nat.{ℕ, zero, suc, _+_, _-_, _/_, _≤_}
 use mathlib.Core.Path.{_≡_}
 use mathlib.Core.Bool.{Bool, true, false, cond, _&&_}
@@ -17,14 +17,15 @@ use Rattle.record.specs.Layout.{bytesOf}
 use Rattle.record.specs.Kinds.{isTentative}
 use Rattle.store.specs.declared.Reading.{Reading}
 use Rattle.store.specs.Lists.{Every}
-use Rattle.store.specs.Columns.{Columns}
 use Rattle.protocol.specs.Kinds.{kindOf, isStep}
 use Rattle.protocol.specs.Monitor.{LineMonitor, Monitor, freshMonitor, observe, leastBoundary}
 use Rattle.protocol.specs.FailureFree.{stableAfter, failureFree}
 use Rattle.protocol.specs.Undos.{applied, struck, stableRecords, doneDue}
 use Rattle.node.specs.declared.State.{State}
+use Rattle.node.specs.View.{Lent}
 use Rattle.node.specs.Opening.{openedOn}
 use Rattle.node.specs.Calls.{Called, calledOn}
+use Rattle.node.specs.Displays.{acknowledgedOn, fetchedOn}
 use Rattle.consistency.specs.Runs.{Input, recordIn}
 
 -- ---- a run of calls
@@ -32,7 +33,7 @@ use Rattle.consistency.specs.Runs.{Input, recordIn}
 -- what is there after some calls: what the host keeps, the monitor, the accepted stable readings, and all records so far
 pub record Run : Type 0 where
   pub state : State
-  pub columns : Columns
+  pub lent : Lent
   pub monitor : Monitor
   pub stables : List (List Reading)
   pub bytes : List (List ℕ)
@@ -50,36 +51,44 @@ unfoldable pub counted : List (List Reading) → CallRead → Bool → List (Lis
 counted lines (CallRead.Accepted k) isAccepted = stableAfter lines k isAccepted
 counted lines CallRead.Malformed isAccepted = lines
 
-unfoldable pub begun : State → Columns → List ℕ → Run
+unfoldable pub begun : State → Lent → List ℕ → Run
 begun st x text =
     record {
       state = openedOn st x text .state;
-      columns = openedOn st x text .columns;
+      lent = openedOn st x text .lent;
       monitor = freshMonitor (openedOn st x text .state .settings);
       stables = replicate (openedOn st x text .state .settings .lines) [];
       bytes = [];
     }
 
--- a journal call on what is there
+-- a journal call on what is there: the monitor is fed it, and its records come behind those so far
 unfoldable pub answered : Settings → Run → CallRead → Called → Run
 answered s y read r =
     record {
       state = r .state;
-      columns = r .columns;
+      lent = r .lent;
       monitor = noted s (y .monitor) read (eqb (r .answer) 0);
       stables = counted (y .stables) read (eqb (r .answer) 0);
       bytes = y .bytes ++ cut (r .records) (r .area);
     }
 
+-- a display's call on what is there (document 02, W2): the monitor, document 01's day book, passes it over, and what it lays into its area
+-- is no record of the output
+unfoldable pub passedOver : Run → Called → Run
+passedOver y r = record { state = r .state; lent = r .lent; monitor = y .monitor; stables = y .stables; bytes = y .bytes }
+
 unfoldable pub continued : Settings → Run → List Input → Run
 continued s y [] = y
-continued s y (Input.journal text area ∷ is) = continued s (answered s y (callOf text) (calledOn (y .state) (y .columns) text area)) is
+continued s y (Input.journal text area ∷ is) = continued s (answered s y (callOf text) (calledOn (y .state) (y .lent) text area)) is
+continued s y (Input.acknowledge display id area ∷ is) =
+    continued s (passedOver y (acknowledgedOn (y .state) (y .lent) display id area)) is
+continued s y (Input.fetch display from area ∷ is) = continued s (passedOver y (fetchedOn (y .state) (y .lent) display from area)) is
 
 -- the settings that an opening leaves, and the run from there on
-unfoldable pub settingsOn : State → Columns → List ℕ → Settings
+unfoldable pub settingsOn : State → Lent → List ℕ → Settings
 settingsOn st x text = openedOn st x text .state .settings
 
-unfoldable pub runOf : State → Columns → List ℕ → List Input → Run
+unfoldable pub runOf : State → Lent → List ℕ → List Input → Run
 runOf st x text is = continued (settingsOn st x text) (begun st x text) is
 
 -- ---- steps
@@ -88,18 +97,31 @@ unfoldable pub readsAsStep : CallRead → Bool
 readsAsStep (CallRead.Accepted k) = isStep (kindOf (k .kind))
 readsAsStep CallRead.Malformed = false
 
--- whether every call is refused or a step, and how many are accepted
-unfoldable pub onlySteps : State → Columns → List Input → Bool
+-- whether every journal call is refused or a step; a display's call may stand anywhere, accepted or not
+unfoldable pub onlySteps : State → Lent → List Input → Bool
 onlySteps st x [] = true
 onlySteps st x (Input.journal text area ∷ is) =
     let r : Called = calledOn st x text area in
-    cond (eqb (r .answer) 0) (readsAsStep (callOf text)) true && onlySteps (r .state) (r .columns) is
+    cond (eqb (r .answer) 0) (readsAsStep (callOf text)) true && onlySteps (r .state) (r .lent) is
+onlySteps st x (Input.acknowledge display id area ∷ is) =
+    let r : Called = acknowledgedOn st x display id area in
+    onlySteps (r .state) (r .lent) is
+onlySteps st x (Input.fetch display from area ∷ is) =
+    let r : Called = fetchedOn st x display from area in
+    onlySteps (r .state) (r .lent) is
 
-unfoldable pub acceptedOf : State → Columns → List Input → ℕ
+-- how many journal calls are accepted; a display's call is no step
+unfoldable pub acceptedOf : State → Lent → List Input → ℕ
 acceptedOf st x [] = 0
 acceptedOf st x (Input.journal text area ∷ is) =
     let r : Called = calledOn st x text area in
-    cond (eqb (r .answer) 0) (suc (acceptedOf (r .state) (r .columns) is)) (acceptedOf (r .state) (r .columns) is)
+    cond (eqb (r .answer) 0) (suc (acceptedOf (r .state) (r .lent) is)) (acceptedOf (r .state) (r .lent) is)
+acceptedOf st x (Input.acknowledge display id area ∷ is) =
+    let r : Called = acknowledgedOn st x display id area in
+    acceptedOf (r .state) (r .lent) is
+acceptedOf st x (Input.fetch display from area ∷ is) =
+    let r : Called = fetchedOn st x display from area in
+    acceptedOf (r .state) (r .lent) is
 
 -- ---- what two boxes are compared by
 
@@ -138,12 +160,20 @@ pub record CleanOn (s : Settings) (y : Run) : Type 0 where
   pub stables : stableRecords recordIn (y .bytes) ≡ owed s y
   pub noneAhead : y .monitor .d ≤ leastBoundary (y .monitor .lines) / s .bucket
 
+-- a call that did nothing: state, stores and area are as they were, and there is no record
+abbrev pub LeftAlone : State → Lent → List ℕ → Called → Type 0
+LeftAlone st x area r = (r .state ≡ st) × (r .lent ≡ x) × (r .records ≡ 0) × (r .area ≡ area)
+
+-- an answer that is neither 3 nor 4
+abbrev pub Neither3Nor4 : ℕ → Type 0
+Neither3Nor4 answer = (answer ≡ 3 → ⊥) × (answer ≡ 4 → ⊥)
+
 pub record Plain : Type 0 where
   pub clean :
-      (st : State) (x : Columns) (text : List ℕ) → openedOn st x text .answer ≡ 0 → (is : List Input) →
+      (st : State) (x : Lent) (text : List ℕ) → openedOn st x text .answer ≡ 0 → (is : List Input) →
       CleanOn (settingsOn st x text) (runOf st x text is)
   pub replicas :
-      (st : State) (x : Columns) (text : List ℕ) (zt : State) (z : Columns) (other : List ℕ) →
+      (st : State) (x : Lent) (text : List ℕ) (zt : State) (z : Lent) (other : List ℕ) →
       openedOn st x text .answer ≡ 0 → openedOn zt z other .answer ≡ 0 →
       settingsOn st x text ≡ settingsOn zt z other →
       (is js : List Input) →
@@ -153,20 +183,32 @@ pub record Plain : Type 0 where
       leftOn (settingsOn zt z other) (runOf zt z other js) ≡ 0 →
       stableRecords recordIn (runOf st x text is .bytes) ≡ stableRecords recordIn (runOf zt z other js .bytes)
   pub settles :
-      (st : State) (x : Columns) (text : List ℕ) → openedOn st x text .answer ≡ 0 → (is js : List Input) →
+      (st : State) (x : Lent) (text : List ℕ) → openedOn st x text .answer ≡ 0 → (is js : List Input) →
       let y : Run = runOf st x text is in
-      onlySteps (y .state) (y .columns) js ≡ true →
-      acceptedOf (y .state) (y .columns) js ≡ leftOn (settingsOn st x text) y + 2 →
+      onlySteps (y .state) (y .lent) js ≡ true →
+      acceptedOf (y .state) (y .lent) js ≡ leftOn (settingsOn st x text) y + 2 →
       (leftOn (settingsOn st x text) (runOf st x text (is ++ js)) ≡ 0) ×
       (doneDue recordIn false (runOf st x text (is ++ js) .bytes) ≡ false)
+  -- whatever is refused
   pub refused :
-      (st : State) (x : Columns) (text area : List ℕ) → (calledOn st x text area .answer ≡ 0 → ⊥) →
-      (calledOn st x text area .state ≡ st) ×
-      (calledOn st x text area .columns ≡ x) ×
-      (calledOn st x text area .records ≡ 0) ×
-      (calledOn st x text area .area ≡ area)
+      (st : State) (x : Lent) (text area : List ℕ) → (calledOn st x text area .answer ≡ 0 → ⊥) →
+      LeftAlone st x area (calledOn st x text area)
+  pub refusedAcknowledgement :
+      (st : State) (x : Lent) (display id : ℕ) (area : List ℕ) → (acknowledgedOn st x display id area .answer ≡ 0 → ⊥) →
+      LeftAlone st x area (acknowledgedOn st x display id area)
+  pub refusedFetch :
+      (st : State) (x : Lent) (display from : ℕ) (area : List ℕ) → (fetchedOn st x display from area .answer ≡ 0 → ⊥) →
+      LeftAlone st x area (fetchedOn st x display from area)
+  -- from an opening on
   pub inShape :
-      (st : State) (x : Columns) (text : List ℕ) → openedOn st x text .answer ≡ 0 → (is : List Input) (line area : List ℕ) →
+      (st : State) (x : Lent) (text : List ℕ) → openedOn st x text .answer ≡ 0 → (is : List Input) (line area : List ℕ) →
       let y : Run = runOf st x text is in
-      (calledOn (y .state) (y .columns) line area .answer ≡ 3 → ⊥) ×
-      (calledOn (y .state) (y .columns) line area .answer ≡ 4 → ⊥)
+      Neither3Nor4 (calledOn (y .state) (y .lent) line area .answer)
+  pub inShapeToAcknowledge :
+      (st : State) (x : Lent) (text : List ℕ) → openedOn st x text .answer ≡ 0 → (is : List Input) (display id : ℕ) (area : List ℕ) →
+      let y : Run = runOf st x text is in
+      Neither3Nor4 (acknowledgedOn (y .state) (y .lent) display id area .answer)
+  pub inShapeToFetch :
+      (st : State) (x : Lent) (text : List ℕ) → openedOn st x text .answer ≡ 0 → (is : List Input) (display from : ℕ) (area : List ℕ) →
+      let y : Run = runOf st x text is in
+      Neither3Nor4 (fetchedOn (y .state) (y .lent) display from area .answer)

@@ -16,14 +16,14 @@ use Rattle.journal.specs.declared.CallRead.the-variants as CallRead
 use Rattle.journal.specs.ReadLine.{callOf}
 use Rattle.record.specs.Fields.{wordAt}
 use Rattle.store.specs.declared.Reading.{Reading}
-use Rattle.store.specs.Columns.{Columns}
 use Rattle.operator.specs.declared.Meter.{Meter}
 use Rattle.operator.specs.Meters.{noMeter}
 use Rattle.protocol.specs.Node.{Line}
 use Rattle.node.specs.declared.State.{State}
-use Rattle.node.specs.View.{view}
+use Rattle.node.specs.View.{Lent, view}
 use Rattle.node.specs.Opening.{openedOn}
 use Rattle.node.specs.Calls.{Called, calledOn}
+use Rattle.node.specs.Displays.{acknowledgedOn, fetchedOn}
 use Rattle.consistency.specs.Runs.{Input}
 use Rattle.consistency.specs.Plain.{Run, settingsOn, runOf}
 
@@ -36,12 +36,18 @@ unfoldable pub sentBy : Settings → ℕ → CallRead → List ℤ
 sentBy s i (CallRead.Accepted k) = valueIf s i (k .kind) (k .meter) (k .value)
 sentBy s i CallRead.Malformed = []
 
--- the values of the accepted calls, one call after the other
-unfoldable pub sentValues : Settings → ℕ → State → Columns → List Input → List ℤ
+-- the values of the accepted journal calls, one call after the other; a display's call sends nothing in
+unfoldable pub sentValues : Settings → ℕ → State → Lent → List Input → List ℤ
 sentValues s i st x [] = []
 sentValues s i st x (Input.journal text area ∷ is) =
     let r : Called = calledOn st x text area in
-    cond (eqb (r .answer) 0) (sentBy s i (callOf text)) [] ++ sentValues s i (r .state) (r .columns) is
+    cond (eqb (r .answer) 0) (sentBy s i (callOf text)) [] ++ sentValues s i (r .state) (r .lent) is
+sentValues s i st x (Input.acknowledge display id area ∷ is) =
+    let r : Called = acknowledgedOn st x display id area in
+    sentValues s i (r .state) (r .lent) is
+sentValues s i st x (Input.fetch display from area ∷ is) =
+    let r : Called = fetchedOn st x display from area in
+    sentValues s i (r .state) (r .lent) is
 
 -- those of the kept readings, line by line
 unfoldable pub valuesAmong : Settings → ℕ → List Reading → List ℤ
@@ -69,11 +75,11 @@ paidSum i [] = pos 0
 paidSum i (b ∷ bs) = cond (isPaid i b) (signedOf 64 (wordAt 16 8 b)) (pos 0) +ℤ paidSum i bs
 
 -- the values sent in from an opening on, and those kept after the calls
-unfoldable pub sentOf : State → Columns → List ℕ → List Input → ℕ → List ℤ
-sentOf st x text is i = sentValues (settingsOn st x text) i (openedOn st x text .state) (openedOn st x text .columns) is
+unfoldable pub sentOf : State → Lent → List ℕ → List Input → ℕ → List ℤ
+sentOf st x text is i = sentValues (settingsOn st x text) i (openedOn st x text .state) (openedOn st x text .lent) is
 
 unfoldable pub keptOn : Settings → Run → ℕ → List ℤ
-keptOn s y i = keptValues s i (view (y .state) (y .columns) .lines)
+keptOn s y i = keptValues s i (view (y .state) (y .lent .readings) .lines)
 
 -- the open window's meter
 unfoldable pub openOn : Run → ℕ → Meter
@@ -81,10 +87,10 @@ openOn y i = getD (y .state .checkpoint .meters) i noMeter
 
 pub record PlainBalance : Type 0 where
   pub counts :
-      (st : State) (x : Columns) (text : List ℕ) → openedOn st x text .answer ≡ 0 → (is : List Input) (i : ℕ) → i < 64 →
+      (st : State) (x : Lent) (text : List ℕ) → openedOn st x text .answer ≡ 0 → (is : List Input) (i : ℕ) → i < 64 →
       let y : Run = runOf st x text is in
       length (sentOf st x text is i) ≡ paidCount i (y .bytes) + openOn y i .count + length (keptOn (settingsOn st x text) y i)
   pub sums :
-      (st : State) (x : Columns) (text : List ℕ) → openedOn st x text .answer ≡ 0 → (is : List Input) (i : ℕ) → i < 64 →
+      (st : State) (x : Lent) (text : List ℕ) → openedOn st x text .answer ≡ 0 → (is : List Input) (i : ℕ) → i < 64 →
       let y : Run = runOf st x text is in
       sumOf (sentOf st x text is i) ≡ (paidSum i (y .bytes) +ℤ openOn y i .sum) +ℤ sumOf (keptOn (settingsOn st x text) y i)

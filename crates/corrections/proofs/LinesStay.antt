@@ -6,7 +6,7 @@ use mathlib.Core.Bool.{true}
 use mathlib.Core.List.{List, [], _∷_, append-nil}
 use lib.ListN.{length}
 use Rattle.area.specs.Laid.{inFront}
-use Rattle.settings.specs.Limits.{maxLines}
+use Rattle.settings.specs.Limits.{maxLines, maxDisplays}
 use Rattle.journal.specs.Kinds.{letterU, letterR}
 use Rattle.record.specs.declared.Record.{Record}
 use Rattle.record.specs.Layout.{bytesOf, allBytes}
@@ -19,7 +19,7 @@ use Rattle.protocol.specs.declared.Rule.the-variants as Rule
 use Rattle.protocol.specs.Rules.{act}
 use Rattle.node.specs.declared.State.{State}
 use Rattle.node.specs.View.{places, view, headsWith, putState}
-use Rattle.node.specs.Shape.{inShape}
+use Rattle.node.specs.Shape.{stateInShape}
 use Rattle.node.proofs.View.{Fits, putState-view}
 use Rattle.node.proofs.Writes.{putColumns-same}
 use Rattle.node.proofs.AfterCalls.{shape-fits}
@@ -37,6 +37,7 @@ stateWith st operator checkpoint p phase =
       c = st .c;
       p = p;
       phase = phase;
+      acknowledged = st .acknowledged;
     }
 
 -- one record in front of the area
@@ -44,31 +45,47 @@ one-record : (r : Record) (area area′ : List ℕ) → area′ ≡ inFront (byt
 unfolding allBytes
 one-record r area area′ e = rw (append-nil (bytesOf r)) e
 
-module _ (st : State) (x : Columns) (heads : length (st .heads) ≡ maxLines) (room : places st ≤ storeLength x) (shape : inShape st x ≡ true) where
+-- a state with room for every line and every display, and a store, in shape
+pub record Kept (st : State) (x : Columns) : Type 0 where
+  pub heads : length (st .heads) ≡ maxLines
+  pub displays : length (st .acknowledged) ≡ maxDisplays
+  pub room : places st ≤ storeLength x
+  pub shape : stateInShape st x ≡ true
+
+module _ (st : State) (x : Columns) (kept : Kept st x) where
   pub fits : Fits st x
-  fits = shape-fits st x heads room shape
+  fits = shape-fits st x (kept .heads) (kept .displays) (kept .room) (kept .shape)
 
   -- lines that stay leave the heads as they were
   pub heads-stay : headsWith (st .heads) (view st x .lines) ≡ st .heads
   unfolding putState
   heads-stay = ap (λ (q : State). q .heads) (putState-view st x fits)
 
+  -- and a rule leaves what the displays have acknowledged
+  pub acknowledged-stay : inFront (view st x .acknowledged) (st .acknowledged) ≡ st .acknowledged
+  unfolding putState
+  acknowledged-stay = ap (λ (q : State). q .acknowledged) (putState-view st x fits)
+
   module _ (area area′ : List ℕ) where
-    pub withdraw-acts : area′ ≡ inFront (bytesOf (plain letterU (st .checkpoint .number) (record { 0 = 0 }))) area → Acted Rule.Withdraw st x area (stateWith st (st .checkpoint) (st .checkpoint) (st .c) Phase.Correcting) x area′ 1
+    pub withdraw-acts :
+        area′ ≡ inFront (bytesOf (plain letterU (st .checkpoint .number) (record { 0 = 0 }))) area →
+        Acted Rule.Withdraw st x area (stateWith st (st .checkpoint) (st .checkpoint) (st .c) Phase.Correcting) x area′ 1
     unfolding act putState view
     withdraw-acts e =
         record {
-          state = rw heads-stay;
+          state = rw (heads-stay, acknowledged-stay);
           columns = sym (putColumns-same st x fits (act (st .settings) (view st x) Rule.Withdraw .node) refl);
           bytes = one-record (plain letterU (st .checkpoint .number) (record { 0 = 0 })) area area′ e;
           count = refl;
         }
 
-    pub end-correction-acts : area′ ≡ inFront (bytesOf (plain letterR 0 (record { 0 = 0 }))) area → Acted Rule.EndCorrection st x area (stateWith st (st .operator) (st .checkpoint) (st .p) Phase.Stable) x area′ 1
+    pub end-correction-acts :
+        area′ ≡ inFront (bytesOf (plain letterR 0 (record { 0 = 0 }))) area →
+        Acted Rule.EndCorrection st x area (stateWith st (st .operator) (st .checkpoint) (st .p) Phase.Stable) x area′ 1
     unfolding act putState view
     end-correction-acts e =
         record {
-          state = rw heads-stay;
+          state = rw (heads-stay, acknowledged-stay);
           columns = sym (putColumns-same st x fits (act (st .settings) (view st x) Rule.EndCorrection .node) refl);
           bytes = one-record (plain letterR 0 (record { 0 = 0 })) area area′ e;
           count = refl;

@@ -8,7 +8,7 @@ ghost use Rattle.store.specs.Columns.{Columns, storeLength};
 ghost use Rattle.operator.specs.Results.{plain};
 ghost use Rattle.protocol.specs.declared.Rule.the-variants as Rules;
 ghost use Rattle.node.specs.View.{places};
-ghost use Rattle.node.specs.Shape.{inShape};
+ghost use Rattle.node.specs.Shape.{stateInShape};
 ghost use Rattle.corrections.specs.Acted.{Acted};
 use clock::ReadingTime;
 use node::State;
@@ -40,12 +40,16 @@ pub fn plain(kind: u8, id: u32, time: ReadingTime) -> Record
 // Rule 1: tentative results are withdrawn.
 pub fn withdraw(state: State, area: &mut [u8]) -> Stepped
     requires { ⌜ (recordBytes ≤ length (now area)) × (state .checkpoint .number < 2 ^ 32) ⌝ }
-    ensures { λ r. ⌜ ((x : Columns) → places state ≤ storeLength x → inShape state x ≡ true → Acted Rules.Withdraw state x (now (area .entry)) (r .state) x (now (area .exit)) (r .records)) ⌝ }
+    ensures { λ r. ⌜ (
+        (x : Columns) → places state ≤ storeLength x → stateInShape state x ≡ true →
+        Acted Rules.Withdraw state x (now (area .entry)) (r .state) x (now (area .exit)) (r .records)
+        ) ⌝ }
 {
     let last_stable = state.checkpoint;
     let heads = state.heads;
     let settings = state.settings;
     let clock = state.clock;
+    let acknowledged = state.acknowledged;
     let undo = plain(record::UNDO, last_stable.number as u32, ReadingTime(0));
     record::put_record(area, undo);
     let next = State {
@@ -57,6 +61,7 @@ pub fn withdraw(state: State, area: &mut [u8]) -> Stepped
         c: state.c,
         p: state.c,
         phase: Phase::Correcting,
+        acknowledged: acknowledged,
     };
     Stepped {
         state: next,
@@ -67,13 +72,17 @@ pub fn withdraw(state: State, area: &mut [u8]) -> Stepped
 // Rule 3: the correction is over.
 pub fn end_correction(state: State, area: &mut [u8]) -> Stepped
     requires { ⌜ recordBytes ≤ length (now area) ⌝ }
-    ensures { λ r. ⌜ ((x : Columns) → places state ≤ storeLength x → inShape state x ≡ true → Acted Rules.EndCorrection state x (now (area .entry)) (r .state) x (now (area .exit)) (r .records)) ⌝ }
+    ensures { λ r. ⌜ (
+        (x : Columns) → places state ≤ storeLength x → stateInShape state x ≡ true →
+        Acted Rules.EndCorrection state x (now (area .entry)) (r .state) x (now (area .exit)) (r .records)
+        ) ⌝ }
 {
     let operator = state.operator;
     let checkpoint = state.checkpoint;
     let heads = state.heads;
     let settings = state.settings;
     let clock = state.clock;
+    let acknowledged = state.acknowledged;
     let done = plain(record::DONE, 0, ReadingTime(0));
     record::put_record(area, done);
     let next = State {
@@ -85,6 +94,7 @@ pub fn end_correction(state: State, area: &mut [u8]) -> Stepped
         c: state.c,
         p: state.p,
         phase: Phase::Stable,
+        acknowledged: acknowledged,
     };
     Stepped {
         state: next,

@@ -1,2 +1,3 @@
--- The customer's starred examples, proved.
+-- The two tables of examples, proved.
 pub mod Starred
+pub mod SendBack

@@ -17,7 +17,7 @@ use Rattle.store.specs.Order.{insert, sort, isIn, gather, inBucket}
 use Rattle.store.proofs.Order.{by-line, earlier-before}
 use Rattle.protocol.specs.Kinds.{kindOf, uses, isStep}
 use Rattle.protocol.specs.Node.{Line, isStable}
-use Rattle.protocol.specs.Refusals.{firstFailed, lineOf, wrongLine, isZero, unusedField, wrongMeter, wrongId, tooEarly, isHeldBack, isFull, callTests, lineTests, testsOf, answerTo}
+use Rattle.protocol.specs.Refusals.{firstFailed, lineOf, wrongLine, isZero, unusedField, wrongMeter, wrongId, tooEarly, isHeldBack, isFull, callTests, lineTests, stepTests, testsOf, answerTo}
 use Rattle.examples.specs.Given.{settings, tick, on, line, node, undo}
 use Rattle.examples.specs.Starred.{Starred}
 
@@ -43,7 +43,7 @@ lower-line-first r s p q e =
     rw (p, q, earlier-before (on 1 r) (on 2 s) (by-line (ap (λ (t : ReadingTime). t .0) e) (omega arith)))
 
 pub starred : Starred
-unfolding settings bucketOf bucketEnd finishes nearest mean node line undo answerTo testsOf callTests lineTests firstFailed kindOf uses isStep lineOf wrongLine isZero unusedField wrongMeter wrongId tooEarly isHeldBack isFull
+unfolding settings bucketOf bucketEnd finishes nearest mean node line undo answerTo testsOf callTests lineTests stepTests firstFailed kindOf uses isStep lineOf wrongLine isZero unusedField wrongMeter wrongId tooEarly isHeldBack isFull
 starred =
     record {
       time99 = refl;

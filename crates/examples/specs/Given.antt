@@ -15,7 +15,7 @@ use Rattle.protocol.specs.declared.Phase.the-variants as Phase
 
 -- the settings of the document's listing: two lines, buckets of 100 ticks
 unfoldable pub settings : Settings
-settings = record { lines = 2; bucket = 100; window = 1; hold = 50; low = negℤ (pos 1000); high = pos 1000 }
+settings = record { lines = 2; bucket = 100; window = 1; hold = 50; low = negℤ (pos 1000); high = pos 1000; displays = 1 }
 
 -- a tick of reading time
 abbrev pub tick : ℕ → ReadingTime
@@ -51,6 +51,7 @@ node =
       operator = fresh;
       checkpoint = fresh;
       lines = line ∷ noLine ∷ [];
+      acknowledged = 0 ∷ [];
     }
 
 -- an undo on line 1

@@ -1,3 +1,4 @@
--- The customer's starred examples as one table.
+-- The customer's starred examples as one table, and examples of the send-back store's rules.
 pub mod Given
 pub mod Starred
+pub mod SendBack

@@ -20,6 +20,9 @@ lowKey = 108 ∷ 111 ∷ 119 ∷ []
 abbrev pub highKey : List ℕ
 highKey = 104 ∷ 105 ∷ 103 ∷ 104 ∷ []
 
+abbrev pub displaysKey : List ℕ
+displaysKey = 100 ∷ 105 ∷ 115 ∷ 112 ∷ 108 ∷ 97 ∷ 121 ∷ 115 ∷ []
+
 abbrev pub nowKey : List ℕ
 nowKey = 110 ∷ 111 ∷ 119 ∷ []
 

@@ -1,5 +1,4 @@
--- What is decided of a call: the host's first refusal, else the text's, else the call's; and that a call answers what is decided. Assumes
--- nothing.
+-- What is decided of a call: the host's first refusal, else the text's, else the call's; and that a call answers what is decided.
 use Prim.Native.Nat.{ℕ, _*_, _≤_}
 use mathlib.Core.Path.{_≡_, refl, _∙_}
 use mathlib.Core.Bool.{true, false, cond}
@@ -14,29 +13,32 @@ use Rattle.journal.specs.ReadLine.{callOf}
 use lib.ListN.{length, take}
 use Rattle.store.specs.Sizes.{readingsPerLine}
 use Rattle.store.specs.Lists.{Every}
-use Rattle.store.specs.Columns.{Columns, storeLength}
+use Rattle.store.specs.Columns.{storeLength}
 use Rattle.store.proofs.Pairs.{every-to}
 use Rattle.store.proofs.Columns.{room}
 use Rattle.protocol.specs.Refusals.{firstFailed, answerTo}
 use Rattle.node.specs.declared.LineHead.{LineHead}
 use Rattle.node.specs.declared.State.{State}
-use Rattle.node.specs.View.{places, view}
+use Rattle.node.specs.View.{Lent, places, view}
+use Rattle.node.specs.Shape.{stateInShape, displaysOk}
 use Rattle.node.specs.Calls.{hostTests, refusedWith, calledWith, calledOn}
 use Rattle.node.proofs.Limits.{limits-hold}
-use Rattle.node.proofs.Shape.{HeadShape, InShape, inShape-facts}
+use Rattle.node.proofs.Shape.{HeadShape, InShape, inShape-facts, state-in-shape, displays-in-shape}
 use Rattle.node.proofs.Calls.{HostPassed, host-passed}
 use Rattle.judging.specs.Judging.{judgedWith, judgedOn}
 use Rattle.judging.specs.declared.Judged.{Judged}
 use Rattle.judging.specs.declared.Judged.the-variants as Judged
 
--- what the call's tests ask of state and store
-pub record RefusalReady (st : State) (x : Columns) : Type 0 where
+-- what the call's tests ask of state and stores
+pub record RefusalReady (st : State) (x : Lent) : Type 0 where
   pub lines : st .settings .lines ≤ 8
-  pub room : st .settings .lines * readingsPerLine ≤ storeLength x
-  pub kinds : st .settings .lines * readingsPerLine ≤ length (x .kinds)
+  pub room : st .settings .lines * readingsPerLine ≤ storeLength (x .readings)
+  pub kinds : st .settings .lines * readingsPerLine ≤ length (x .readings .kinds)
+  pub shape : stateInShape st (x .readings) ≡ true
+  pub displays : displaysOk st ≡ true
   pub small : Every (λ (h : LineHead). h .kept ≤ readingsPerLine) (take (st .settings .lines) (st .heads))
 
-pub refusal-ready : (st : State) (x : Columns) (area : List ℕ) → firstFailed (hostTests st x area) ≡ 0 → RefusalReady st x
+pub refusal-ready : (st : State) (x : Lent) (area : List ℕ) → firstFailed (hostTests st x area) ≡ 0 → RefusalReady st x
 unfolding places
 refusal-ready st x area e =
     let h : HostPassed st x area = host-passed st x area e in
@@ -44,48 +46,52 @@ refusal-ready st x area e =
     record {
       lines = limits-hold (st .settings) (f .limits) .lines;
       room = h .room;
-      kinds = room (st .settings .lines * readingsPerLine) x (h .room) .kinds;
+      kinds = room (st .settings .lines * readingsPerLine) (x .readings) (h .room) .kinds;
+      shape = state-in-shape st x (h .shape);
+      displays = displays-in-shape st x (h .shape);
       small = every-to (take (st .settings .lines) (st .heads)) (λ (h : LineHead) (v : HeadShape h). v .kept) (f .heads);
     }
 
 -- ---- each way out is what is decided
 
-module _ (st : State) (x : Columns) (text area : List ℕ) where
-  pub host-refused : {n : ℕ} → n ≡ firstFailed (hostTests st x area) → (n ≡ 0 → ⊥) → Judged.Refused n ≡ judgedOn st x text area
+module _ (st : State) (x : Lent) (read : CallRead) (area : List ℕ) where
+  pub host-refused : {n : ℕ} → n ≡ firstFailed (hostTests st x area) → (n ≡ 0 → ⊥) → Judged.Refused n ≡ judgedOn st x read area
   unfolding judgedOn
   host-refused e h = rw (e, ne-eqb (firstFailed (hostTests st x area)) 0 (λ z. h (e ∙ z)))
 
   module _ (host : firstFailed (hostTests st x area) ≡ 0) where
-    past-host : {r : CallRead} → callOf text ≡ r → judgedWith st x r ≡ judgedOn st x text area
+    past-host : {r : CallRead} → read ≡ r → judgedWith st x r ≡ judgedOn st x read area
     unfolding judgedOn
     past-host e = rw (host, e)
 
-    pub text-refused : callOf text ≡ CallRead.Malformed → Judged.Refused 6 ≡ judgedOn st x text area
+    pub text-refused : read ≡ CallRead.Malformed → Judged.Refused 6 ≡ judgedOn st x read area
     unfolding judgedWith callAnswer
     text-refused e = past-host e
 
-    module _ (k : Call) (read : callOf text ≡ CallRead.Accepted k) where
-      pub call-refused : {n : ℕ} → n ≡ answerTo (st .settings) (view st x) k → (n ≡ 0 → ⊥) → Judged.Refused n ≡ judgedOn st x text area
+    module _ (k : Call) (is : read ≡ CallRead.Accepted k) where
+      pub call-refused :
+          {n : ℕ} → n ≡ answerTo (st .settings) (view st (x .readings)) k → (n ≡ 0 → ⊥) →
+          Judged.Refused n ≡ judgedOn st x read area
       unfolding judgedWith
-      call-refused e h = rw e (rw (ne-eqb (answerTo (st .settings) (view st x) k) 0 (λ z. h (e ∙ z))) at (past-host read))
+      call-refused e h = rw e (rw (ne-eqb (answerTo (st .settings) (view st (x .readings)) k) 0 (λ z. h (e ∙ z))) at (past-host is))
 
-      pub call-accepted : answerTo (st .settings) (view st x) k ≡ 0 → Judged.Accepted k ≡ judgedOn st x text area
+      pub call-accepted : answerTo (st .settings) (view st (x .readings)) k ≡ 0 → Judged.Accepted k ≡ judgedOn st x read area
       unfolding judgedWith
-      call-accepted e = rw e at (past-host read)
+      call-accepted e = rw e at (past-host is)
 
 -- ---- what is decided is what a call answers
 
 -- no test fails, and the call is what the text asks for
-pub record Passed (st : State) (x : Columns) (text area : List ℕ) (k : Call) : Type 0 where
+pub record Passed (st : State) (x : Lent) (text area : List ℕ) (k : Call) : Type 0 where
   pub host : firstFailed (hostTests st x area) ≡ 0
-  pub call : answerTo (st .settings) (view st x) k ≡ 0
+  pub call : answerTo (st .settings) (view st (x .readings)) k ≡ 0
   pub done : calledWith st x area (CallRead.Accepted k) ≡ calledOn st x text area
 
-unfoldable pub Answered : State → Columns → List ℕ → List ℕ → Judged → Type 0
+unfoldable pub Answered : State → Lent → List ℕ → List ℕ → Judged → Type 0
 Answered st x text area (Judged.Refused n) = refusedWith n st x area ≡ calledOn st x text area
 Answered st x text area (Judged.Accepted k) = Passed st x text area k
 
-module _ (st : State) (x : Columns) (text area : List ℕ) where
+module _ (st : State) (x : Lent) (text area : List ℕ) where
   module _ (host : firstFailed (hostTests st x area) ≡ 0) where
     left-to-text : {r : CallRead} → callOf text ≡ r → calledWith st x area r ≡ calledOn st x text area
     unfolding calledOn
@@ -94,16 +100,20 @@ module _ (st : State) (x : Columns) (text area : List ℕ) where
     answered-with : (r : CallRead) → callOf text ≡ r → Answered st x text area (judgedWith st x r)
     unfolding judgedWith Answered calledWith
     answered-with (CallRead.Accepted k) e =
-        (elim (eqb (answerTo (st .settings) (view st x) k) 0) as (λ b. eqb (answerTo (st .settings) (view st x) k) 0 ≡ b → Answered st x text area (cond b (Judged.Accepted k) (Judged.Refused (answerTo (st .settings) (view st x) k)))) [
+        let answer : ℕ = answerTo (st .settings) (view st (x .readings)) k in
+        (elim (eqb answer 0) as
+        (λ b. eqb answer 0 ≡ b → Answered st x text area (cond b (Judged.Accepted k) (Judged.Refused answer))) [
           | true ↦ λ t. record { host = host; call = eqb-true _ _ t; done = left-to-text e }
           | false ↦ λ t. rw t at (left-to-text e)
         ]) refl
     answered-with CallRead.Malformed e = left-to-text e
 
-  pub answered : Answered st x text area (judgedOn st x text area)
+  pub answered : Answered st x text area (judgedOn st x (callOf text) area)
   unfolding judgedOn Answered calledOn
   answered =
-      (elim (eqb (firstFailed (hostTests st x area)) 0) as (λ b. eqb (firstFailed (hostTests st x area)) 0 ≡ b → Answered st x text area (cond b (judgedWith st x (callOf text)) (Judged.Refused (firstFailed (hostTests st x area))))) [
+      let host : ℕ = firstFailed (hostTests st x area) in
+      (elim (eqb host 0) as
+      (λ b. eqb host 0 ≡ b → Answered st x text area (cond b (judgedWith st x (callOf text)) (Judged.Refused host))) [
         | true ↦ λ t. answered-with (eqb-true _ _ t) (callOf text) refl
         | false ↦ λ t. rw t
       ]) refl

@@ -1,2 +1,4 @@
--- Laws on the call.
+-- What is decided of a call is what it answers; where a step lacks places.
+pub mod LackingPlaces
+pub mod InOrder
 pub mod Answers

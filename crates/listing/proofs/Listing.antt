@@ -1,4 +1,5 @@
--- The table on document 01's listing: every row computes. Then the statement applied to it: its conditions are met there. Assumes nothing.
+-- The table on document 01's listing: every row computes, without those of the host's tests that find nothing. Then the statement applied
+-- to it: its conditions are met there. Assumes nothing.
 use Prim.Native.Nat.{ℕ, suc, _+_}
 use mathlib.Core.Path.{_≡_, refl, sym, _∙_, ap, ap₂, subst}
 use mathlib.Core.Bool.{false, false≢true}
@@ -15,16 +16,19 @@ use Rattle.record.specs.Layout.{bytesOf}
 use Rattle.protocol.specs.Monitor.{leastBoundary, stableBuckets, leftToWork}
 use Rattle.protocol.specs.FailureFree.{withoutArrival, failureFree}
 use Rattle.protocol.specs.Undos.{stableRecords, doneDue}
+use Rattle.node.specs.Calls.{Called}
 use Rattle.consistency.specs.Runs.{Box, Input, called, left, leftAfter, recordIn}
 use Rattle.consistency.specs.Accounts.{Account, sentIn, boundariesIn}
 use Rattle.consistency.specs.Demand.{isOpened, boxOf, settingsIn, accountOf, outputOf, failureFreeBytes, remaining, Clean, Steps, Unchanged}
 use Rattle.consistency.proofs.Theorem.{demand3}
 use Rattle.examples.specs.Given.{settings}
-use Rattle.listing.specs.Given.{bytesIn, storeOf, settingsLine, arrived, observed, handed, call, readings, step, late}
+use Rattle.listing.specs.Given.{bytesIn, storeOf, lentOf, settingsLine, arrived, observed, handed, call, readings, step, late}
+use Rattle.listing.specs.Given.{fetches, acknowledges, accountShown}
 use Rattle.listing.specs.Given.{tentative, undo, stable, boundary, corrected, accountBefore, accountBehind}
 use Rattle.listing.specs.Given.{twin, twinCall, twinCalls, twinAccount}
 use Rattle.listing.specs.Listing.{Listing}
-use Rattle.listing.proofs.Computed.{callRead, outputFrom}
+use Rattle.listing.proofs.Surely.{surely, ran, account-is, output-is, call-is}
+use Rattle.listing.proofs.Computed.{callRead, ranFrom, readFrom}
 
 -- the step's fields
 abbrev stepCall : Call
@@ -36,25 +40,58 @@ twelve e = omega (arith, e)
 
 -- ---- the openings, the accounts and the outputs
 
+pub opened : isOpened handed
+unfolding bytesIn storeOf lentOf settingsLine handed ranFrom isOpened
+opened = refl
+
 opens-with : settingsIn handed ≡ settings
-unfolding bytesIn storeOf settingsLine settings handed outputFrom
+unfolding bytesIn storeOf lentOf settingsLine settings handed ranFrom
 opens-with = refl
 
+before-ran : ran handed readings .account ≡ accountBefore
+unfolding bytesIn storeOf lentOf settingsLine handed call readings arrived observed accountBefore ranFrom
+before-ran = refl
+
 before-is : accountOf handed readings ≡ accountBefore
-unfolding bytesIn storeOf settingsLine handed call readings arrived observed accountBefore outputFrom
-before-is = refl
+before-is = account-is handed opened readings ∙ before-ran
+
+behind-ran : ran handed (readings ++ step ∷ step ∷ []) .account ≡ accountBehind
+unfolding bytesIn storeOf lentOf settingsLine handed call readings step arrived observed accountBehind ranFrom
+behind-ran = refl
 
 behind-is : accountOf handed (readings ++ step ∷ step ∷ []) ≡ accountBehind
-unfolding bytesIn storeOf settingsLine handed call readings step arrived observed accountBehind outputFrom
-behind-is = refl
+behind-is = account-is handed opened (readings ++ step ∷ step ∷ []) ∙ behind-ran
+
+twin-opened : isOpened twin
+unfolding bytesIn storeOf lentOf settingsLine twin ranFrom isOpened
+twin-opened = refl
 
 twin-opens-with : settingsIn twin ≡ settings
-unfolding bytesIn storeOf settingsLine settings twin outputFrom
+unfolding bytesIn storeOf lentOf settingsLine settings twin ranFrom
 twin-opens-with = refl
 
+twin-ran : ran twin twinCalls .account ≡ twinAccount
+unfolding bytesIn storeOf lentOf settingsLine twin twinCall twinCalls arrived observed twinAccount ranFrom
+twin-ran = refl
+
 twin-is : accountOf twin twinCalls ≡ twinAccount
-unfolding bytesIn storeOf settingsLine twin twinCall twinCalls arrived observed twinAccount outputFrom
-twin-is = refl
+twin-is = account-is twin twin-opened twinCalls ∙ twin-ran
+
+first-bytes : ran handed readings .bytes ≡ tentative ∷ []
+unfolding bytesIn storeOf lentOf settingsLine handed call readings tentative ranFrom
+first-bytes = refl
+
+next-bytes : ran handed (readings ++ step ∷ step ∷ []) .bytes ≡ tentative ∷ undo ∷ stable ∷ boundary ∷ []
+unfolding bytesIn storeOf lentOf settingsLine handed call readings step tentative undo stable boundary ranFrom
+next-bytes = refl
+
+all-bytes : ran handed (readings ++ step ∷ step ∷ step ∷ step ∷ []) .bytes ≡ tentative ∷ undo ∷ stable ∷ boundary ∷ corrected ∷ []
+unfolding bytesIn storeOf lentOf settingsLine handed call readings step tentative undo stable boundary corrected ranFrom
+all-bytes = refl
+
+twin-bytes : ran twin twinCalls .bytes ≡ stable ∷ boundary ∷ []
+unfolding bytesIn storeOf lentOf settingsLine twin twinCall twinCalls stable boundary ranFrom
+twin-bytes = refl
 
 pub one-left : remaining handed readings ≡ 1
 unfolding remaining leftToWork stableBuckets leastBoundary settings arrived observed accountBefore
@@ -71,8 +108,14 @@ first = left before step
 abbrev pub passed : Box
 passed = left first late
 
-abbrev second : Box
+abbrev pub second : Box
 second = left passed step
+
+abbrev fetched : Box
+fetched = left second fetches
+
+abbrev pub shown : Box
+shown = left fetched acknowledges
 
 reads : callOf (bytesIn "now=62 line=0 kind=P id=0 time=0 meter=0 value=0\n") ≡ CallRead.Accepted stepCall
 unfolding bytesIn callRead
@@ -82,35 +125,85 @@ is-step : kindOf (stepCall .kind) ≡ Kind.P
 unfolding kindOf
 is-step = refl
 
+first-ran : surely (ran handed (readings ++ []) .box) step .answer ≡ 0
+unfolding bytesIn storeOf lentOf settingsLine handed call readings step late fetches acknowledges ranFrom
+first-ran = refl
+
 pub first-answer : called before step .answer ≡ 0
-unfolding bytesIn storeOf settingsLine handed call readings step outputFrom
-first-answer = refl
+unfolding leftAfter
+first-answer = ap (λ (r : Called). r .answer) (call-is handed opened readings ([]) step) ∙ first-ran
+
+late-ran : surely (ran handed (readings ++ step ∷ []) .box) late .answer ≡ 12
+unfolding bytesIn storeOf lentOf settingsLine handed call readings step late fetches acknowledges ranFrom
+late-ran = refl
 
 pub late-answer : called first late .answer ≡ 12
-unfolding bytesIn storeOf settingsLine handed call readings step late outputFrom
-late-answer = refl
+unfolding leftAfter
+late-answer = ap (λ (r : Called). r .answer) (call-is handed opened readings (step ∷ []) late) ∙ late-ran
+
+second-ran : surely (ran handed (readings ++ step ∷ late ∷ []) .box) step .answer ≡ 0
+unfolding bytesIn storeOf lentOf settingsLine handed call readings step late fetches acknowledges ranFrom
+second-ran = refl
 
 pub second-answer : called passed step .answer ≡ 0
-unfolding bytesIn storeOf settingsLine handed call readings step late outputFrom
-second-answer = refl
+unfolding leftAfter
+second-answer = ap (λ (r : Called). r .answer) (call-is handed opened readings (step ∷ late ∷ []) step) ∙ second-ran
 
-third-answer : called second step .answer ≡ 0
-unfolding bytesIn storeOf settingsLine handed call readings step late outputFrom
-third-answer = refl
+third-ran : surely (ran handed (readings ++ step ∷ late ∷ step ∷ fetches ∷ acknowledges ∷ []) .box) step .answer ≡ 0
+unfolding bytesIn storeOf lentOf settingsLine handed call readings step late fetches acknowledges ranFrom
+third-ran = refl
+
+third-answer : called shown step .answer ≡ 0
+unfolding leftAfter
+third-answer = ap (λ (r : Called). r .answer) (call-is handed opened readings (step ∷ late ∷ step ∷ fetches ∷ acknowledges ∷ []) step) ∙ third-ran
 
 pub one-step : (b : Box) (n : ℕ) (is : List Input) → called b step .answer ≡ 0 → Steps (left b step) n is → Steps b (suc n) (step ∷ is)
 unfolding step call
 one-step b n is accepted more =
     Steps.step (bytesIn "now=62 line=0 kind=P id=0 time=0 meter=0 value=0\n") (replicate 2080 0) stepCall reads is-step accepted more
 
-pub three-steps : Steps before 3 (step ∷ late ∷ step ∷ step ∷ [])
-three-steps =
-    one-step before 2 (late ∷ step ∷ step ∷ []) first-answer
-    (Steps.refused {b = first} {n = 2} {is = step ∷ step ∷ []} late (λ e. twelve (sym late-answer ∙ e))
-    (one-step passed 1 (step ∷ []) second-answer (one-step second 0 [] third-answer (Steps.rest {b = left second step}))))
+-- the display's calls between steps
+pub aside : (n : ℕ) (is : List Input) → Steps shown n is → Steps second n (fetches ∷ acknowledges ∷ is)
+unfolding fetches acknowledges
+aside n is more = Steps.fetch 1 1 (replicate 2080 0) (Steps.acknowledge 1 1 (replicate 2080 0) more)
 
-enough-steps : Steps before (remaining handed readings + 2) (step ∷ late ∷ step ∷ step ∷ [])
-enough-steps = subst (λ (n : ℕ). Steps before (n + 2) (step ∷ late ∷ step ∷ step ∷ [])) (sym one-left) three-steps
+pub three-steps : Steps before 3 (step ∷ late ∷ step ∷ fetches ∷ acknowledges ∷ step ∷ [])
+three-steps =
+    one-step before 2 (late ∷ step ∷ fetches ∷ acknowledges ∷ step ∷ []) first-answer
+    (Steps.refused {b = first} {n = 2} {is = step ∷ fetches ∷ acknowledges ∷ step ∷ []} late (λ e. twelve (sym late-answer ∙ e))
+    (one-step passed 1 (fetches ∷ acknowledges ∷ step ∷ []) second-answer
+    (aside 1 (step ∷ []) (one-step shown 0 [] third-answer (Steps.rest {b = left shown step})))))
+
+enough-steps : Steps before (remaining handed readings + 2) (step ∷ late ∷ step ∷ fetches ∷ acknowledges ∷ step ∷ [])
+enough-steps =
+    subst (λ (n : ℕ). Steps before (n + 2) (step ∷ late ∷ step ∷ fetches ∷ acknowledges ∷ step ∷ [])) (sym one-left) three-steps
+
+-- ---- the refused call, and the display's calls
+
+too-late-ran : surely (ran handed (readings ++ []) .box) late .answer ≡ 12
+unfolding bytesIn storeOf lentOf settingsLine handed call readings late ranFrom
+too-late-ran = refl
+
+too-late : called before late .answer ≡ 12
+unfolding leftAfter
+too-late = ap (λ (r : Called). r .answer) (call-is handed opened readings [] late) ∙ too-late-ran
+
+fetch-ran : surely (ran handed ((readings ++ step ∷ step ∷ []) ++ []) .box) fetches .records ≡ 1
+unfolding bytesIn storeOf lentOf settingsLine handed call readings step fetches ranFrom
+fetch-ran = refl
+
+fetch-gives : called (leftAfter (boxOf handed) (readings ++ step ∷ step ∷ [])) fetches .records ≡ 1
+unfolding leftAfter
+fetch-gives = ap (λ (r : Called). r .records) (call-is handed opened (readings ++ step ∷ step ∷ []) [] fetches) ∙ fetch-ran
+
+shown-ran : ran handed (readings ++ step ∷ step ∷ fetches ∷ acknowledges ∷ []) .account ≡ accountShown
+unfolding bytesIn storeOf lentOf settingsLine handed call readings step fetches acknowledges ranFrom arrived observed accountBehind accountShown
+shown-ran = refl
+
+shown-bytes :
+    ran handed (readings ++ step ∷ step ∷ fetches ∷ acknowledges ∷ step ∷ []) .bytes ≡ tentative ∷ undo ∷ stable ∷ boundary ∷ corrected ∷ []
+unfolding bytesIn storeOf lentOf settingsLine handed call readings step fetches acknowledges tentative undo stable boundary corrected ranFrom
+shown-bytes = refl
 
 -- ---- whole
 
@@ -119,7 +212,7 @@ unfolding failureFreeBytes failureFree accountBefore
 none-owed = ap₂ (λ (s : Settings) (a : Account). map bytesOf (failureFree s (a .stables) (a .monitor .d) .records)) opens-with before-is
 
 one-owed : failureFreeBytes handed (readings ++ step ∷ step ∷ []) ≡ stable ∷ []
-unfolding failureFreeBytes settings arrived accountBehind stable outputFrom
+unfolding failureFreeBytes failureFree settings arrived accountBehind stable ranFrom
 one-owed = ap₂ (λ (s : Settings) (a : Account). map bytesOf (failureFree s (a .stables) (a .monitor .d) .records)) opens-with behind-is
 
 none-left : remaining handed (readings ++ step ∷ step ∷ []) ≡ 0
@@ -147,14 +240,14 @@ unfolding boundariesIn observed twinAccount
 twin-boundaries-are = refl
 
 pub listing : Listing
-unfolding bytesIn storeOf settingsLine handed call readings step late tentative undo stable boundary corrected twin twinCall twinCalls outputFrom isOpened
+unfolding leftAfter tentative undo stable boundary corrected readFrom
 listing =
     record {
-      opened = refl;
+      opened = opened;
       opensWith = opens-with;
-      uncorrected = refl;
-      correcting = refl;
-      whole = refl;
+      uncorrected = output-is handed opened readings ∙ first-bytes;
+      correcting = output-is handed opened (readings ++ step ∷ step ∷ []) ∙ next-bytes;
+      whole = output-is handed opened (readings ++ step ∷ step ∷ step ∷ step ∷ []) ∙ all-bytes;
       standing = refl;
       noneStable = refl;
       standingNow = refl;
@@ -173,9 +266,12 @@ listing =
       noneOwed = none-owed;
       noneLeft = none-left;
       oneOwed = one-owed;
-      lateAnswer = refl;
+      lateAnswer = too-late;
+      fetchGives = fetch-gives;
+      shown = account-is handed opened (readings ++ step ∷ step ∷ fetches ∷ acknowledges ∷ []) ∙ shown-ran;
+      notGivenAgain = output-is handed opened (readings ++ step ∷ step ∷ fetches ∷ acknowledges ∷ step ∷ []) ∙ shown-bytes;
       steps = enough-steps;
-      twinOpened = refl;
+      twinOpened = twin-opened;
       twinOpensWith = twin-opens-with;
       twinBehind = twin-is;
       sent = ap sentIn behind-is ∙ sent-is;
@@ -183,7 +279,7 @@ listing =
       boundaries = ap boundariesIn behind-is ∙ boundaries-are;
       twinBoundaries = ap boundariesIn twin-is ∙ twin-boundaries-are;
       twinNoneLeft = twin-none-left;
-      twinOutput = refl;
+      twinOutput = output-is twin twin-opened twinCalls ∙ twin-bytes;
     }
 
 -- ---- the theorem there
@@ -195,11 +291,11 @@ agreed =
     (readings ++ step ∷ step ∷ []) twinCalls (listing .sent ∙ sym (listing .twinSent)) (listing .boundaries ∙ sym (listing .twinBoundaries))
     (listing .noneLeft) (listing .twinNoneLeft)
 
--- the steps, a refused call among them
+-- the steps, a refused call and the display's calls among them
 settled :
-    (remaining handed (readings ++ step ∷ late ∷ step ∷ step ∷ []) ≡ 0) ×
-    (doneDue recordIn false (outputOf handed (readings ++ step ∷ late ∷ step ∷ step ∷ [])) ≡ false)
-settled = demand3 .settles handed (listing .opened) readings (step ∷ late ∷ step ∷ step ∷ []) (listing .steps)
+    (remaining handed (readings ++ step ∷ late ∷ step ∷ fetches ∷ acknowledges ∷ step ∷ []) ≡ 0) ×
+    (doneDue recordIn false (outputOf handed (readings ++ step ∷ late ∷ step ∷ fetches ∷ acknowledges ∷ step ∷ [])) ≡ false)
+settled = demand3 .settles handed (listing .opened) readings (step ∷ late ∷ step ∷ fetches ∷ acknowledges ∷ step ∷ []) (listing .steps)
 
 -- the corrections, and the refused call
 cleaned : Clean handed (readings ++ step ∷ step ∷ [])

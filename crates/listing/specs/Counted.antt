@@ -11,7 +11,7 @@ use Rattle.node.specs.declared.State.{State}
 use Rattle.consistency.specs.Runs.{Box, Input, leftAfter}
 use Rattle.consistency.specs.Demand.{boxOf, Steps}
 use Rattle.consistency.specs.Exactly.{leftIn, stepsFrom}
-use Rattle.listing.specs.Given.{handed, readings, step, late}
+use Rattle.listing.specs.Given.{handed, readings, step, late, fetches, acknowledges}
 
 -- the box of the listing after these calls
 unfoldable pub listed : List Input → Box
@@ -32,8 +32,9 @@ made =
             c = 2;
             p = 2;
             phase = Phase.Correcting;
+            acknowledged = st .acknowledged;
           };
-      columns = boxOf handed .columns;
+      lent = boxOf handed .lent;
     }
 
 pub record Counted : Type 0 where
@@ -63,9 +64,9 @@ pub record Counted : Type 0 where
   -- behind the R no more
   pub neededNoMore : stepsFrom (listed (readings ++ step ∷ step ∷ step ∷ []) .state) 0 ≡ 0
   pub correctingNoMore : isCorrecting (listed (readings ++ step ∷ step ∷ step ∷ []) .state .phase) ≡ false
-  -- two steps, one short of enough, and three, a refused call between them
-  pub twoSteps : Steps (listed readings) 2 (step ∷ late ∷ step ∷ [])
-  pub threeSteps : Steps (listed readings) 3 (step ∷ late ∷ step ∷ step ∷ [])
+  -- two steps, one short of enough, and three, a refused call and the display's calls among them
+  pub twoSteps : Steps (listed readings) 2 (step ∷ late ∷ step ∷ fetches ∷ acknowledges ∷ [])
+  pub threeSteps : Steps (listed readings) 3 (step ∷ late ∷ step ∷ fetches ∷ acknowledges ∷ step ∷ [])
   -- the host's box: nothing is left below c, and one step ends the correction
   pub madeHeads : length (made .state .heads) ≡ 8
   pub madeLeft : leftIn made ≡ 0

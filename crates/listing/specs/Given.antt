@@ -1,6 +1,6 @@
--- Document 01's listing as calls on a box, and a twin box that was handed the same stable readings in another way: a state in use and a
--- longer store before its opening, other clocks, other output areas, line 2 before line 1, and a tentative reading, taken back again. The
--- settings are those of the starred examples. Assumes nothing.
+-- Document 01's listing as calls on a box, and a twin box that was handed the same stable readings in another way: a state in use and
+-- longer stores before its opening, other clocks, other output areas, line 2 before line 1, a tentative reading, taken back again, and a
+-- display that fetches and acknowledges. The settings are those of the starred examples. Assumes nothing.
 use Prim.Native.Nat.{ℕ}
 use Prim.Native.Char.{code}
 use Prim.Native.String.{String}
@@ -12,6 +12,7 @@ use lib.ListN.{replicate}
 use Rattle.store.specs.declared.Reading.{Reading}
 use Rattle.store.specs.Columns.{Columns}
 use Rattle.protocol.specs.Monitor.{LineMonitor}
+use Rattle.node.specs.View.{Lent}
 use Rattle.node.specs.Opening.{closedState}
 use Rattle.consistency.specs.Runs.{Input, leftAfter}
 use Rattle.consistency.specs.Accounts.{Account}
@@ -34,8 +35,12 @@ storeOf places n =
       meters = replicate places n;
     }
 
+-- what is lent to a box: that store, and a send-back store of so many bytes, the same number in all of them
+unfoldable pub lentOf : ℕ → ℕ → ℕ → Lent
+lentOf places bytes n = record { readings = storeOf places n; sent = replicate bytes n }
+
 unfoldable pub settingsLine : List ℕ
-settingsLine = bytesIn "lines=2 bucket=100 window=1 hold=50 low=-1000 high=1000\n"
+settingsLine = bytesIn "lines=2 bucket=100 window=1 hold=50 low=-1000 high=1000 displays=1\n"
 
 -- the stable readings that both boxes are sent, line by line, if they arrive at these ticks
 unfoldable pub arrived : ℕ → ℕ → List (List Reading)
@@ -52,7 +57,7 @@ observed a b =
 -- ---- the listing
 
 unfoldable pub handed : Handed
-handed = record { state = closedState; columns = storeOf 512 0; text = settingsLine }
+handed = record { state = closedState; lent = lentOf 512 16384 0; text = settingsLine }
 
 unfoldable pub call : String → Input
 call s = Input.journal (bytesIn s) (replicate 2080 0)
@@ -70,6 +75,13 @@ step = call "now=62 line=0 kind=P id=0 time=0 meter=0 value=0\n"
 
 unfoldable pub late : Input
 late = call "now=63 line=1 kind=S id=2 time=99 meter=3 value=7\n"
+
+-- its display fetches the stable result, and acknowledges it
+unfoldable pub fetches : Input
+fetches = Input.fetch 1 1 (replicate 2080 0)
+
+unfoldable pub acknowledges : Input
+acknowledges = Input.acknowledge 1 1 (replicate 2080 0)
 
 -- its records: kind, meter, two zeros and id; start and count; sum; mean and last
 unfoldable pub tentative : List ℕ
@@ -95,17 +107,22 @@ boundary = 66 ∷ 0 ∷ 0 ∷ 0 ∷ 0 ∷ 0 ∷ 0 ∷ 0 ∷ 100 ∷ replicate 23
 unfoldable pub corrected : List ℕ
 corrected = 82 ∷ replicate 31 0
 
--- its account before the corrections, and behind them
+-- its account before the corrections, and behind the stable result; behind the display's calls
 unfoldable pub accountBefore : Account
-accountBefore = record { monitor = record { d = 0; t = 1; mark = false; lines = observed 0 60 }; stables = arrived 0 60 }
+accountBefore =
+    record { monitor = record { d = 0; t = 1; mark = false; lines = observed 0 60 }; stables = arrived 0 60; acknowledged = 0 ∷ [] }
 
 unfoldable pub accountBehind : Account
-accountBehind = record { monitor = record { d = 1; t = 1; mark = true; lines = observed 0 60 }; stables = arrived 0 60 }
+accountBehind =
+    record { monitor = record { d = 1; t = 1; mark = true; lines = observed 0 60 }; stables = arrived 0 60; acknowledged = 0 ∷ [] }
+
+unfoldable pub accountShown : Account
+accountShown = record { monitor = accountBehind .monitor; stables = accountBehind .stables; acknowledged = 1 ∷ [] }
 
 -- ---- the twin
 
 unfoldable pub twin : Handed
-twin = record { state = leftAfter (boxOf handed) readings .state; columns = storeOf 600 9; text = settingsLine }
+twin = record { state = leftAfter (boxOf handed) readings .state; lent = lentOf 600 17000 9; text = settingsLine }
 
 unfoldable pub twinCall : String → Input
 twinCall s = Input.journal (bytesIn s) (replicate 2112 255)
@@ -118,8 +135,15 @@ twinCalls =
     twinCall "now=1002 line=1 kind=U id=0 time=0 meter=0 value=0\n" ∷
     twinCall "now=1003 line=1 kind=S id=1 time=10 meter=3 value=7\n" ∷
     twinCall "now=1004 line=1 kind=B id=0 time=100 meter=0 value=0\n" ∷
-    twinCall "now=1005 line=0 kind=P id=0 time=0 meter=0 value=0\n" ∷ []
+    twinCall "now=1005 line=0 kind=P id=0 time=0 meter=0 value=0\n" ∷
+    Input.fetch 1 1 (replicate 2112 255) ∷
+    Input.acknowledge 1 1 (replicate 2112 255) ∷ []
 
 -- its account
 unfoldable pub twinAccount : Account
-twinAccount = record { monitor = record { d = 1; t = 1; mark = false; lines = observed 1003 1000 }; stables = arrived 1003 1000 }
+twinAccount =
+    record {
+      monitor = record { d = 1; t = 1; mark = false; lines = observed 1003 1000 };
+      stables = arrived 1003 1000;
+      acknowledged = 1 ∷ [];
+    }

@@ -12,8 +12,9 @@ use Rattle.consistency.specs.Runs.{called, leftAfter, recordIn}
 use Rattle.consistency.specs.Accounts.{sentIn, boundariesIn}
 use Rattle.consistency.specs.Demand.{isOpened, boxOf, settingsIn, accountOf, outputOf, failureFreeBytes, remaining, Steps}
 use Rattle.examples.specs.Given.{settings}
-use Rattle.listing.specs.Given.{arrived, handed, readings, step, late, tentative, undo, stable, boundary, corrected}
-use Rattle.listing.specs.Given.{accountBefore, accountBehind, twin, twinCalls, twinAccount}
+use Rattle.listing.specs.Given.{arrived, handed, readings, step, late, fetches, acknowledges}
+use Rattle.listing.specs.Given.{tentative, undo, stable, boundary, corrected, accountBefore, accountBehind, accountShown}
+use Rattle.listing.specs.Given.{twin, twinCalls, twinAccount}
 
 pub record Listing : Type 0 where
   -- the opening
@@ -48,8 +49,16 @@ pub record Listing : Type 0 where
   pub oneOwed : failureFreeBytes handed (readings ++ step ∷ step ∷ []) ≡ stable ∷ []
   -- a reading that is late is refused
   pub lateAnswer : called (leftAfter (boxOf handed) readings) late .answer ≡ 12
-  -- so many steps, a refused call among them
-  pub steps : Steps (leftAfter (boxOf handed) readings) (remaining handed readings + 2) (step ∷ late ∷ step ∷ step ∷ [])
+  -- the display is given the record, but the output is not, and the monitor passes the calls over
+  pub fetchGives : called (leftAfter (boxOf handed) (readings ++ step ∷ step ∷ [])) fetches .records ≡ 1
+  pub shown : accountOf handed (readings ++ step ∷ step ∷ fetches ∷ acknowledges ∷ []) ≡ accountShown
+  pub notGivenAgain :
+      outputOf handed (readings ++ step ∷ step ∷ fetches ∷ acknowledges ∷ step ∷ []) ≡
+      tentative ∷ undo ∷ stable ∷ boundary ∷ corrected ∷ []
+  -- so many steps, a refused call and the display's two calls among them
+  pub steps :
+      Steps (leftAfter (boxOf handed) readings) (remaining handed readings + 2)
+      (step ∷ late ∷ step ∷ fetches ∷ acknowledges ∷ step ∷ [])
   -- the twin: another day, the same settings, readings and boundaries, and the same stable result
   pub twinOpened : isOpened twin
   pub twinOpensWith : settingsIn twin ≡ settings

@@ -1,6 +1,6 @@
 -- A call: a refused one changes nothing; an accepted one passed every test, and leaves the outcome of the call that was read, laid into
 -- state, store and area. By cases on the first test that fails and on what the text is read as. Assumes nothing.
-use Prim.Native.Nat.{ℕ, _*_, _≤_}
+use Prim.Native.Nat.{ℕ, _≤_}
 use mathlib.Core.Path.{_≡_, refl, _∙_, ap}
 use mathlib.Core.Bool.{Bool, true, false, cond}
 use mathlib.Core.List.{List}
@@ -15,94 +15,96 @@ use Rattle.journal.specs.declared.CallRead.the-variants as CallRead
 use Rattle.journal.specs.JournalLine.{lineText, callAnswer, CallFits}
 use Rattle.journal.specs.ReadLine.{callOf}
 use Rattle.journal.proofs.Exact.{accepted-line}
-use Rattle.store.specs.Lists.{Every}
-use Rattle.protocol.specs.Refusals.{Test, firstFailed, answerTo}
-use Rattle.store.specs.Sizes.{readingsPerLine}
+use Rattle.store.specs.Lists.{allOf}
+use Rattle.protocol.specs.Refusals.{firstFailed, answerTo}
 use Rattle.protocol.specs.Calls.{outcomeOf}
-use Rattle.protocol.proofs.Passed.{none-failed}
+use Rattle.protocol.proofs.FirstFailed.{numbered, failsWith, passes-each}
 use Rattle.node.specs.Sizes.{areaBytes}
-use Rattle.store.specs.Columns.{storeLength, Columns}
-use Rattle.node.specs.View.{places, view, putState, putColumns}
+use Rattle.store.specs.Columns.{storeLength}
+use Rattle.retransmission.specs.Sizes.{heldBytes}
+use Rattle.node.proofs.Opening.{not-short, long-enough}
+use Rattle.node.specs.View.{Lent, places, view, putState}
 use Rattle.node.specs.Shape.{inShape}
-use Rattle.node.specs.Opening.{isShort}
-use Rattle.node.specs.Calls.{Called, hostTests, refusedWith, calledWith, calledOn}
+use Rattle.node.specs.Calls.{Called, hostTests, putLent, refusedWith, calledWith, calledOn}
 use Rattle.record.specs.Layout.{allBytes}
 use Rattle.node.specs.declared.State.{State}
 
 -- what a refused call hands back
-pub record Untouched (st : State) (x : Columns) (area : List ℕ) (r : Called) : Type 0 where
+pub record Untouched (st : State) (x : Lent) (area : List ℕ) (r : Called) : Type 0 where
   pub records : r .records ≡ 0
   pub state : r .state ≡ st
-  pub columns : r .columns ≡ x
+  pub lent : r .lent ≡ x
   pub bytes : r .area ≡ area
 
 -- what an accepted call returns and leaves
-abbrev pub laidDown : State → Columns → List ℕ → Call → Called
+abbrev pub laidDown : State → Lent → List ℕ → Call → Called
 laidDown st x area k =
     record {
       answer = 0;
-      records = length (outcomeOf (st .settings) (view st x) k .records);
-      state = putState st (outcomeOf (st .settings) (view st x) k .node);
-      columns = putColumns st x (outcomeOf (st .settings) (view st x) k .node);
-      area = inFront (allBytes (outcomeOf (st .settings) (view st x) k .records)) area;
+      records = length (outcomeOf (st .settings) (view st (x .readings)) k .records);
+      state = putState st (outcomeOf (st .settings) (view st (x .readings)) k .node);
+      lent = putLent st x (outcomeOf (st .settings) (view st (x .readings)) k);
+      area = inFront (allBytes (outcomeOf (st .settings) (view st (x .readings)) k .records)) area;
     }
 
 -- the host's three tests passed
-pub record HostPassed (st : State) (x : Columns) (area : List ℕ) : Type 0 where
-  pub room : places st ≤ storeLength x
+pub record HostPassed (st : State) (x : Lent) (area : List ℕ) : Type 0 where
+  pub room : places st ≤ storeLength (x .readings)
+  pub sent : heldBytes ≤ length (x .sent)
   pub shape : inShape st x ≡ true
   pub bytes : areaBytes ≤ length area
 
 -- what an accepted call was handed, and what it leaves
-pub record AcceptedOn (st : State) (x : Columns) (text area : List ℕ) : Type 0 where
+pub record AcceptedOn (st : State) (x : Lent) (text area : List ℕ) : Type 0 where
   pub host : HostPassed st x area
   pub call : Call
   pub read : callOf text ≡ CallRead.Accepted call
   pub fits : CallFits call
   pub spelled : text ≡ lineText call
-  pub answered : answerTo (st .settings) (view st x) call ≡ 0
+  pub answered : answerTo (st .settings) (view st (x .readings)) call ≡ 0
   pub leaves : calledOn st x text area ≡ laidDown st x area call
 
 -- ---- the host's tests
 
-module _ (st : State) (x : Columns) (area : List ℕ) where
+module _ (st : State) (x : Lent) (area : List ℕ) where
   pub host-passed : firstFailed (hostTests st x area) ≡ 0 → HostPassed st x area
-  unfolding hostTests isShort places
+  unfolding hostTests places numbered allOf failsWith
   host-passed e =
-      let h : Every (λ (t : Test). t .fails ≡ false) (hostTests st x area) = none-failed (hostTests st x area) (omega arith) e in
-      record { room = ltb-false _ _ (h .0); shape = not-false _ (h .1 .0); bytes = ltb-false _ _ (h .1 .1 .0) }
+      let passes = passes-each (hostTests st x area) refl e in
+      let long = not-short (st .settings .lines) x (passes 3) in
+      record { room = long .0; sent = long .1; shape = not-false _ (passes 4); bytes = ltb-false _ _ (passes 5) }
 
   pub host-passes : HostPassed st x area → firstFailed (hostTests st x area) ≡ 0
-  unfolding hostTests isShort places firstFailed
+  unfolding hostTests places firstFailed
   host-passes h =
       rw (
-        le-ltb (storeLength x) (st .settings .lines * readingsPerLine) (h .room),
+        long-enough (st .settings .lines) x (h .room) (h .sent),
         h .shape,
         le-ltb (length area) areaBytes (h .bytes),
       )
 
   -- a call that was read, accepted or not
   abbrev journalIf : Call → Bool → Called
-  journalIf k b = cond b (laidDown st x area k) (refusedWith (answerTo (st .settings) (view st x) k) st x area)
+  journalIf k b = cond b (laidDown st x area k) (refusedWith (answerTo (st .settings) (view st (x .readings)) k) st x area)
 
-  refused-with : (n : ℕ) → Untouched st x area (refusedWith n st x area)
+  pub refused-with : (n : ℕ) → Untouched st x area (refusedWith n st x area)
   unfolding refusedWith
-  refused-with n = record { records = refl; state = refl; columns = refl; bytes = refl }
+  refused-with n = record { records = refl; state = refl; lent = refl; bytes = refl }
 
   refused-read : (r : CallRead) → (calledWith st x area r .answer ≡ 0 → ⊥) → Untouched st x area (calledWith st x area r)
   unfolding calledWith
   refused-read (CallRead.Accepted k) e =
-      (elim (eqb (answerTo (st .settings) (view st x) k) 0) as
+      (elim (eqb (answerTo (st .settings) (view st (x .readings)) k) 0) as
       (λ b. (journalIf k b .answer ≡ 0 → ⊥) → Untouched st x area (journalIf k b)) [
         | true ↦ λ e. absurd (e refl)
-        | false ↦ λ e. refused-with (answerTo (st .settings) (view st x) k)
+        | false ↦ λ e. refused-with (answerTo (st .settings) (view st (x .readings)) k)
       ])
       e
   refused-read CallRead.Malformed e = refused-with (callAnswer CallRead.Malformed)
 
 -- ---- a call
 
-module _ (st : State) (x : Columns) (text area : List ℕ) where
+module _ (st : State) (x : Lent) (text area : List ℕ) where
   -- a call, the host's tests passed or not
   abbrev hostIf : Bool → Called
   hostIf b = cond b (calledWith st x area (callOf text)) (refusedWith (firstFailed (hostTests st x area)) st x area)
@@ -125,8 +127,8 @@ module _ (st : State) (x : Columns) (text area : List ℕ) where
   accepted-read : HostPassed st x area → (r : CallRead) → callOf text ≡ r → calledWith st x area r .answer ≡ 0 → AcceptedOn st x text area
   unfolding calledWith refusedWith callAnswer
   accepted-read h (CallRead.Accepted k) q e =
-      (elim (eqb (answerTo (st .settings) (view st x) k) 0) as
-      (λ b. eqb (answerTo (st .settings) (view st x) k) 0 ≡ b → journalIf st x area k b .answer ≡ 0 → AcceptedOn st x text area) [
+      (elim (eqb (answerTo (st .settings) (view st (x .readings)) k) 0) as
+      (λ b. eqb (answerTo (st .settings) (view st (x .readings)) k) 0 ≡ b → journalIf st x area k b .answer ≡ 0 → AcceptedOn st x text area) [
         | true ↦ λ t e.
             record {
               host = h;
@@ -154,10 +156,10 @@ module _ (st : State) (x : Columns) (text area : List ℕ) where
       refl e
 
   -- and a call that passes every test is accepted
-  pub accepts-call : HostPassed st x area → (k : Call) → callOf text ≡ CallRead.Accepted k → answerTo (st .settings) (view st x) k ≡ 0 → calledOn st x text area ≡ laidDown st x area k
+  pub accepts-call : HostPassed st x area → (k : Call) → callOf text ≡ CallRead.Accepted k → answerTo (st .settings) (view st (x .readings)) k ≡ 0 → calledOn st x text area ≡ laidDown st x area k
   unfolding calledWith
   accepts-call h k q e =
-      called-past-host h ∙ ap (calledWith st x area) q ∙ rw (eq-eqb (answerTo (st .settings) (view st x) k) 0 e)
+      called-past-host h ∙ ap (calledWith st x area) q ∙ rw (eq-eqb (answerTo (st .settings) (view st (x .readings)) k) 0 e)
 
   -- what holds after a refused call and after an accepted one holds after any
   pub either-way : (P : Called → Type 0) → (Untouched st x area (calledOn st x text area) → P (calledOn st x text area)) → (AcceptedOn st x text area → P (calledOn st x text area)) → P (calledOn st x text area)

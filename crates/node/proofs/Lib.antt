@@ -15,8 +15,11 @@ pub mod KeptLines
 pub mod Outcomes
 pub mod Calls
 pub mod AfterCalls
+pub mod Displays
+pub mod Sent
 pub mod Gathered
 pub mod Fits
 pub mod Times
 pub mod Results
 pub mod Records
+pub mod Few

@@ -5,12 +5,13 @@ use mathlib.Core.Path.{_≡_, refl, sym, _∙_, ap, ap₂, subst}
 use mathlib.Core.Bool.{Bool, true, false, cond}
 use mathlib.Core.List.{List, _∷_}
 use native.Mathlib.Omega.{arith}
-use borrow.Author.Tests.{ltb-false}
+use borrow.Author.Tests.{ltb-false, le-ltb}
+use lib.Dec.{ltb}
 use lib.ListN.{length, take, drop, replicate, length-replicate}
 use Rattle.settings.specs.declared.Settings.{Settings}
 use Rattle.settings.specs.declared.SettingsRead.{SettingsRead}
 use Rattle.settings.specs.declared.SettingsRead.the-variants as SettingsRead
-use Rattle.settings.specs.Limits.{maxLines, withinLimits, SettingsFit}
+use Rattle.settings.specs.Limits.{maxLines, maxDisplays, withinLimits, SettingsFit}
 use Rattle.settings.specs.SettingsLine.{settingsText, settingsAnswer, limited}
 use Rattle.settings.specs.ReadLine.{settingsOf}
 use Rattle.settings.proofs.Exact.{exact-settings}
@@ -19,8 +20,11 @@ use Rattle.store.specs.Lists.{Every}
 use Rattle.protocol.specs.Node.{Line, noLine, opened}
 use Rattle.store.specs.Sizes.{readingsPerLine}
 use Rattle.store.specs.Columns.{withRows, rows, storeLength, Columns, zeroed}
-use Rattle.node.specs.View.{viewLine, viewLines, places, view, headOf}
-use Rattle.node.specs.Opening.{Opened, isShort, freshState, openedWith, openedOn}
+use Rattle.retransmission.specs.Sizes.{heldResults, heldBytes}
+use Rattle.retransmission.specs.Places.{emptyPlace, withPlaces}
+use Rattle.protocol.proofs.Displays.{neither}
+use Rattle.node.specs.View.{Lent, viewLine, viewLines, places, view, headOf}
+use Rattle.node.specs.Opening.{Opened, sharesShort, isShort, freshState, openedWith, openedOn}
 use Rattle.node.specs.declared.LineHead.{LineHead}
 use Rattle.node.specs.declared.State.{State}
 use Rattle.node.proofs.Lists.{every-replicate}
@@ -73,11 +77,16 @@ lines-fresh zero m rs h = refl
 lines-fresh (suc n) zero rs h = absurd (omega arith)
 lines-fresh (suc n) (suc m) rs h = ap (_∷_ noLine) (lines-fresh n m (drop readingsPerLine rs) (omega arith))
 
+take-replicate : (n m : ℕ) (z : ℕ) → n ≤ m → take n (replicate m z) ≡ replicate n z
+take-replicate zero m z h = refl
+take-replicate (suc n) zero z h = absurd (omega arith)
+take-replicate (suc n) (suc m) z h = ap (_∷_ z) (take-replicate n m z (omega arith))
+
 -- over any store a fresh state stands for the opened node
-pub view-fresh : (s : Settings) (x : Columns) → s .lines ≤ maxLines → view (freshState s) x ≡ opened s
+pub view-fresh : (s : Settings) (x : Columns) → s .lines ≤ maxLines → s .displays ≤ maxDisplays → view (freshState s) x ≡ opened s
 unfolding view freshState opened places
-view-fresh s x h =
-    ap (λ (ls : List Line).
+view-fresh s x h d =
+    ap₂ (λ (ls : List Line) (ids : List ℕ).
     record {
       clock = opened s .clock;
       c = opened s .c;
@@ -86,8 +95,9 @@ view-fresh s x h =
       operator = opened s .operator;
       checkpoint = opened s .checkpoint;
       lines = ls;
+      acknowledged = ids;
     })
-    (lines-fresh (s .lines) maxLines (rows x (s .lines * readingsPerLine)) h)
+    (lines-fresh (s .lines) maxLines (rows x (s .lines * readingsPerLine)) h) (take-replicate (s .displays) maxDisplays 0 d)
 
 -- it has a head for each line that there can be, and keeps nothing
 pub length-heads-fresh : (s : Settings) → length (freshState s .heads) ≡ maxLines
@@ -118,32 +128,50 @@ module _ (s : Settings) (x : Columns) (room : s .lines * readingsPerLine ≤ sto
       storeLength-withRows x (replicate (s .lines * readingsPerLine) zeroed)
       (omega (arith, length-replicate (s .lines * readingsPerLine) zeroed))
 
-  pub fits-fresh : s .lines ≤ maxLines → Fits (freshState s) (zeroedStore s x)
+  pub fits-fresh : s .lines ≤ maxLines → s .displays ≤ maxDisplays → Fits (freshState s) (zeroedStore s x)
   unfolding freshState places
-  fits-fresh h =
+  fits-fresh h d =
       record {
         heads = omega (arith, length-replicate maxLines (headOf noLine));
         kept = small-fresh (s .lines) maxLines;
         room = omega (arith, storeLength-zeroed);
+        displays = omega (arith, length-replicate {A = ℕ} maxDisplays 0);
       }
+
+-- the stores that an opening leaves
+abbrev pub zeroedLent : Settings → Lent → Lent
+zeroedLent s x =
+    record { readings = zeroedStore s (x .readings); sent = withPlaces (x .sent) (replicate heldResults emptyPlace) }
 
 -- ---- the opening
 
+-- both stores are long enough
+pub not-short : (lines : ℕ) (x : Lent) → isShort lines x ≡ false → (lines * readingsPerLine ≤ storeLength (x .readings)) × (heldBytes ≤ length (x .sent))
+unfolding isShort sharesShort
+not-short lines x e =
+    let both = neither (ltb (storeLength (x .readings)) (lines * readingsPerLine)) (ltb (length (x .sent)) heldBytes) e in
+    (ltb-false _ _ (both .0), ltb-false _ _ (both .1))
+
+pub long-enough : (lines : ℕ) (x : Lent) → lines * readingsPerLine ≤ storeLength (x .readings) → heldBytes ≤ length (x .sent) → isShort lines x ≡ false
+unfolding isShort sharesShort
+long-enough lines x h g = rw (le-ltb (storeLength (x .readings)) (lines * readingsPerLine) h, le-ltb (length (x .sent)) heldBytes g)
+
 -- what an accepted opening was handed, and what it leaves
-pub record OpenedOn (st : State) (x : Columns) (text : List ℕ) : Type 0 where
+pub record OpenedOn (st : State) (x : Lent) (text : List ℕ) : Type 0 where
   pub settings : Settings
   pub read : settingsOf text ≡ SettingsRead.Accepted settings
   pub accepts : Accepts text settings
-  pub room : settings .lines * readingsPerLine ≤ storeLength x
-  pub opens : openedOn st x text ≡ record { answer = 0; state = freshState settings; columns = zeroedStore settings x }
+  pub room : settings .lines * readingsPerLine ≤ storeLength (x .readings)
+  pub places : heldBytes ≤ length (x .sent)
+  pub opens : openedOn st x text ≡ record { answer = 0; state = freshState settings; lent = zeroedLent settings x }
 
 -- an opening with settings that were accepted, the store short or not
-abbrev openedIf : State → Columns → Settings → Bool → Opened
+abbrev openedIf : State → Lent → Settings → Bool → Opened
 openedIf st x s short =
-    cond short (record { answer = 3; state = st; columns = x })
-    (record { answer = 0; state = freshState s; columns = zeroedStore s x })
+    cond short (record { answer = 3; state = st; lent = x })
+    (record { answer = 0; state = freshState s; lent = zeroedLent s x })
 
-opened-read : (st : State) (x : Columns) (text : List ℕ) (r : SettingsRead) → settingsOf text ≡ r → openedWith st x r .answer ≡ 0 → OpenedOn st x text
+opened-read : (st : State) (x : Lent) (text : List ℕ) (r : SettingsRead) → settingsOf text ≡ r → openedWith st x r .answer ≡ 0 → OpenedOn st x text
 unfolding openedOn openedWith isShort settingsAnswer
 opened-read st x text (SettingsRead.Accepted s) q e =
     (elim (isShort (s .lines) x) as
@@ -157,7 +185,8 @@ opened-read st x text (SettingsRead.Accepted s) q e =
             settings = s;
             read = q;
             accepts = settings-accepted text s q;
-            room = omega (arith, ltb-false);
+            room = not-short (s .lines) x t .0;
+            places = not-short (s .lines) x t .1;
             opens = rw (q, t);
           }
     ])
@@ -165,16 +194,16 @@ opened-read st x text (SettingsRead.Accepted s) q e =
 opened-read st x text SettingsRead.Malformed q e = absurd (omega (arith, e))
 opened-read st x text SettingsRead.OutsideLimits q e = absurd (omega (arith, e))
 
-pub opened-on : (st : State) (x : Columns) (text : List ℕ) → openedOn st x text .answer ≡ 0 → OpenedOn st x text
+pub opened-on : (st : State) (x : Lent) (text : List ℕ) → openedOn st x text .answer ≡ 0 → OpenedOn st x text
 unfolding openedOn
 opened-on st x text e = opened-read st x text (settingsOf text) refl e
 
 -- a refused opening changes nothing
-refused-read : (st : State) (x : Columns) (r : SettingsRead) → (openedWith st x r .answer ≡ 0 → ⊥) → (openedWith st x r .state ≡ st) × (openedWith st x r .columns ≡ x)
+refused-read : (st : State) (x : Lent) (r : SettingsRead) → (openedWith st x r .answer ≡ 0 → ⊥) → (openedWith st x r .state ≡ st) × (openedWith st x r .lent ≡ x)
 unfolding openedWith
 refused-read st x (SettingsRead.Accepted s) e =
     (elim (isShort (s .lines) x) as
-    (λ b. (openedIf st x s b .answer ≡ 0 → ⊥) → (openedIf st x s b .state ≡ st) × (openedIf st x s b .columns ≡ x)) [
+    (λ b. (openedIf st x s b .answer ≡ 0 → ⊥) → (openedIf st x s b .state ≡ st) × (openedIf st x s b .lent ≡ x)) [
       | true ↦ λ e. (refl, refl)
       | false ↦ λ e. absurd (e refl)
     ])
@@ -182,28 +211,34 @@ refused-read st x (SettingsRead.Accepted s) e =
 refused-read st x SettingsRead.Malformed e = (refl, refl)
 refused-read st x SettingsRead.OutsideLimits e = (refl, refl)
 
-pub refused-opening : (st : State) (x : Columns) (text : List ℕ) → (openedOn st x text .answer ≡ 0 → ⊥) → (openedOn st x text .state ≡ st) × (openedOn st x text .columns ≡ x)
+pub refused-opening : (st : State) (x : Lent) (text : List ℕ) → (openedOn st x text .answer ≡ 0 → ⊥) → (openedOn st x text .state ≡ st) × (openedOn st x text .lent ≡ x)
 unfolding openedOn
 refused-opening st x text e = refused-read st x (settingsOf text) e
 
-module _ (st : State) (x : Columns) (text : List ℕ) (o : OpenedOn st x text) where
+module _ (st : State) (x : Lent) (text : List ℕ) (o : OpenedOn st x text) where
   pub opened-limits : Limits (o .settings)
   opened-limits = limits-hold (o .settings) (o .accepts .limits)
 
   pub opened-state : openedOn st x text .state ≡ freshState (o .settings)
   opened-state = ap (λ (r : Opened). r .state) (o .opens)
 
-  pub opened-columns : openedOn st x text .columns ≡ zeroedStore (o .settings) x
-  opened-columns = ap (λ (r : Opened). r .columns) (o .opens)
+  pub opened-lent : openedOn st x text .lent ≡ zeroedLent (o .settings) x
+  opened-lent = ap (λ (r : Opened). r .lent) (o .opens)
 
-  pub opened-view : view (openedOn st x text .state) (openedOn st x text .columns) ≡ opened (o .settings)
+  pub opened-columns : openedOn st x text .lent .readings ≡ zeroedStore (o .settings) (x .readings)
+  opened-columns = ap (λ (y : Lent). y .readings) opened-lent
+
+  pub opened-sent : openedOn st x text .lent .sent ≡ withPlaces (x .sent) (replicate heldResults emptyPlace)
+  opened-sent = ap (λ (y : Lent). y .sent) opened-lent
+
+  pub opened-view : view (openedOn st x text .state) (openedOn st x text .lent .readings) ≡ opened (o .settings)
   opened-view =
       ap₂ view opened-state opened-columns ∙
-      view-fresh (o .settings) (zeroedStore (o .settings) x) (opened-limits .lines)
+      view-fresh (o .settings) (zeroedStore (o .settings) (x .readings)) (opened-limits .lines) (opened-limits .displays)
 
-  pub opened-fits : Fits (openedOn st x text .state) (openedOn st x text .columns)
+  pub opened-fits : Fits (openedOn st x text .state) (openedOn st x text .lent .readings)
   opened-fits =
-      rw (opened-state, opened-columns) (fits-fresh (o .settings) x (o .room) (opened-limits .lines))
+      rw (opened-state, opened-columns) (fits-fresh (o .settings) (x .readings) (o .room) (opened-limits .lines) (opened-limits .displays))
 
   pub opened-settings : openedOn st x text .state .settings ≡ o .settings
   opened-settings = ap (λ (t : State). t .settings) opened-state ∙ settings-fresh (o .settings)
@@ -214,5 +249,5 @@ module _ (st : State) (x : Columns) (text : List ℕ) (o : OpenedOn st x text) w
   pub opened-empty : Every (λ (h : LineHead). h .kept ≡ 0) (openedOn st x text .state .heads)
   opened-empty = rw opened-state (empty-fresh (o .settings))
 
-  pub opened-storeLength : storeLength (openedOn st x text .columns) ≡ storeLength x
-  opened-storeLength = ap storeLength opened-columns ∙ storeLength-zeroed (o .settings) x (o .room)
+  pub opened-storeLength : storeLength (openedOn st x text .lent .readings) ≡ storeLength (x .readings)
+  opened-storeLength = ap storeLength opened-columns ∙ storeLength-zeroed (o .settings) (x .readings) (o .room)

@@ -17,22 +17,15 @@ use Rattle.store.proofs.Pairs.{every-to, every-map}
 use Rattle.store.proofs.Keeping.{length-keep}
 use Rattle.protocol.specs.Kinds.{Kind, kindOf, uses, isStep}
 use Rattle.protocol.specs.Node.{Line, Node, noLine, onLine}
-use Rattle.protocol.specs.Refusals.{lineOf, isFull, callTests, lineTests, testsOf, answerTo}
+use Rattle.protocol.specs.Refusals.{lineOf, isFull, answerTo}
 use Rattle.protocol.specs.declared.Rule.{Rule}
 use Rattle.protocol.specs.declared.Rule.the-variants as Rule
 use Rattle.protocol.specs.Rules.{Outcome, ruleOf, without, act}
 use Rattle.protocol.specs.Calls.{input, done, accepted, outcomeOf}
 use Rattle.protocol.proofs.Places.{length-modify}
-use Rattle.protocol.proofs.Passed.{none-failed}
+use Rattle.protocol.proofs.Passed.{passed}
 use Rattle.node.proofs.Lists.{every-modify}
 use Rattle.node.proofs.Shares.{SmallLine}
-
--- ---- answer 0
-
--- a call that is accepted finds a free place where it takes one
-pub not-full : (s : Settings) (n : Node) (k : Call) → answerTo s n k ≡ 0 → isFull (lineOf n k) (kindOf (k .kind)) ≡ false
-unfolding answerTo testsOf callTests lineTests
-not-full s n k e = none-failed (testsOf s n k (kindOf (k .kind))) (omega arith) e .1 .1 .1 .1 .1 .1 .1 .0
 
 -- ---- an input
 
@@ -113,7 +106,7 @@ pub outcome-kept : (s : Settings) (n : Node) (k : Call) → Every SmallLine (n .
 unfolding outcomeOf accepted
 outcome-kept s n k h =
     (elim (eqb (answerTo s n k) 0) as (λ b. eqb (answerTo s n k) 0 ≡ b → Every SmallLine (outcomeIf s n k b .node .lines)) [
-      | true ↦ λ e. done-small s n k (kindOf (k .kind)) (not-full s n k (eqb-true _ _ e)) h
+      | true ↦ λ e. done-small s n k (kindOf (k .kind)) (passed s n k (eqb-true _ _ e) .room) h
       | false ↦ λ e. h
     ])
     refl

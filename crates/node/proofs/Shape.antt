@@ -1,6 +1,6 @@
 -- A state and a store in shape, fact by fact: what the one test of refusal 4 says, taken apart. Each test by itself is turned into its
 -- fact, then the tests of a list and the chain of all. Assumes nothing.
-use Prim.Native.Nat.{ℕ, _*_, _≤_, _<_}
+use Prim.Native.Nat.{ℕ, _+_, _*_, _≤_, _<_}
 use mathlib.Core.Path.{_≡_, refl}
 use mathlib.Core.Logic.{_⊎_, inl, inr, ⊎-elim}
 use mathlib.Core.Bool.{Bool, true, false, cond, _&&_, _||_}
@@ -25,9 +25,10 @@ use Rattle.operator.specs.Bounds.{countLimit, meterOk}
 use Rattle.operator.proofs.Meters.{Counted}
 use Rattle.operator.proofs.Bounds.{meters-ok}
 use Rattle.columns.specs.Shape.{rises, isReadingKind}
+use Rattle.retransmission.specs.Sizes.{heldResults}
 use Rattle.store.specs.Columns.{Columns}
-use Rattle.node.specs.View.{view}
-use Rattle.node.specs.Shape.{readingOk, idsRise, headOk, keptOk, phaseOk, bucketsOk, numbersOk, inShape}
+use Rattle.node.specs.View.{Lent, view}
+use Rattle.node.specs.Shape.{readingOk, idsRise, headOk, keptOk, phaseOk, bucketsOk, numbersOk, displayOk, displaysOk, sentOk, stateInShape, inShape}
 use Rattle.node.specs.declared.LineHead.{LineHead}
 use Rattle.node.specs.declared.State.{State}
 
@@ -155,7 +156,20 @@ numbers-shape st e =
 
 -- ---- all tests
 
-pub record InShape (st : State) (x : Columns) : Type 0 where
+-- a display's last id
+pub record DisplayShape (newest id : ℕ) : Type 0 where
+  pub known : id ≤ newest
+  pub near : newest ≤ id + heldResults
+
+pub display-shape : (newest id : ℕ) → displayOk newest id ≡ true → DisplayShape newest id
+unfolding displayOk
+display-shape newest id e =
+    let a : Bool = leb id newest in
+    let b : Bool = leb newest (id + heldResults) in
+    record { known = leb-true _ _ (and-parts a b e .0); near = leb-true _ _ (and-parts a b e .1) }
+
+-- the state and the store of readings
+pub record StateShape (st : State) (x : Columns) : Type 0 where
   pub limits : withinLimits (st .settings) ≡ true
   pub heads : Every HeadShape (take (st .settings .lines) (st .heads))
   pub lines : Every KeptShape (view st x .lines)
@@ -164,9 +178,9 @@ pub record InShape (st : State) (x : Columns) : Type 0 where
   pub operator : Every (Counted countLimit) (st .operator .meters)
   pub checkpoint : Every (Counted countLimit) (st .checkpoint .meters)
 
-pub inShape-facts : (st : State) (x : Columns) → inShape st x ≡ true → InShape st x
-unfolding inShape
-inShape-facts st x e =
+pub state-facts : (st : State) (x : Columns) → stateInShape st x ≡ true → StateShape st x
+unfolding stateInShape
+state-facts st x e =
     let a : Bool = withinLimits (st .settings) in
     let b : Bool = allOf headOk (take (st .settings .lines) (st .heads)) in
     let c : Bool = allOf keptOk (view st x .lines) in
@@ -193,8 +207,52 @@ inShape-facts st x e =
       checkpoint = meters-ok (st .checkpoint .meters) (and-parts g h e5 .1);
     }
 
--- the operator's meters pass their test
-pub operator-within : (st : State) (x : Columns) → inShape st x ≡ true → allOf meterOk (st .operator .meters) ≡ true
+-- the test of the state and the store of readings is part of the test of all
+pub state-in-shape : (st : State) (x : Lent) → inShape st x ≡ true → stateInShape st (x .readings) ≡ true
 unfolding inShape
+state-in-shape st x e = and-parts (stateInShape st (x .readings)) (displaysOk st && sentOk st (x .sent)) e .0
+
+-- and so is the test of the displays' last ids
+pub displays-in-shape : (st : State) (x : Lent) → inShape st x ≡ true → displaysOk st ≡ true
+unfolding inShape
+displays-in-shape st x e =
+    let rest = and-parts (stateInShape st (x .readings)) (displaysOk st && sentOk st (x .sent)) e .1 in
+    and-parts (displaysOk st) (sentOk st (x .sent)) rest .0
+
+pub record InShape (st : State) (x : Lent) : Type 0 where
+  pub limits : withinLimits (st .settings) ≡ true
+  pub heads : Every HeadShape (take (st .settings .lines) (st .heads))
+  pub lines : Every KeptShape (view st (x .readings) .lines)
+  pub buckets : BucketsShape st
+  pub numbers : NumbersShape st
+  pub operator : Every (Counted countLimit) (st .operator .meters)
+  pub checkpoint : Every (Counted countLimit) (st .checkpoint .meters)
+  pub displays : Every (DisplayShape (st .checkpoint .number)) (take (st .settings .displays) (st .acknowledged))
+  pub sent : sentOk st (x .sent) ≡ true
+
+pub inShape-facts : (st : State) (x : Lent) → inShape st x ≡ true → InShape st x
+unfolding inShape displaysOk
+inShape-facts st x e =
+    let a : Bool = allOf (displayOk (st .checkpoint .number)) (take (st .settings .displays) (st .acknowledged)) in
+    let b : Bool = sentOk st (x .sent) in
+    let shape = state-facts st (x .readings) (state-in-shape st x e) in
+    let rest : a && b ≡ true = and-parts (stateInShape st (x .readings)) (a && b) e .1 in
+    record {
+      limits = shape .limits;
+      heads = shape .heads;
+      lines = shape .lines;
+      buckets = shape .buckets;
+      numbers = shape .numbers;
+      operator = shape .operator;
+      checkpoint = shape .checkpoint;
+      displays =
+          every-to (take (st .settings .displays) (st .acknowledged)) (display-shape (st .checkpoint .number))
+          (every-passes (displayOk (st .checkpoint .number)) (take (st .settings .displays) (st .acknowledged)) (and-parts a b rest .0));
+      sent = and-parts a b rest .1;
+    }
+
+-- the operator's meters pass their test
+pub operator-within : (st : State) (x : Columns) → stateInShape st x ≡ true → allOf meterOk (st .operator .meters) ≡ true
+unfolding stateInShape
 operator-within st x e =
     and-parts _ _ (and-parts (numbersOk st) _ (and-parts (bucketsOk st) _ (and-parts (allOf keptOk (view st x .lines)) _ (and-parts (allOf headOk (take (st .settings .lines) (st .heads))) _ (and-parts (withinLimits (st .settings)) _ e .1) .1) .1) .1) .1) .0

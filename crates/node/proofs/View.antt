@@ -1,10 +1,12 @@
 -- View and put: a node laid into state and store is what they then stand for, and what they stand for, laid down, changes nothing. The
 -- lines by the laws on shares, the store by the laws on columns. Assumes nothing.
 use Prim.Native.Nat.{ℕ, _*_, _≤_}
-use mathlib.Core.Path.{_≡_, refl, _∙_, ap, subst}
-use mathlib.Core.List.{List}
+use mathlib.Core.Path.{_≡_, refl, _∙_, ap, ap₂, subst}
+use mathlib.Core.List.{List, _++_}
 use native.Mathlib.Omega.{arith}
-use lib.ListN.{length, take}
+use lib.ListN.{length, take, drop, length-append, take-append-drop}
+use lib.Seq.{take-at, length-take-le}
+use Rattle.area.specs.Laid.{inFront}
 use Rattle.settings.specs.declared.Settings.{Settings}
 use Rattle.store.specs.Lists.{Every}
 use Rattle.protocol.specs.Node.{Line, Node}
@@ -33,11 +35,13 @@ pub record Fits (st : State) (x : Columns) : Type 0 where
   pub heads : st .settings .lines ≤ length (st .heads)
   pub kept : Every SmallHead (take (st .settings .lines) (st .heads))
   pub room : places st ≤ storeLength x
+  pub displays : st .settings .displays ≤ length (st .acknowledged)
 
--- a node of as many lines, each within its share
+-- a node of as many lines, each within its share, and as many displays
 pub record Sized (s : Settings) (n : Node) : Type 0 where
   pub lines : length (n .lines) ≡ s .lines
   pub small : Every SmallLine (n .lines)
+  pub displays : length (n .acknowledged) ≡ s .displays
 
 -- ---- what stays
 
@@ -54,12 +58,13 @@ unfolding putState
 length-heads-put st n = length-headsWith (st .heads) (n .lines)
 
 -- what state and store stand for has the state's lines, each within its share
-pub view-sized : (st : State) (x : Columns) → st .settings .lines ≤ length (st .heads) → Sized (st .settings) (view st x)
+pub view-sized : (st : State) (x : Columns) → st .settings .lines ≤ length (st .heads) → st .settings .displays ≤ length (st .acknowledged) → Sized (st .settings) (view st x)
 unfolding view
-view-sized st x h =
+view-sized st x h d =
     record {
       lines = length-viewLines (st .settings .lines) (st .heads) (rows x (places st)) h;
       small = small-viewLines (st .settings .lines) (st .heads) (rows x (places st));
+      displays = length-take-le (st .settings .displays) (st .acknowledged) d;
     }
 
 module _ (st : State) (x : Columns) (f : Fits st x) where
@@ -75,9 +80,9 @@ module _ (st : State) (x : Columns) (f : Fits st x) where
   -- ---- what they stand for, laid down
 
   pub putState-view : putState st (view st x) ≡ st
-  unfolding putState view
+  unfolding putState view inFront
   putState-view =
-      ap (λ (hs : List LineHead).
+      ap₂ (λ (hs : List LineHead) (ids : List ℕ).
       record {
         operator = st .operator;
         checkpoint = st .checkpoint;
@@ -87,8 +92,12 @@ module _ (st : State) (x : Columns) (f : Fits st x) where
         c = st .c;
         p = st .p;
         phase = st .phase;
+        acknowledged = ids;
       })
       (heads-same (st .settings .lines) (st .heads) (rows x (places st)) (shares (st .settings .lines) refl))
+      (ap (λ (m : ℕ). take (st .settings .displays) (st .acknowledged) ++ drop m (st .acknowledged))
+      (length-take-le (st .settings .displays) (st .acknowledged) (f .displays)) ∙
+      take-append-drop (st .settings .displays) (st .acknowledged))
 
   pub putColumns-view : putColumns st x (view st x) ≡ x
   unfolding putColumns view
@@ -119,9 +128,9 @@ module _ (st : State) (x : Columns) (f : Fits st x) where
         length-laid (rows-withRows x (sharesWith (st .heads) (rows x (places st)) (n .lines)))
 
     pub view-put : view (putState st n) (putColumns st x n) ≡ n
-    unfolding view putState places
+    unfolding view putState places inFront
     view-put =
-        ap (λ (ls : List Line).
+        ap₂ (λ (ls : List Line) (ids : List ℕ).
         record {
           clock = n .clock;
           c = n .c;
@@ -130,16 +139,18 @@ module _ (st : State) (x : Columns) (f : Fits st x) where
           operator = n .operator;
           checkpoint = n .checkpoint;
           lines = ls;
+          acknowledged = ids;
         })
         (ap (viewLines (st .settings .lines) (headsWith (st .heads) (n .lines))) rows-put ∙
         subst
         (λ (m : ℕ).
         viewLines m (headsWith (st .heads) (n .lines)) (sharesWith (st .heads) (rows x (places st)) (n .lines)) ≡ n .lines)
         (v .lines) (lines-put (n .lines) (st .heads) (rows x (places st)) (shares (length (n .lines)) (v .lines)) (v .small)))
+        (take-at (n .acknowledged) (drop (length (n .acknowledged)) (st .acknowledged)) (st .settings .displays) (v .displays))
 
     -- and they fit again
     pub fits-put : Fits (putState st n) (putColumns st x n)
-    unfolding putState places
+    unfolding putState places inFront
     fits-put =
         record {
           heads = omega (arith, length-headsWith (st .heads) (n .lines), f .heads);
@@ -147,4 +158,6 @@ module _ (st : State) (x : Columns) (f : Fits st x) where
               subst (λ (m : ℕ). Every SmallHead (take m (headsWith (st .heads) (n .lines)))) (v .lines)
               (heads-put (n .lines) (st .heads) (omega (arith, v .lines, f .heads)) (v .small));
           room = omega (arith, storeLength-put, f .room);
+          displays =
+              omega (arith, length-append (n .acknowledged) (drop (length (n .acknowledged)) (st .acknowledged)), v .displays);
         }

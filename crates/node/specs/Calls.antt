@@ -1,5 +1,5 @@
--- A call on state, columns, text and area: refusals 3 to 14 in order, and what it leaves (document 01, section 'Refusal by whom'). Assumes
--- nothing.
+-- A journal call on state, stores, text and area: refusals 3 to 15 in order, and what it leaves (document 01, section 'Refusal by whom';
+-- document 02, W2). Assumes nothing.
 use Prim.Native.Nat.{ℕ}
 use mathlib.Core.Bool.{cond, not}
 use mathlib.Core.List.{List, [], _∷_}
@@ -15,8 +15,8 @@ use Rattle.protocol.specs.Rules.{Outcome}
 use Rattle.protocol.specs.Refusals.{Test, firstFailed, answerTo}
 use Rattle.protocol.specs.Calls.{outcomeOf}
 use Rattle.node.specs.Sizes.{areaBytes}
-use Rattle.store.specs.Columns.{Columns}
-use Rattle.node.specs.View.{view, putState, putColumns}
+use Rattle.retransmission.specs.Places.{placesOf, withPlaces, holding}
+use Rattle.node.specs.View.{Lent, view, putState, putColumns}
 use Rattle.node.specs.Shape.{inShape}
 use Rattle.node.specs.Opening.{isShort}
 use Rattle.node.specs.declared.State.{State}
@@ -26,37 +26,45 @@ pub record Called : Type 0 where
   pub answer : ℕ
   pub records : ℕ
   pub state : State
-  pub columns : Columns
+  pub lent : Lent
   pub area : List ℕ
 
 -- refusals 3, 4 and 5: what the host lends, whatever it asks
-unfoldable pub hostTests : State → Columns → List ℕ → List Test
+unfoldable pub hostTests : State → Lent → List ℕ → List Test
 hostTests st x area =
     record { fails = isShort (st .settings .lines) x; number = 3 } ∷
     record { fails = not (inShape st x); number = 4 } ∷
     record { fails = ltb (length area) areaBytes; number = 5 } ∷ []
 
--- a refused call changes nothing and gives no record
-unfoldable pub refusedWith : ℕ → State → Columns → List ℕ → Called
-refusedWith n st x area = record { answer = n; records = 0; state = st; columns = x; area = area }
+-- an outcome laid into the stores: the stable results go to their places
+unfoldable pub putLent : State → Lent → Outcome → Lent
+putLent st x o =
+    record {
+      readings = putColumns st (x .readings) (o .node);
+      sent = withPlaces (x .sent) (holding (placesOf (x .sent)) (o .records));
+    }
 
--- a journal call that the host's tests let through: refusals 7 to 14, or its outcome laid down
-unfoldable pub calledWith : State → Columns → List ℕ → CallRead → Called
+-- a refused call changes nothing and gives no record
+unfoldable pub refusedWith : ℕ → State → Lent → List ℕ → Called
+refusedWith n st x area = record { answer = n; records = 0; state = st; lent = x; area = area }
+
+-- a journal call that the host's tests let through: refusals 7 to 15, or its outcome laid down
+unfoldable pub calledWith : State → Lent → List ℕ → CallRead → Called
 calledWith st x area (CallRead.Accepted k) =
-    let answer : ℕ = answerTo (st .settings) (view st x) k in
-    let outcome : Outcome = outcomeOf (st .settings) (view st x) k in
+    let answer : ℕ = answerTo (st .settings) (view st (x .readings)) k in
+    let outcome : Outcome = outcomeOf (st .settings) (view st (x .readings)) k in
     cond (eqb answer 0)
     (record {
       answer = 0;
       records = length (outcome .records);
       state = putState st (outcome .node);
-      columns = putColumns st x (outcome .node);
+      lent = putLent st x outcome;
       area = inFront (allBytes (outcome .records)) area;
     })
     (refusedWith answer st x area)
 calledWith st x area CallRead.Malformed = refusedWith (callAnswer CallRead.Malformed) st x area
 
-unfoldable pub calledOn : State → Columns → List ℕ → List ℕ → Called
+unfoldable pub calledOn : State → Lent → List ℕ → List ℕ → Called
 calledOn st x text area =
     cond (eqb (firstFailed (hostTests st x area)) 0)
     (calledWith st x area (callOf text))

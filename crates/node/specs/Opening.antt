@@ -1,33 +1,39 @@
 -- The opening (document 01, sections 'Buckets and the operator' and 'Refusal by whom'). Assumes nothing.
 use Prim.Native.Nat.{ℕ, _*_}
-use mathlib.Core.Bool.{Bool, cond}
+use mathlib.Core.Bool.{Bool, cond, _||_}
 use mathlib.Core.List.{List}
 use lib.Dec.{ltb}
 use lib.IntN.{pos}
-use lib.ListN.{replicate}
+use lib.ListN.{length, replicate}
 use Rattle.settings.specs.declared.Settings.{Settings}
 use Rattle.settings.specs.declared.SettingsRead.{SettingsRead}
 use Rattle.settings.specs.declared.SettingsRead.the-variants as SettingsRead
-use Rattle.settings.specs.Limits.{maxLines}
+use Rattle.settings.specs.Limits.{maxLines, maxDisplays}
 use Rattle.settings.specs.SettingsLine.{settingsAnswer}
 use Rattle.settings.specs.ReadLine.{settingsOf}
 use Rattle.protocol.specs.Node.{Node, opened, noLine}
 use Rattle.store.specs.Sizes.{readingsPerLine}
 use Rattle.store.specs.Columns.{withRows, storeLength, Columns, zeroed}
-use Rattle.node.specs.View.{headOf}
+use Rattle.retransmission.specs.Sizes.{heldResults, heldBytes}
+use Rattle.retransmission.specs.Places.{emptyPlace, withPlaces}
+use Rattle.node.specs.View.{Lent, headOf}
 use Rattle.node.specs.declared.State.{State}
 
 -- what an opening answers and leaves
 pub record Opened : Type 0 where
   pub answer : ℕ
   pub state : State
-  pub columns : Columns
+  pub lent : Lent
 
--- 3: some column has no room for all shares
-unfoldable pub isShort : ℕ → Columns → Bool
-isShort lines x = ltb (storeLength x) (lines * readingsPerLine)
+-- some column has no room for all shares
+unfoldable pub sharesShort : ℕ → Columns → Bool
+sharesShort lines x = ltb (storeLength x) (lines * readingsPerLine)
 
--- a fresh state: every line's head 0, also past `lines`
+-- 3: either store
+unfoldable pub isShort : ℕ → Lent → Bool
+isShort lines x = sharesShort lines (x .readings) || ltb (length (x .sent)) heldBytes
+
+-- a fresh state: every line's head 0, also past `lines`, and every display's last id, also past `displays`
 unfoldable pub freshState : Settings → State
 freshState s =
     let n : Node = opened s in
@@ -40,21 +46,30 @@ freshState s =
       c = n .c;
       p = n .p;
       phase = n .phase;
+      acknowledged = replicate maxDisplays 0;
     }
 
 -- the state before the first opening: no lines
 unfoldable pub closedState : State
-closedState = freshState (record { lines = 0; bucket = 0; window = 0; hold = 0; low = pos 0; high = pos 0 })
+closedState = freshState (record { lines = 0; bucket = 0; window = 0; hold = 0; low = pos 0; high = pos 0; displays = 0 })
 
 -- a refused opening hands back what it was given
-unfoldable pub openedWith : State → Columns → SettingsRead → Opened
+unfoldable pub openedWith : State → Lent → SettingsRead → Opened
 openedWith st x (SettingsRead.Accepted s) =
-    cond (isShort (s .lines) x) (record { answer = 3; state = st; columns = x })
-    (record { answer = 0; state = freshState s; columns = withRows x (replicate (s .lines * readingsPerLine) zeroed) })
+    cond (isShort (s .lines) x) (record { answer = 3; state = st; lent = x })
+    (record {
+      answer = 0;
+      state = freshState s;
+      lent =
+          record {
+            readings = withRows (x .readings) (replicate (s .lines * readingsPerLine) zeroed);
+            sent = withPlaces (x .sent) (replicate heldResults emptyPlace);
+          };
+    })
 openedWith st x SettingsRead.Malformed =
-    record { answer = settingsAnswer SettingsRead.Malformed; state = st; columns = x }
+    record { answer = settingsAnswer SettingsRead.Malformed; state = st; lent = x }
 openedWith st x SettingsRead.OutsideLimits =
-    record { answer = settingsAnswer SettingsRead.OutsideLimits; state = st; columns = x }
+    record { answer = settingsAnswer SettingsRead.OutsideLimits; state = st; lent = x }
 
-unfoldable pub openedOn : State → Columns → List ℕ → Opened
+unfoldable pub openedOn : State → Lent → List ℕ → Opened
 openedOn st x text = openedWith st x (settingsOf text)

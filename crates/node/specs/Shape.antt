@@ -1,5 +1,6 @@
--- A state and a store in shape (document 01, section 'Refusal by whom', refusal 4). Only lines 1 to `lines` are looked at. Assumes nothing.
-use Prim.Native.Nat.{ℕ, _*_}
+-- A state and its stores in shape (document 01, section 'Refusal by whom', refusal 4; document 02, W2). Only lines 1 to `lines`
+-- and displays 1 to `displays` are looked at. Assumes nothing.
+use Prim.Native.Nat.{ℕ, _+_, _*_, _-_}
 use mathlib.Core.Bool.{Bool, true, cond, _&&_}
 use mathlib.Core.List.{List, map}
 use lib.Dec.{leb, ltb, eqb}
@@ -8,7 +9,6 @@ use Rattle.settings.specs.Limits.{withinLimits}
 use Rattle.store.specs.declared.Reading.{Reading}
 use Rattle.store.specs.Sizes.{readingsPerLine}
 use Rattle.store.specs.Lists.{allOf}
-use Rattle.store.specs.Columns.{Columns}
 use Rattle.columns.specs.Shape.{rises, isReadingKind}
 use Rattle.operator.specs.Meters.{meterCount}
 use Rattle.operator.specs.Bounds.{meterOk}
@@ -16,7 +16,11 @@ use Rattle.protocol.specs.declared.Phase.{Phase}
 use Rattle.protocol.specs.declared.Phase.the-variants as Phase
 use Rattle.protocol.specs.Node.{Line}
 use Rattle.node.specs.Sizes.{resultsPerBucket, lastBucket}
-use Rattle.node.specs.View.{view}
+use Rattle.protocol.specs.Displays.{leastOf}
+use Rattle.retransmission.specs.Sizes.{heldResults}
+use Rattle.retransmission.specs.Places.{placesOf, placesOk}
+use Rattle.store.specs.Columns.{Columns}
+use Rattle.node.specs.View.{Lent, view}
 use Rattle.node.specs.declared.LineHead.{LineHead}
 use Rattle.node.specs.declared.State.{State}
 
@@ -51,9 +55,27 @@ numbersOk st =
     (leb (st .checkpoint .number) (st .operator .number) &&
     cond (eqb (st .p) (st .c)) (leb (st .operator .number) (st .checkpoint .number)) true))
 
-unfoldable pub inShape : State → Columns → Bool
-inShape st x =
+-- a display's last id: not above the newest stable id, and not more than 512 below it
+unfoldable pub displayOk : ℕ → ℕ → Bool
+displayOk newest id = leb id newest && leb newest (id + heldResults)
+
+unfoldable pub displaysOk : State → Bool
+displaysOk st = allOf (displayOk (st .checkpoint .number)) (take (st .settings .displays) (st .acknowledged))
+
+-- the places of the results that some display has not acknowledged
+unfoldable pub sentOk : State → List ℕ → Bool
+sentOk st sent =
+    let least : ℕ = leastOf (take (st .settings .displays) (st .acknowledged)) in
+    placesOk (placesOf sent) least (st .checkpoint .number - least)
+
+-- the state and the store of readings
+unfoldable pub stateInShape : State → Columns → Bool
+stateInShape st x =
     withinLimits (st .settings) &&
     (allOf headOk (take (st .settings .lines) (st .heads)) &&
     (allOf keptOk (view st x .lines) &&
     (bucketsOk st && (numbersOk st && (allOf meterOk (st .operator .meters) && allOf meterOk (st .checkpoint .meters))))))
+
+-- and what is held for the displays; their ids are tested before any place is looked at
+unfoldable pub inShape : State → Lent → Bool
+inShape st x = stateInShape st (x .readings) && (displaysOk st && sentOk st (x .sent))

@@ -1,13 +1,23 @@
--- What a state and a store stand for, and a node laid into them again (document 01, section 'Store and output area'). Assumes nothing.
+-- What a state and its stores stand for, and a node laid into them again (document 01, section 'Store and output area'; document 02, W2).
+-- Assumes nothing.
 use Prim.Native.Nat.{ℕ, zero, suc, _*_, _-_, max}
 use mathlib.Core.List.{List, [], _∷_, _++_}
 use lib.ListN.{length, take, drop, replicate}
+use Rattle.area.specs.Laid.{inFront}
 use Rattle.store.specs.declared.Reading.{Reading}
 use Rattle.protocol.specs.Node.{Line, Node}
 use Rattle.store.specs.Sizes.{readingsPerLine}
 use Rattle.store.specs.Columns.{Columns, rows, withRows, zeroed}
 use Rattle.node.specs.declared.LineHead.{LineHead}
 use Rattle.node.specs.declared.State.{State}
+
+-- what is lent between calls: the store of readings and the send-back store
+pub record Lent : Type 0 where
+  pub readings : Columns
+  pub sent : List ℕ
+
+abbrev pub lentOf : Columns → List ℕ → Lent
+lentOf readings sent = record { readings = readings; sent = sent }
 
 -- ---- what they stand for
 
@@ -41,6 +51,7 @@ view st x =
       operator = st .operator;
       checkpoint = st .checkpoint;
       lines = viewLines (st .settings .lines) (st .heads) (rows x (places st));
+      acknowledged = take (st .settings .displays) (st .acknowledged);
     }
 
 -- ---- a node laid into them
@@ -76,6 +87,22 @@ putState st n =
       c = n .c;
       p = n .p;
       phase = n .phase;
+      acknowledged = inFront (n .acknowledged) (st .acknowledged);
+    }
+
+-- a state with other last ids of the displays
+abbrev pub withAcknowledged : List ℕ → State → State
+withAcknowledged ids st =
+    record {
+      operator = st .operator;
+      checkpoint = st .checkpoint;
+      heads = st .heads;
+      settings = st .settings;
+      clock = st .clock;
+      c = st .c;
+      p = st .p;
+      phase = st .phase;
+      acknowledged = ids;
     }
 
 unfoldable pub putColumns : State → Columns → Node → Columns

@@ -1,4 +1,4 @@
-// The node as its caller holds it: a state by value, and a lent store in columns.
+// The node as its caller holds it: a state by value, and two lent stores: readings in columns, and results to be sent back.
 use clock::ArrivalTick;
 use clock::ReadingTime;
 use operator::Operator;
@@ -7,6 +7,9 @@ use settings::Settings;
 
 // Lines that a state has room for: as many as the settings allow.
 pub const HEADS: usize = 8;
+
+// Displays that a state has room for: as many as the settings allow.
+pub const DISPLAYS: usize = 4;
 
 // What the state knows of a line; its kept readings stand in the store.
 pub struct LineHead {
@@ -26,4 +29,12 @@ pub struct State {
     pub c: u32,
     pub p: u32,
     pub phase: Phase,
+    pub acknowledged: [u64; DISPLAYS],
+}
+
+// What a call answers; the records stand in the output area.
+pub struct CallReply {
+    pub state: State,
+    pub records: u32,
+    pub answer: u32,
 }

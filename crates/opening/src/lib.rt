@@ -1,6 +1,7 @@
-// The opening, and the state before it. Whatever state, store and text come, it answers.
+// The opening, and the state before it. Whatever state, stores and text come, it answers.
 ghost use mathlib.Core.Path.{_≡_};
 ghost use Rattle.store.specs.Columns.{columnsOf};
+ghost use Rattle.node.specs.View.{Lent, lentOf};
 ghost use Rattle.node.specs.Opening.{freshState, closedState, openedOn};
 use clock::ArrivalTick;
 use clock::ReadingTime;
@@ -42,6 +43,7 @@ fn fresh_state(s: Settings) -> State
         c: 0,
         p: 0,
         phase: Phase::Stable,
+        acknowledged: [0; node::DISPLAYS],
     }
 }
 
@@ -56,11 +58,13 @@ pub fn closed_state() -> State
         hold: 0,
         low: 0,
         high: 0,
+        displays: 0,
     };
     fresh_state(none)
 }
 
-// Opens a network: reads the settings, clears the state and zeroes the lines' shares. A refused opening hands back what it was given.
+// Opens a network: reads the settings, clears the state, and zeroes the lines' shares and the places of the send-back store. A refused
+// opening hands back what it was given.
 pub fn open(
     state: State,
     ids: &mut [u32],
@@ -69,9 +73,21 @@ pub fn open(
     arrivals: &mut [u32],
     kinds: &mut [u8],
     meters: &mut [u8],
+    sent: &mut [u8],
     text: &[u8],
 ) -> OpeningReply
-    ensures { λ r. ⌜ record { answer = r .answer; state = r .state; columns = columnsOf (now (ids .exit)) (now (times .exit)) (now (values .exit)) (now (arrivals .exit)) (now (kinds .exit)) (now (meters .exit)) } ≡ openedOn state (columnsOf (now (ids .entry)) (now (times .entry)) (now (values .entry)) (now (arrivals .entry)) (now (kinds .entry)) (now (meters .entry))) (now (text .entry)) ⌝ }
+    ensures { λ r.
+        let before : Lent =
+        lentOf
+        (columnsOf (now (ids .entry)) (now (times .entry)) (now (values .entry)) (now (arrivals .entry)) (now (kinds .entry))
+        (now (meters .entry)))
+        (now (sent .entry)) in
+        let after : Lent =
+        lentOf
+        (columnsOf (now (ids .exit)) (now (times .exit)) (now (values .exit)) (now (arrivals .exit)) (now (kinds .exit))
+        (now (meters .exit)))
+        (now (sent .exit)) in
+        ⌜ record { answer = r .answer; state = r .state; lent = after } ≡ openedOn state before (now (text .entry)) ⌝ }
 {
     let read = settings::read_settings(text);
     match read {
@@ -84,7 +100,9 @@ pub fn open(
             answer: SETTING_OUTSIDE_LIMITS,
         },
         SettingsRead::Accepted(s) => {
-            if shape::is_short(s.lines, ids, times, values, arrivals, kinds, meters) {
+            if shape::is_short(s.lines, ids, times, values, arrivals, kinds, meters)
+                | (sent.len() < shape::HELD_BYTES)
+            {
                 return OpeningReply {
                     state: state,
                     answer: shape::SHORT_STORE,
@@ -92,6 +110,7 @@ pub fn open(
             }
             let end = s.lines as usize * store::READINGS_PER_LINE;
             shares::zero(ids, times, values, arrivals, kinds, meters, 0, end);
+            columns::zero_u8(sent, 0, shape::HELD_BYTES);
             let fresh = fresh_state(s);
             OpeningReply {
                 state: fresh,

@@ -1,12 +1,12 @@
 // A journal played back: settings line and journal lines in, answer lines and records out.
-ghost use mathlib.Core.Path.{_≡_};
 ghost use Prim.Native.Nat.{_<_, _≤_};
 ghost use lib.ListN.{length};
-ghost use Rattle.area.specs.Laid.{inFront};
 ghost use Rattle.store.specs.Columns.{columnsOf};
+ghost use Rattle.node.specs.View.{Lent, lentOf};
 ghost use Rattle.node.specs.Calls.{calledOn};
-ghost use Rattle.reply.specs.Reply.{replyText, longestReply};
+ghost use Rattle.reply.specs.Reply.{longestReply};
 ghost use Rattle.cursor.specs.Cut.{Lies};
+ghost use Rattle.playback.specs.Replied.{Replied};
 use cursor::Cursor;
 use node::State;
 use setup::Played;
@@ -20,16 +20,17 @@ fn play_line(
     arrivals: &mut [u32],
     kinds: &mut [u8],
     meters: &mut [u8],
+    sent: &mut [u8],
     text: &[u8],
     area: &mut [u8],
     out: &mut [u8],
 ) -> Played
     requires { ⌜ longestReply ≤ length (now out) ⌝ }
-    ensures { λ r. ⌜ r .state ≡ calledOn state (columnsOf (now (ids .entry)) (now (times .entry)) (now (values .entry)) (now (arrivals .entry)) (now (kinds .entry)) (now (meters .entry))) (now (text .entry)) (now (area .entry)) .state ⌝ }
-    ensures { λ _. ⌜ columnsOf (now (ids .exit)) (now (times .exit)) (now (values .exit)) (now (arrivals .exit)) (now (kinds .exit)) (now (meters .exit)) ≡ calledOn state (columnsOf (now (ids .entry)) (now (times .entry)) (now (values .entry)) (now (arrivals .entry)) (now (kinds .entry)) (now (meters .entry))) (now (text .entry)) (now (area .entry)) .columns ⌝ }
-    ensures { λ _. ⌜ now (area .exit) ≡ calledOn state (columnsOf (now (ids .entry)) (now (times .entry)) (now (values .entry)) (now (arrivals .entry)) (now (kinds .entry)) (now (meters .entry))) (now (text .entry)) (now (area .entry)) .area ⌝ }
-    ensures { λ r. ⌜ r .used ≡ length (replyText (calledOn state (columnsOf (now (ids .entry)) (now (times .entry)) (now (values .entry)) (now (arrivals .entry)) (now (kinds .entry)) (now (meters .entry))) (now (text .entry)) (now (area .entry)))) ⌝ }
-    ensures { λ _. ⌜ now (out .exit) ≡ inFront (replyText (calledOn state (columnsOf (now (ids .entry)) (now (times .entry)) (now (values .entry)) (now (arrivals .entry)) (now (kinds .entry)) (now (meters .entry))) (now (text .entry)) (now (area .entry)))) (now (out .entry)) ⌝ }
+    ensures { λ r. ⌜ (let x : Lent = lentOf (columnsOf (now (ids .entry)) (now (times .entry)) (now (values .entry)) (now (arrivals .entry))
+        (now (kinds .entry)) (now (meters .entry))) (now (sent .entry)) in
+        let x′ : Lent = lentOf (columnsOf (now (ids .exit)) (now (times .exit)) (now (values .exit)) (now (arrivals .exit))
+        (now (kinds .exit)) (now (meters .exit))) (now (sent .exit)) in
+        Replied (calledOn state x (now (text .entry)) (now (area .entry))) (now (out .entry)) r x′ (now (area .exit)) (now (out .exit))) ⌝ }
 {
     let done = calls::call(
         state,
@@ -39,14 +40,14 @@ fn play_line(
         arrivals,
         kinds,
         meters,
+        sent,
         text,
         area,
     );
     let next = done.state;
     let settings = next.settings;
     let phase = next.phase;
-    let at = reply::put_answer(out, done.answer, done.records, settings.lines, phase);
-    let used = reply::put_records(out, at, area, done.records as usize);
+    let used = reply::put_reply(out, done.answer, done.records, settings.lines, phase, area);
     Played {
         state: next,
         used: used,
@@ -70,6 +71,7 @@ fn play_lines(
     arrivals: &mut [u32],
     kinds: &mut [u8],
     meters: &mut [u8],
+    sent: &mut [u8],
     area: &mut [u8],
     buf: &mut [u8],
     out: &mut [u8],
@@ -90,6 +92,7 @@ fn play_lines(
             arrivals,
             kinds,
             meters,
+            sent,
             &buf[start..end],
             area,
             &mut out[used..],
@@ -108,6 +111,7 @@ pub fn run() {
     let mut arrivals = [0u32; store::MOST_PLACES];
     let mut kinds = [0u8; store::MOST_PLACES];
     let mut meters = [0u8; store::MOST_PLACES];
+    let mut sent = [0u8; shape::HELD_BYTES];
     let mut area = [0u8; shape::AREA_BYTES];
     let mut buf = io::large_buffer();
     let mut out = io::large_buffer();
@@ -118,6 +122,7 @@ pub fn run() {
         &mut arrivals,
         &mut kinds,
         &mut meters,
+        &mut sent,
         &mut buf,
         &mut out,
     );
@@ -129,6 +134,7 @@ pub fn run() {
         &mut arrivals,
         &mut kinds,
         &mut meters,
+        &mut sent,
         &mut area,
         &mut buf,
         &mut out,

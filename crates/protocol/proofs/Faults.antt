@@ -1,87 +1,22 @@
--- The answer to a call is the first fault that it has, and what each fault says in plain arithmetic. Assumes nothing.
-use Prim.Native.Nat.{ℕ, zero, suc, _+_, _≤_, _<_}
+-- What each test of a call says in plain arithmetic.
+use Prim.Native.Nat.{ℕ, zero, suc, _≤_, _<_}
 use mathlib.Core.Path.{_≡_, refl, sym, ap}
-use mathlib.Core.Bool.{Bool, true, false, cond, not, _&&_, _||_, true≢false}
+use mathlib.Core.Bool.{Bool, true, false, not, _&&_, _||_, true≢false}
 use mathlib.Core.List.{List, [], _∷_}
 use mathlib.Core.Logic.{_↔_}
 use native.Mathlib.Omega.{arith}
-use lib.Dec.{leb, ltb, eqb}
+use lib.Dec.{leb, eqb}
 use lib.IntN.{ℤ, pos, negsuc, pos-ne-negsuc}
 use lib.ListN.{length, getD}
 use borrow.Author.Tests.{leb-true, eqb-true, eqb-false, not-false}
 use borrow.Author.Tests.{le-leb, eq-eqb}
 use Rattle.settings.specs.declared.Settings.{Settings}
-use Rattle.journal.specs.declared.Call.{Call}
 use Rattle.journal.specs.Kinds.{letterT}
 use Rattle.store.specs.declared.Reading.{Reading}
 use Rattle.store.specs.Lists.{Every, someOf, modify}
-use Rattle.protocol.specs.Kinds.{Kind, kindOf, uses}
-use Rattle.protocol.specs.Node.{Line, Node, keepsTentative}
-use Rattle.protocol.specs.Refusals.{firstFailed, lineOf, wrongLine, isZero, unusedField, wrongMeter, wrongId}
-use Rattle.protocol.specs.Refusals.{tooEarly, isHeldBack, isFull, callTests, lineTests, testsOf, answerTo}
-
--- the number of the first fault, counted from j on, 0 if there is none
-unfoldable pub firstFault : ℕ → List Bool → ℕ
-firstFault j [] = 0
-firstFault j (b ∷ bs) = cond b j (firstFault (suc j) bs)
-
--- the faults of a call in their order: refusal 7 is the first of them, 14 the last
-unfoldable pub faults : Settings → Node → Call → Kind → List Bool
-faults s n k kind =
-    ltb (k .now .0) (n .clock .0) ∷ wrongLine s kind (k .line) ∷ unusedField k kind ∷ wrongMeter (k .meter) kind ∷
-    wrongId (lineOf n k) (k .id) kind ∷ tooEarly (lineOf n k) (k .time .0) kind ∷ isHeldBack (lineOf n k) kind ∷
-    isFull (lineOf n k) kind ∷ []
-
-pub answer-is-first-fault : (s : Settings) (n : Node) (k : Call) → answerTo s n k ≡ firstFault 7 (faults s n k (kindOf (k .kind)))
-unfolding answerTo testsOf callTests lineTests firstFailed firstFault faults
-answer-is-first-fault s n k = refl
-
--- the fault at place i is the first one
-abbrev pub FirstAt : ℕ → List Bool → Type 0
-FirstAt i bs = (getD bs i false ≡ true) × ((m : ℕ) → m < i → getD bs m false ≡ false)
-
--- there is no fault
-abbrev pub NoFault : List Bool → Type 0
-NoFault [] = Unit {0}
-NoFault (b ∷ bs) = (b ≡ false) × NoFault bs
-
-pub no-fault : (j : ℕ) (bs : List Bool) → 0 < j → (firstFault j bs ≡ 0) ↔ NoFault bs
-unfolding firstFault
-no-fault j [] h = (λ e. tt, λ f. refl)
-no-fault j (true ∷ bs) h = (λ e. absurd (omega arith), λ f. absurd (true≢false (f .0)))
-no-fault j (false ∷ bs) h =
-    (λ e. (refl, no-fault (suc j) bs (omega arith) .0 e), λ f. no-fault (suc j) bs (omega arith) .1 (f .1))
-
--- a first fault found later has a later number
-pub fault-past : (j : ℕ) (bs : List Bool) → (0 < firstFault j bs) → j ≤ firstFault j bs
-unfolding firstFault
-fault-past j [] h = absurd (omega arith)
-fault-past j (true ∷ bs) h = omega arith
-fault-past j (false ∷ bs) h = omega (arith, fault-past (suc j) bs h)
-
-pub first-at : (j : ℕ) (bs : List Bool) (i : ℕ) → 0 < j → i < length bs → (firstFault j bs ≡ j + i) ↔ FirstAt i bs
-unfolding firstFault
-first-at j [] i h g = absurd (omega arith)
-first-at j (true ∷ bs) zero h g = (λ e. (refl, λ m l. absurd (omega arith)), λ f. omega arith)
-first-at j (true ∷ bs) (suc i) h g =
-    (λ e. absurd (omega arith), λ f. absurd (true≢false (f .1 0 (omega arith))))
-first-at j (false ∷ bs) zero h g = (
-  λ e. absurd (let q : suc j ≤ firstFault (suc j) bs = fault-past (suc j) bs (omega arith) in omega arith),
-  λ f. absurd (true≢false (sym (f .0))),
-)
-first-at j (false ∷ bs) (suc i) h g = (
-  λ e. later (first-at (suc j) bs i (omega arith) (omega arith) .0 (omega arith)),
-  λ f.
-      let q : firstFault (suc j) bs ≡ suc j + i = first-at (suc j) bs i (omega arith) (omega arith) .1 (f .0, λ m l. f .1 (suc m) (omega arith)) in
-      omega arith,
-)
-  where
-    before : FirstAt i bs → (m : ℕ) → m < suc i → getD (false ∷ bs) m false ≡ false
-    before f zero l = refl
-    before f (suc m) l = f .1 m (omega arith)
-
-    later : FirstAt i bs → FirstAt (suc i) (false ∷ bs)
-    later f = (f .0, before f)
+use Rattle.protocol.specs.Kinds.{Kind, uses}
+use Rattle.protocol.specs.Node.{Line, keepsTentative}
+use Rattle.protocol.specs.Refusals.{isZero, isFull}
 
 pub getD-modify : {A : Type 0} (f : A → A) (xs : List A) (i : ℕ) (d : A) → i < length xs → getD (modify f i xs) i d ≡ f (getD xs i d)
 unfolding modify
@@ -122,11 +57,15 @@ three-iff a b z =
     and-iff (eqb a 0) (eqb b 0 && isZero z) (eqb-iff a 0) (and-iff (eqb b 0) (isZero z) (eqb-iff b 0) (zero-iff z))
 
 -- four fields are 0
-pub four-iff : (a b c : ℕ) (z : ℤ) → (eqb a 0 && (eqb b 0 && (eqb c 0 && isZero z)) ≡ true) ↔ ((a ≡ 0) × ((b ≡ 0) × ((c ≡ 0) × (z ≡ pos 0))))
+pub four-iff :
+    (a b c : ℕ) (z : ℤ) →
+    (eqb a 0 && (eqb b 0 && (eqb c 0 && isZero z)) ≡ true) ↔ ((a ≡ 0) × ((b ≡ 0) × ((c ≡ 0) × (z ≡ pos 0))))
 four-iff a b c z = and-iff (eqb a 0) (eqb b 0 && (eqb c 0 && isZero z)) (eqb-iff a 0) (three-iff b c z)
 
 -- no reading of the list has the letter T
-pub none-iff : (rs : List Reading) → (someOf (λ (r : Reading). eqb (r .kind) letterT) rs ≡ false) ↔ Every (λ (r : Reading). r .kind ≡ letterT → ⊥) rs
+pub none-iff :
+    (rs : List Reading) →
+    (someOf (λ (r : Reading). eqb (r .kind) letterT) rs ≡ false) ↔ Every (λ (r : Reading). r .kind ≡ letterT → ⊥) rs
 unfolding someOf
 none-iff [] = (λ e. tt, λ h. refl)
 none-iff (r ∷ rs) =
@@ -152,10 +91,3 @@ full-256 l Kind.B e = absurd (true≢false (sym e))
 full-256 l Kind.U e = absurd (true≢false (sym e))
 full-256 l Kind.R e = absurd (true≢false (sym e))
 full-256 l Kind.P e = absurd (true≢false (sym e))
-
--- the eight tests passed
-abbrev pub Passes : Settings → Node → Call → Kind → Type 0
-Passes s n k kind =
-    (ltb (k .now .0) (n .clock .0) ≡ false) × (wrongLine s kind (k .line) ≡ false) × (unusedField k kind ≡ false) ×
-    (wrongMeter (k .meter) kind ≡ false) × (wrongId (lineOf n k) (k .id) kind ≡ false) ×
-    (tooEarly (lineOf n k) (k .time .0) kind ≡ false) × (isHeldBack (lineOf n k) kind ≡ false) × (isFull (lineOf n k) kind ≡ false)

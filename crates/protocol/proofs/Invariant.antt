@@ -28,7 +28,7 @@ use Rattle.protocol.specs.declared.Rule.{Rule}
 use Rattle.protocol.specs.declared.Rule.the-variants as Rule
 use Rattle.protocol.specs.Rules.{isCorrecting, ruleOf, without, boundaryAt, worked, act}
 use Rattle.protocol.specs.Refusals.{lineOf, answerTo}
-use Rattle.protocol.specs.Calls.{input, done as doneBy, accepted, outcomeOf}
+use Rattle.protocol.specs.Calls.{input, done as doneBy, accepted, outcomeOf, acknowledgedBy}
 use Rattle.protocol.specs.Monitor.{LineMonitor, observeLine, observeInput, observeKind, observe}
 use Rattle.protocol.specs.FailureFree.{stableAfter, failureFree}
 use Rattle.protocol.specs.Runs.{Event, Trace, isAccepted, next, after}
@@ -81,6 +81,7 @@ Stepped s t now q =
       node = accepted now (act s (t .node) q) .node;
       monitor = monitorAct (t .monitor) q;
       stables = t .stables;
+      acknowledged = t .acknowledged;
       output = t .output ++ accepted now (act s (t .node) q) .records;
     }
 
@@ -91,6 +92,7 @@ Called s t k kind =
       node = accepted (k .now) (doneBy s (t .node) k kind) .node;
       monitor = observeKind s (t .monitor) k kind;
       stables = modify (withStable k kind) (k .line - 1) (t .stables);
+      acknowledged = t .acknowledged;
       output = t .output ++ accepted (k .now) (doneBy s (t .node) k kind) .records;
     }
 
@@ -104,7 +106,7 @@ measured-bucket s c p phase operator checkpoint zs out rs e q v =
     (work-onward s letterS c (inBucket (s .bucket) c zs) (failureFree s zs c .operator)) s c)
 
 module _ (s : Settings) (room : 0 < s .bucket) (t : Trace) (v : Invariant s t) where
-  input-kept : (k : Call) (kind : Kind) → kindOf (k .kind) ≡ kind → Passed (t .node) k kind → Invariant s (record { node = accepted (k .now) (input (t .node) k kind) .node; monitor = observeInput (t .monitor) k kind; stables = modify (withStable k kind) (k .line - 1) (t .stables); output = t .output ++ accepted (k .now) (input (t .node) k kind) .records })
+  input-kept : (k : Call) (kind : Kind) → kindOf (k .kind) ≡ kind → Passed s (t .node) k kind → Invariant s (record { node = accepted (k .now) (input (t .node) k kind) .node; monitor = observeInput (t .monitor) k kind; stables = modify (withStable k kind) (k .line - 1) (t .stables); acknowledged = t .acknowledged; output = t .output ++ accepted (k .now) (input (t .node) k kind) .records })
   unfolding accepted input observeInput lineOf
   input-kept k kind e h =
       record {
@@ -156,6 +158,15 @@ module _ (s : Settings) (room : 0 < s .bucket) (t : Trace) (v : Invariant s t) w
             measured-bucket s (t .node .c) (t .node .p) (t .node .phase) (t .node .operator) (t .node .checkpoint) (t .stables) (t .output) _
             (ap sort (each-gather s (t .node .c) room 1 (each-finished s (t .node .c) e (v .lines)))) q (v .output);
       }
+
+  -- what rule 2 gives are the failure-free run's next results
+  pub worked-free : isStable s (t .node .c) (t .node .lines) ≡ true → t .node .p ≡ t .node .c → failureFree s (t .stables) (suc (t .node .c)) .records ≡ failureFree s (t .stables) (t .node .c) .records ++ worked s letterS (t .node .c) (t .node) .records
+  unfolding failureFree worked inBucket
+  worked-free e q =
+      let readings : sort (gather (s .bucket) (t .node .c) 1 (keptOf (t .node .lines))) ≡ sort (gather (s .bucket) (t .node .c) 1 (t .stables)) =
+      ap sort (each-gather s (t .node .c) room 1 (each-finished s (t .node .c) e (v .lines))) in
+      let from : t .node .operator ≡ failureFree s (t .stables) (t .node .c) .operator = v .output .level (sym q) .0 ∙ v .output .atCheckpoint in
+      rw (readings, from)
 
   end-kept : (now : ArrivalTick) → Invariant s (Stepped s t now Rule.EndCorrection)
   unfolding Stepped accepted act monitorAct isCorrecting
@@ -212,7 +223,7 @@ module _ (s : Settings) (room : 0 < s .bucket) (t : Trace) (v : Invariant s t) w
   unfolding withStable
   no-new-stable k = modify-same (withStable k Kind.P) (λ rs. refl) (k .line - 1) (t .stables)
 
-  called-kept : (k : Call) (kind : Kind) → kindOf (k .kind) ≡ kind → Passed (t .node) k kind → Invariant s (Called s t k kind)
+  called-kept : (k : Call) (kind : Kind) → kindOf (k .kind) ≡ kind → Passed s (t .node) k kind → Invariant s (Called s t k kind)
   unfolding Called doneBy observeKind isStep uses Stepped
   called-kept k Kind.S e h = input-kept k Kind.S e h
   called-kept k Kind.T e h = input-kept k Kind.T e h
@@ -238,6 +249,7 @@ module _ (s : Settings) (room : 0 < s .bucket) (t : Trace) (v : Invariant s t) w
         node = cond b (accepted (k .now) (doneBy s (t .node) k (kindOf (k .kind)))) (record { node = t .node; records = [] }) .node;
         monitor = cond b (observeKind s (t .monitor) k (kindOf (k .kind))) (t .monitor);
         stables = stableAfter (t .stables) k b;
+        acknowledged = t .acknowledged;
         output =
             t .output ++
             cond b (accepted (k .now) (doneBy s (t .node) k (kindOf (k .kind)))) (record { node = t .node; records = [] }) .records;
@@ -248,10 +260,26 @@ module _ (s : Settings) (room : 0 < s .bucket) (t : Trace) (v : Invariant s t) w
       ])
       refl
 
+  -- an acknowledgement changes none of this
+  acknowledge-kept : (display id : ℕ) → Invariant s (next s t (Event.acknowledge display id))
+  unfolding next acknowledgedBy
+  acknowledge-kept display id =
+      record {
+        some = v .some;
+        same-c = v .same-c;
+        same-p = v .same-p;
+        same-mark = v .same-mark;
+        order = v .order;
+        level = v .level;
+        lines = v .lines;
+        output = v .output;
+      }
+
   pub next-kept : (e : Event) → Invariant s (next s t e)
   unfolding next
   next-kept Event.turnedAway = v
   next-kept (Event.journal k) = journal-kept k
+  next-kept (Event.acknowledge display id) = acknowledge-kept display id
 
 pub after-kept : (s : Settings) → 0 < s .bucket → (es : List Event) (t : Trace) → Invariant s t → Invariant s (after s t es)
 unfolding after

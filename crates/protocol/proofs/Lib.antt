@@ -10,7 +10,11 @@ pub mod Numbers
 pub mod FailureFree
 pub mod Undos
 pub mod Output
+pub mod FirstFailed
 pub mod Passed
+pub mod Counts
+pub mod StepResults
+pub mod Displays
 pub mod Invariant
 pub mod Opening
 pub mod FailureFreeTotals
@@ -18,4 +22,6 @@ pub mod Balance
 pub mod Settling
 pub mod Theorem
 pub mod Faults
+pub mod ByKind
 pub mod Acceptance
+pub mod SentBack

@@ -36,7 +36,7 @@ each-opened : (s : Settings) (n : ℕ) → Each (Agrees s 0) (replicate n noLine
 each-opened s zero = done
 each-opened s (suc n) = more (line-opened s) (each-opened s n)
 
-at-opening : (s : Settings) → 0 < s .lines → Invariant s (start s)
+pub at-opening : (s : Settings) → 0 < s .lines → Invariant s (start s)
 unfolding start opened freshMonitor failureFree isCorrecting applied struck doneDue stableRecords keep
 at-opening s h =
     record {

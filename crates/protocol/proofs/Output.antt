@@ -54,23 +54,23 @@ pub record Measured (c p : ℕ) (phase : Phase) (operator checkpoint : Operator)
 
 -- stable records of parts of an output
 
-stable-append : (xs ys : List Record) → stableRecords itself (xs ++ ys) ≡ stableRecords itself xs ++ stableRecords itself ys
+pub stable-append : (xs ys : List Record) → stableRecords itself (xs ++ ys) ≡ stableRecords itself xs ++ stableRecords itself ys
 unfolding stableRecords
 stable-append xs ys = keep-append (λ (r : Record). isStable (r .kind)) xs ys
 
-all-stable : (rs : List Record) → Every (λ (r : Record). r .kind ≡ letterS) rs → stableRecords itself rs ≡ rs
+pub all-stable : (rs : List Record) → Every (λ (r : Record). r .kind ≡ letterS) rs → stableRecords itself rs ≡ rs
 unfolding stableRecords isStable
 all-stable rs h = keep-all (λ (r : Record). isStable (r .kind)) rs (every-to rs (λ r e. ap isStable e) h)
 
-none-stable : (rs : List Record) → Every (λ (r : Record). r .kind ≡ letterT) rs → stableRecords itself rs ≡ []
+pub none-stable : (rs : List Record) → Every (λ (r : Record). r .kind ≡ letterT) rs → stableRecords itself rs ≡ []
 unfolding stableRecords isStable
 none-stable rs h = keep-none (λ (r : Record). isStable (r .kind)) rs (every-to rs (λ r e. ap isStable e) h)
 
-undo-not-stable : (n : ℕ) (time : ReadingTime) → stableRecords itself (plain letterU n time ∷ []) ≡ []
+pub undo-not-stable : (n : ℕ) (time : ReadingTime) → stableRecords itself (plain letterU n time ∷ []) ≡ []
 unfolding stableRecords isStable plain keep
 undo-not-stable n time = refl
 
-done-not-stable : (n : ℕ) (time : ReadingTime) → stableRecords itself (plain letterR n time ∷ []) ≡ []
+pub done-not-stable : (n : ℕ) (time : ReadingTime) → stableRecords itself (plain letterR n time ∷ []) ≡ []
 unfolding stableRecords isStable plain keep
 done-not-stable n time = refl
 
@@ -81,7 +81,7 @@ pub record Silent (results : List Record) (due : Bool) (rs : List Record) : Type
   pub keepsDue : doneDue itself due rs ≡ due
   pub stables : stableRecords itself rs ≡ []
 
-boundary-silent : (s : Settings) (j : ℕ) (results : List Record) (due : Bool) → Silent results due (boundaryAt s j)
+pub boundary-silent : (s : Settings) (j : ℕ) (results : List Record) (due : Bool) → Silent results due (boundaryAt s j)
 unfolding boundaryAt applied struck doneDue applyOne struckByOne isResult isStable isTentative plain keep stableRecords
 boundary-silent s j results due =
     elim (closesWindow (s .window) j) as

@@ -19,12 +19,12 @@ use Rattle.protocol.specs.Node.{Line, Node, isStable}
 use Rattle.protocol.specs.declared.Rule.{Rule}
 use Rattle.protocol.specs.Rules.{isCorrecting, ruleOf, without, act}
 use Rattle.protocol.specs.Refusals.{answerTo}
-use Rattle.protocol.specs.Calls.{done, accepted, outcomeOf}
+use Rattle.protocol.specs.Calls.{done, accepted, outcomeOf, acknowledgedBy}
 use Rattle.protocol.specs.Monitor.{stableBuckets, leftToWork}
 use Rattle.protocol.specs.Undos.{doneDue}
 use Rattle.protocol.specs.Runs.{Event, Trace, next}
 use Rattle.protocol.specs.StepCount.{stepsNeeded, leastBoundaryOf, bucketsLeft}
-use Rattle.protocol.specs.Demand.{itself, Steps, rest, step}
+use Rattle.protocol.specs.Demand.{itself, Steps, rest, step, aside}
 use Rattle.protocol.proofs.Rules.{rule-cases, stable-least, same-least}
 use Rattle.protocol.proofs.Invariant.{Invariant, next-kept}
 
@@ -136,7 +136,7 @@ module _ (s : Settings) (room : 0 < s .bucket) where
   left-same {t} v = sym (ap₂ (λ (m c : ℕ). m / s .bucket - c) (same-least s (t .node .c) (v .lines)) (v .same-c))
 
   steps-take : {n : ℕ} {t u : Trace} → Steps s t n u → Invariant s t → Invariant s u × (stepsAhead s (u .node) ≡ stepsAhead s (t .node) - n)
-  unfolding next
+  unfolding next acknowledgedBy stepsAhead bucketsLeft
   steps-take rest v = (v, omega arith)
   steps-take {u} (step {t = t} {n = n} k e a q) v =
       let r : Invariant s u × (stepsAhead s (u .node) ≡ stepsAhead s (next s t (Event.journal k) .node) - n) =
@@ -144,6 +144,7 @@ module _ (s : Settings) (room : 0 < s .bucket) where
       let h : stepsAhead s (next s t (Event.journal k) .node) ≡ stepsAhead s (t .node) - 1 =
       step-takes-one s (t .node) (invariant-level v) k e a in
       (r .0, omega (arith, r .1, h))
+  steps-take (aside {t = t} display id q) v = steps-take q (next-kept s room t v (Event.acknowledge display id))
 
   pub left-and-two : {t : Trace} → Invariant s t → stepsAhead s (t .node) ≤ leftToWork s (t .monitor) + 2
   unfolding stepsAhead

@@ -57,7 +57,7 @@ tentative-letter : (r : Record) → r .kind ≡ letterT → isTentative (r .kind
 unfolding isTentative
 tentative-letter r e = ap isTentative e
 
-came : (s : Settings) (t : Trace) → Invariant s t → stableRecords itself (t .output) ≡ stableResults s t
+pub came : (s : Settings) (t : Trace) → Invariant s t → stableRecords itself (t .output) ≡ stableResults s t
 unfolding stableResults
 came s t v = v .output .asTheyCame ∙ ap (λ n. failureFree s (t .stables) n .records) (v .same-c)
 

@@ -41,12 +41,13 @@ boundaries t = map (λ (g : LineMonitor). g .boundary) (t .monitor .lines)
 unfoldable pub sent : Trace → List (List Reading)
 sent t = map (map withoutArrival) (t .stables)
 
--- so many steps, none refused
+-- so many steps, none refused; between them displays may acknowledge
 pub data Steps (s : Settings) : Trace → ℕ → Trace → Type 0 where
   rest : {t : Trace} → Steps s t zero t
   step :
       {t u : Trace} {n : ℕ} (k : Call) → kindOf (k .kind) ≡ Kind.P → answerTo s (t .node) k ≡ 0 →
       Steps s (next s t (Event.journal k)) n u → Steps s t (suc n) u
+  aside : {t u : Trace} {n : ℕ} (display id : ℕ) → Steps s (next s t (Event.acknowledge display id)) n u → Steps s t n u
 
 pub record Demand3 : Type 0 where
   -- after any list: clean

@@ -27,7 +27,7 @@ pub record Line : Type 0 where
   pub kept : List Reading
 
 -- buckets below c are worked as stable; work goes on at bucket p. The operator's number is the newest result's id, the checkpoint's that of
--- the last stable result; 0 if there is none
+-- the last stable result; 0 if there is none. Of each display: the id up to which it has acknowledged stable results
 pub record Node : Type 0 where
   pub clock : ArrivalTick
   pub c : ℕ
@@ -36,32 +36,50 @@ pub record Node : Type 0 where
   pub operator : Operator
   pub checkpoint : Operator
   pub lines : List Line
+  pub acknowledged : List ℕ
 
 -- ---- the node with one thing changed, the rest as it was
 
+abbrev nodeOf : ArrivalTick → ℕ → ℕ → Phase → Operator → Operator → List Line → List ℕ → Node
+nodeOf clock c p phase operator checkpoint lines acknowledged =
+    record {
+      clock = clock;
+      c = c;
+      p = p;
+      phase = phase;
+      operator = operator;
+      checkpoint = checkpoint;
+      lines = lines;
+      acknowledged = acknowledged;
+    }
+
 abbrev pub withClock : ArrivalTick → Node → Node
 withClock clock n =
-    record { clock = clock; c = n .c; p = n .p; phase = n .phase; operator = n .operator; checkpoint = n .checkpoint; lines = n .lines }
+    nodeOf clock (n .c) (n .p) (n .phase) (n .operator) (n .checkpoint) (n .lines) (n .acknowledged)
 
 abbrev pub withBuckets : ℕ → ℕ → Node → Node
 withBuckets c p n =
-    record { clock = n .clock; c = c; p = p; phase = n .phase; operator = n .operator; checkpoint = n .checkpoint; lines = n .lines }
+    nodeOf (n .clock) c p (n .phase) (n .operator) (n .checkpoint) (n .lines) (n .acknowledged)
 
 abbrev pub withPhase : Phase → Node → Node
 withPhase phase n =
-    record { clock = n .clock; c = n .c; p = n .p; phase = phase; operator = n .operator; checkpoint = n .checkpoint; lines = n .lines }
+    nodeOf (n .clock) (n .c) (n .p) phase (n .operator) (n .checkpoint) (n .lines) (n .acknowledged)
 
 abbrev pub withOperator : Operator → Node → Node
 withOperator operator n =
-    record { clock = n .clock; c = n .c; p = n .p; phase = n .phase; operator = operator; checkpoint = n .checkpoint; lines = n .lines }
+    nodeOf (n .clock) (n .c) (n .p) (n .phase) operator (n .checkpoint) (n .lines) (n .acknowledged)
 
 abbrev pub withCheckpoint : Operator → Node → Node
 withCheckpoint checkpoint n =
-    record { clock = n .clock; c = n .c; p = n .p; phase = n .phase; operator = n .operator; checkpoint = checkpoint; lines = n .lines }
+    nodeOf (n .clock) (n .c) (n .p) (n .phase) (n .operator) checkpoint (n .lines) (n .acknowledged)
 
 abbrev pub withLines : List Line → Node → Node
 withLines lines n =
-    record { clock = n .clock; c = n .c; p = n .p; phase = n .phase; operator = n .operator; checkpoint = n .checkpoint; lines = lines }
+    nodeOf (n .clock) (n .c) (n .p) (n .phase) (n .operator) (n .checkpoint) lines (n .acknowledged)
+
+abbrev pub withAcknowledged : List ℕ → Node → Node
+withAcknowledged acknowledged n =
+    nodeOf (n .clock) (n .c) (n .p) (n .phase) (n .operator) (n .checkpoint) (n .lines) acknowledged
 
 -- ---- lines
 
@@ -79,6 +97,7 @@ opened s =
       operator = fresh;
       checkpoint = fresh;
       lines = replicate (s .lines) noLine;
+      acknowledged = replicate (s .displays) 0;
     }
 
 -- bucket j is stable: each line's boundary finishes it

@@ -1,4 +1,4 @@
--- Refusals 7 to 14, in order (document 01, section 'Refusal by whom'). Assumes nothing.
+-- Refusals 7 to 15, in order (document 01, section 'Refusal by whom'; document 02, W2). Assumes nothing.
 use Prim.Native.Nat.{ℕ, _+_, _-_}
 use mathlib.Core.Bool.{Bool, false, cond, not, _&&_, _||_}
 use mathlib.Core.List.{List, [], _∷_, _++_}
@@ -12,16 +12,10 @@ use Rattle.store.specs.Sizes.{readingsPerLine}
 use Rattle.operator.specs.Meters.{meterCount}
 use Rattle.protocol.specs.Kinds.{Kind, kindOf, uses, isStep}
 use Rattle.protocol.specs.Node.{Line, Node, noLine, keepsTentative}
-
--- a test that a call may fail, and document 01's number of that refusal
-pub record Test : Type 0 where
-  pub fails : Bool
-  pub number : ℕ
-
--- the number of the first test that fails, 0 if none does
-unfoldable pub firstFailed : List Test → ℕ
-firstFailed [] = 0
-firstFailed (t ∷ ts) = cond (t .fails) (t .number) (firstFailed ts)
+use Rattle.protocol.specs.Rules.{ruleOf}
+pub use Rattle.protocol.specs.Tests.{Test}
+unfoldable pub use Rattle.protocol.specs.Tests.{firstFailed}
+use Rattle.protocol.specs.Displays.{lacksPlaces}
 
 -- the line that a call names
 unfoldable pub lineOf : Node → Call → Line
@@ -88,9 +82,13 @@ lineTests l k kind =
     record { fails = isHeldBack l kind; number = 13 } ∷
     record { fails = isFull l kind; number = 14 } ∷ []
 
+-- that on a step's rule
+unfoldable pub stepTests : Settings → Node → ArrivalTick → Kind → List Test
+stepTests s n now kind = record { fails = isStep kind && lacksPlaces s n (ruleOf s n now); number = 15 } ∷ []
+
 -- all of them, in their order
 unfoldable pub testsOf : Settings → Node → Call → Kind → List Test
-testsOf s n k kind = callTests s (n .clock) k kind ++ lineTests (lineOf n k) k kind
+testsOf s n k kind = callTests s (n .clock) k kind ++ (lineTests (lineOf n k) k kind ++ stepTests s n (k .now) kind)
 
 -- the answer to a call: 0 if it is accepted
 unfoldable pub answerTo : Settings → Node → Call → ℕ

@@ -126,7 +126,7 @@ fn is_well_formed(bytes: &[u8]) -> bool
 }
 
 // The fields at their places.
-fn fields_of(bytes: &[u8]) -> Record
+pub fn fields_of(bytes: &[u8]) -> Record
     requires { ⌜ recordBytes ≤ length (now bytes) ⌝ }
     ensures { λ r. ⌜ r ≡ fieldsOf (now (bytes .entry)) ⌝ }
 {

@@ -1,5 +1,6 @@
-// Refusals 7 to 14: what is wrong with a call that was read.
+// Refusals 7 to 14: what is wrong with a call that was read, whatever rule applies; and the number of 15, which asks for the rule.
 ghost use mathlib.Core.Path.{_≡_};
+ghost use mathlib.Core.List.{_++_};
 ghost use Prim.Native.Nat.{_+_, _*_, _≤_};
 ghost use lib.Dec.{eqb};
 ghost use lib.ListN.{length, take};
@@ -9,9 +10,10 @@ ghost use Rattle.store.specs.Sizes.{readingsPerLine};
 ghost use Rattle.store.specs.Columns.{Columns, storeLength};
 ghost use Rattle.store.specs.Parts.{share};
 ghost use Rattle.columns.specs.Shape.{isReadingKind};
-ghost use Rattle.protocol.specs.Kinds.{kindOf, isStep};
+ghost use Rattle.protocol.specs.Kinds.{Kind, kindOf, isStep};
 ghost use Rattle.protocol.specs.Node.{Line, keepsTentative};
-ghost use Rattle.protocol.specs.Refusals.{firstFailed, wrongLine, unusedField, wrongMeter, wrongId, tooEarly, isHeldBack, isFull, callTests, lineTests, answerTo};
+ghost use Rattle.protocol.specs.Refusals.{firstFailed, lineOf, wrongLine, unusedField, wrongMeter, wrongId, tooEarly, isHeldBack, isFull};
+ghost use Rattle.protocol.specs.Refusals.{callTests, lineTests};
 ghost use Rattle.node.specs.declared.State.{State as Whole};
 ghost use Rattle.node.specs.View.{view};
 ghost use Rattle.refusals.specs.Tests.{StandsIn};
@@ -20,7 +22,7 @@ use journal::Call;
 use node::LineHead;
 use settings::Settings;
 
-// Document 01's numbers of these refusals.
+// The documents' numbers of these refusals.
 pub const EARLIER_CALL: u32 = 7;
 
 pub const WRONG_LINE: u32 = 8;
@@ -37,6 +39,8 @@ pub const HELD_BACK: u32 = 13;
 
 pub const FULL: u32 = 14;
 
+pub const LACKS_PLACES: u32 = 15;
+
 // Whether the kind is one of a reading.
 fn is_reading(kind: u8) -> bool
     ensures { λ r. ⌜ r ≡ isReadingKind kind ⌝ }
@@ -45,7 +49,7 @@ fn is_reading(kind: u8) -> bool
 }
 
 // Whether the kind is none of the five that name a line.
-fn is_step(kind: u8) -> bool
+pub fn is_step(kind: u8) -> bool
     ensures { λ r. ⌜ r ≡ isStep (kindOf kind) ⌝ }
 {
     !(is_reading(kind)
@@ -88,7 +92,8 @@ fn is_wrong_meter(meter: u8, kind: u8) -> bool
 
 // Refusal 11: not the next id of a reading, or an undo to an id that cannot be undone to.
 fn is_wrong_id(head: LineHead, id: u32, kind: u8) -> bool
-    ensures { λ r. ⌜ ((l : Line) → l .lastId ≡ head .«last_id» → l .lastStableId ≡ head .«last_stable_id» → r ≡ wrongId l id (kindOf kind)) ⌝ }
+    ensures { λ r.
+        ⌜ ((l : Line) → l .lastId ≡ head .«last_id» → l .lastStableId ≡ head .«last_stable_id» → r ≡ wrongId l id (kindOf kind)) ⌝ }
 {
     if is_reading(kind) {
         return id as u64 != head.last_id as u64 + 1;
@@ -106,7 +111,9 @@ fn is_too_early(head: LineHead, time: u32, kind: u8) -> bool
 // Refusal 13: tentative readings must be undone first.
 fn is_held_back(head: LineHead, kinds: &[u8], base: usize, kind: u8) -> bool
     requires { ⌜ base + head .kept ≤ length (now kinds) ⌝ }
-    ensures { λ r. ⌜ ((l : Line) → keepsTentative l ≡ someOf (λ kept. eqb kept letterT) (share base (head .kept) (now (kinds .entry))) → r ≡ isHeldBack l (kindOf kind)) ⌝ }
+    ensures { λ r.
+        ⌜ ((l : Line) → keepsTentative l ≡ someOf (λ kept. eqb kept letterT) (share base (head .kept) (now (kinds .entry))) →
+        r ≡ isHeldBack l (kindOf kind)) ⌝ }
 {
     if (kind == journal::STABLE) | ((kind == journal::BOUNDARY) | (kind == journal::DONE)) {
         return columns::keeps_tentative(kinds, base, head.kept as usize);
@@ -143,7 +150,8 @@ fn call_refusal(s: Settings, clock: ArrivalTick, k: Call) -> u32
 // The first of refusals 11 to 14 of a call on a line whose share begins at `base`; 0 if there is none.
 fn line_refusal(head: LineHead, kinds: &[u8], base: usize, k: Call) -> u32
     requires { ⌜ base + head .kept ≤ length (now kinds) ⌝ }
-    ensures { λ r. ⌜ ((l : Line) → StandsIn head (now (kinds .entry)) base l → r ≡ firstFailed (lineTests l k (kindOf (k .kind)))) ⌝ }
+    ensures { λ r.
+        ⌜ ((l : Line) → StandsIn head (now (kinds .entry)) base l → r ≡ firstFailed (lineTests l k (kindOf (k .kind)))) ⌝ }
 {
     if is_wrong_id(head, k.id, k.kind) {
         return WRONG_ID;
@@ -160,7 +168,7 @@ fn line_refusal(head: LineHead, kinds: &[u8], base: usize, k: Call) -> u32
     0
 }
 
-// The number of the first refusal that fits a call, 0 if none does.
+// The number of the first of refusals 7 to 14 that fits a call, 0 if none does.
 pub fn refusal(
     s: Settings,
     clock: ArrivalTick,
@@ -168,8 +176,13 @@ pub fn refusal(
     kinds: &[u8],
     k: Call,
 ) -> u32
-    requires { ⌜ (s .lines ≤ 8) × (s .lines * readingsPerLine ≤ length (now kinds)) × Every (λ h. h .kept ≤ readingsPerLine) (take (s .lines) heads) ⌝ }
-    ensures { λ r. ⌜ ((st : Whole) → (x : Columns) → st .settings ≡ s → st .clock ≡ clock → st .heads ≡ heads → x .kinds ≡ now (kinds .entry) → s .lines * readingsPerLine ≤ storeLength x → r ≡ answerTo s (view st x) k) ⌝ }
+    requires { ⌜ (s .lines ≤ 8) × (s .lines * readingsPerLine ≤ length (now kinds)) ×
+        Every (λ h. h .kept ≤ readingsPerLine) (take (s .lines) heads) ⌝ }
+    ensures { λ r.
+        let kind : Kind = kindOf (k .kind) in
+        ⌜ ((st : Whole) → (x : Columns) → st .settings ≡ s → st .heads ≡ heads → x .kinds ≡ now (kinds .entry) →
+        s .lines * readingsPerLine ≤ storeLength x →
+        r ≡ firstFailed (callTests s clock k kind ++ lineTests (lineOf (view st x) k) k kind)) ⌝ }
 {
     let early = call_refusal(s, clock, k);
     if early != 0 {

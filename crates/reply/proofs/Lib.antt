@@ -3,3 +3,4 @@ pub mod Words
 pub mod Records
 pub mod Texts
 pub mod Longest
+pub mod Replies

@@ -2,7 +2,7 @@
 -- A line of each bound is there. Assumes nothing.
 use mathlib.Core.Path.{_≡_, refl}
 use mathlib.Core.Bool.{Bool, true, false, cond}
-use mathlib.Core.List.{[], _∷_, _++_}
+use mathlib.Core.List.{List, [], _∷_, _++_}
 use Prim.Native.Nat.{ℕ, _+_, _≤_, _<_, _^_}
 use native.Mathlib.Omega.{arith}
 use lib.Dec.{eqb}
@@ -15,10 +15,9 @@ use Rattle.endian.proofs.LittleEndian.{AreBytes}
 use Rattle.protocol.specs.declared.Phase.{Phase}
 use Rattle.protocol.specs.declared.Phase.the-variants as Phase
 use Rattle.node.specs.Sizes.{recordsPerCall}
-use Rattle.node.specs.Calls.{Called}
 use Rattle.fields.specs.Line.{field, lineOf}
 use Rattle.reply.specs.Sizes.{longestAnswer, longestReply}
-use Rattle.reply.specs.Reply.{phaseWord, wordOf, answerLine, replyText}
+use Rattle.reply.specs.Reply.{phaseWord, wordOf, answerLine, replyLines}
 use Rattle.reply.specs.Parts.{answerField, recordsField, stateField}
 use Rattle.reply.proofs.Records.{recordLines-short}
 
@@ -64,19 +63,17 @@ pub answer-longest : length (answerLine 4294967295 4294967295 1 Phase.Correcting
 unfolding answerLine lineOf field wordOf phaseWord decimal digits digitsWithin
 answer-longest = refl
 
-pub answer-longest-few : length (answerLine 14 recordsPerCall 1 Phase.Correcting) ≡ 38
+pub answer-longest-few : length (answerLine 17 recordsPerCall 1 Phase.Correcting) ≡ 38
 unfolding answerLine lineOf field wordOf phaseWord decimal digits digitsWithin
 answer-longest-few = refl
 
 pub longestReply-number : longestReply ≡ 8049
 longestReply-number = refl
 
-pub reply-short : (q : Called) → q .answer < 2 ^ 32 → q .records ≤ recordsPerCall → AreBytes (q .area) → length (replyText q) ≤ longestReply
-unfolding replyText
-reply-short q a n h =
+pub reply-short :
+    (answer records lines : ℕ) (phase : Phase) (area : List ℕ) → answer < 2 ^ 32 → records ≤ recordsPerCall → AreBytes area →
+    length (replyLines answer records lines phase area) ≤ longestReply
+unfolding replyLines
+reply-short answer records lines phase area a n h =
     simp length-append
-    (omega (
-      arith,
-      answer-short (q .answer) (q .records) (q .state .settings .lines) (q .state .phase) a (omega arith),
-      recordLines-short (q .records) (q .area) h,
-    ))
+    (omega (arith, answer-short answer records lines phase a (omega arith), recordLines-short records area h))

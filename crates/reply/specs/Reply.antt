@@ -50,9 +50,13 @@ unfoldable pub recordLines : ℕ → List ℕ → List ℕ
 recordLines zero area = []
 recordLines (suc n) area = textOf (decoded (take recordBytes area)) ++ recordLines n (drop recordBytes area)
 
+-- the answer line, and behind it the texts of as many records as it says
+unfoldable pub replyLines : ℕ → ℕ → ℕ → Phase → List ℕ → List ℕ
+replyLines answer records lines phase area = answerLine answer records lines phase ++ recordLines records area
+
 -- what is printed for a call, and for an opening
 unfoldable pub replyText : Called → List ℕ
-replyText q = answerLine (q .answer) (q .records) (q .state .settings .lines) (q .state .phase) ++ recordLines (q .records) (q .area)
+replyText q = replyLines (q .answer) (q .records) (q .state .settings .lines) (q .state .phase) (q .area)
 
 unfoldable pub openingText : Opened → List ℕ
 openingText q = answerLine (q .answer) 0 (q .state .settings .lines) (q .state .phase)

@@ -8,8 +8,9 @@ ghost use Rattle.record.specs.Sizes.{recordBytes};
 ghost use Rattle.record.specs.Decoded.{decoded};
 ghost use Rattle.record_text.specs.Sizes.{longestRecordText};
 ghost use Rattle.record_text.specs.RecordText.{textOf};
-ghost use Rattle.reply.specs.Sizes.{longestAnswer};
-ghost use Rattle.reply.specs.Reply.{wordOf, answerLine, recordLines};
+ghost use Rattle.node.specs.Sizes.{recordsPerCall};
+ghost use Rattle.reply.specs.Sizes.{longestAnswer, longestReply};
+ghost use Rattle.reply.specs.Reply.{wordOf, answerLine, recordLines, replyLines};
 ghost use Rattle.reply.specs.Parts.{stateField};
 use fields::Written;
 use protocol::Phase;
@@ -91,4 +92,21 @@ pub fn put_records(out: &mut [u8], at: usize, area: &[u8], n: usize) -> usize
         i += 1;
     }
     place
+}
+
+// Writes the reply to a call from the first place on: the answer line, and the texts of the area's first records; answers its length.
+pub fn put_reply(
+    out: &mut [u8],
+    answer: u32,
+    records: u32,
+    lines: u32,
+    phase: Phase,
+    area: &[u8],
+) -> usize
+    requires { ⌜ (longestReply ≤ length (now out)) × (records ≤ recordsPerCall) × (records * recordBytes ≤ length (now area)) ⌝ }
+    ensures { λ r. ⌜ r ≡ length (replyLines answer records lines phase (now (area .entry))) ⌝ }
+    ensures { λ _. ⌜ now (out .exit) ≡ inFront (replyLines answer records lines phase (now (area .entry))) (now (out .entry)) ⌝ }
+{
+    let at = put_answer(out, answer, records, lines, phase);
+    put_records(out, at, area, records as usize)
 }

@@ -9,7 +9,7 @@ ghost use Rattle.store.specs.Columns.{Columns, columnsOf, storeLength, rows};
 ghost use Rattle.protocol.specs.Node.{isStable};
 ghost use Rattle.protocol.specs.Rules.{isCorrecting, someOverdue, ruleOf};
 ghost use Rattle.node.specs.View.{viewLines, places, view};
-ghost use Rattle.node.specs.Shape.{inShape};
+ghost use Rattle.node.specs.Shape.{stateInShape};
 use clock::ArrivalTick;
 use node::LineHead;
 use node::State;
@@ -78,7 +78,8 @@ pub fn rule_of(
     meters: &[u8],
     tick: ArrivalTick,
 ) -> Rule
-    requires { ⌜ (places state ≤ storeLength (columnsOf (now ids) (now times) (now values) (now arrivals) (now kinds) (now meters))) × (inShape state (columnsOf (now ids) (now times) (now values) (now arrivals) (now kinds) (now meters)) ≡ true) ⌝ }
+    requires { ⌜ (let x : Columns = columnsOf (now ids) (now times) (now values) (now arrivals) (now kinds) (now meters) in
+        (places state ≤ storeLength x) × (stateInShape state x ≡ true)) ⌝ }
     ensures { λ r. ⌜ r ≡ ruleOf (state .settings) (view state (columnsOf (now (ids .entry)) (now (times .entry)) (now (values .entry)) (now (arrivals .entry)) (now (kinds .entry)) (now (meters .entry)))) tick ⌝ }
 {
     let settings = state.settings;

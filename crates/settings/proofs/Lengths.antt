@@ -26,6 +26,7 @@ settings-line-short s fit =
       unsigned32-short (s .hold) (fit .hold),
       decimal32-short (s .low) (fit .low),
       decimal32-short (s .high) (fit .high),
+      unsigned32-short (s .displays) (fit .displays),
     )
 
 abbrev pub longestSettings : Settings
@@ -37,6 +38,7 @@ longestSettings =
       hold = 2 ^ 32 - 1;
       low = negsuc (2 ^ 31 - 1);
       high = negsuc (2 ^ 31 - 1);
+      displays = 2 ^ 32 - 1;
     }
 
 pub longest-settings-line : length (settingsText longestSettings) ≡ longestSettingsLine

@@ -12,7 +12,7 @@ use Rattle.fields.specs.Line.{field, lineOf}
 use Rattle.fields.specs.Field.{endsLine, withNumber, withInteger, first, later}
 use Rattle.fields.proofs.Spells.{Spells, spells-append}
 use Rattle.fields.proofs.Fields.{picked, number-field-sound, number-field-complete, integer-field-sound, integer-field-complete, with-number, with-integer, end-sound, end-complete}
-use Rattle.fields.specs.Keys.{linesKey, bucketKey, windowKey, holdKey, lowKey, highKey}
+use Rattle.fields.specs.Keys.{linesKey, bucketKey, windowKey, holdKey, lowKey, highKey, displaysKey}
 use Rattle.settings.specs.Limits.{SettingsFit}
 use Rattle.settings.specs.SettingsLine.{settingsText}
 use Rattle.settings.specs.ReadLine.{settingsAt}
@@ -28,7 +28,8 @@ stretches s =
     ((later windowKey ++ digits (s .window)) ++
     ((later holdKey ++ digits (s .hold)) ++
     ((later lowKey ++ decimal (s .low)) ++
-    ((later highKey ++ decimal (s .high)) ++ (10 ∷ []))))))
+    ((later highKey ++ decimal (s .high)) ++
+    ((later displaysKey ++ digits (s .displays)) ++ (10 ∷ [])))))))
 
 pub text-stretches : (s : Settings) → settingsText s ≡ stretches s
 unfolding settingsText stretches lineOf field decimal
@@ -55,17 +56,19 @@ settings-sound s at f x q =
     with-number z y no _ _ g3 λ hold e4 q4 g4.
     with-integer z y no _ _ g4 λ low e5 q5 g5.
     with-integer z y no _ _ g5 λ high e6 q6 g6.
-    let read : Settings = record { lines = lines; bucket = bucket; window = window; hold = hold; low = low; high = high } in
-    let p = picked (endsLine s e6) (SettingsAt.Line read (e6 + 1)) z y g6 no in
+    with-number z y no _ _ g6 λ displays e7 q7 g7.
+    let read : Settings = record { lines = lines; bucket = bucket; window = window; hold = hold; low = low; high = high; displays = displays } in
+    let p = picked (endsLine s e7) (SettingsAt.Line read (e7 + 1)) z y g7 no in
     let f1 = number-field-sound (first linesKey) s (2 ^ 32 - 1) at lines (omega arith) e1 q1 in
     let f2 = number-field-sound (later bucketKey) s (2 ^ 32 - 1) e1 bucket (omega arith) e2 q2 in
     let f3 = number-field-sound (later windowKey) s (2 ^ 32 - 1) e2 window (omega arith) e3 q3 in
     let f4 = number-field-sound (later holdKey) s (2 ^ 32 - 1) e3 hold (omega arith) e4 q4 in
     let f5 = integer-field-sound (later lowKey) s e4 low e5 q5 in
     let f6 = integer-field-sound (later highKey) s e5 high e6 q6 in
-    let spelled : Spells s at (settingsText read) (e6 + 1) =
+    let f7 = number-field-sound (later displaysKey) s (2 ^ 32 - 1) e6 displays (omega arith) e7 q7 in
+    let spelled : Spells s at (settingsText read) (e7 + 1) =
     rw (text-stretches read)
-    (spells-append (f1 .0) (spells-append (f2 .0) (spells-append (f3 .0) (spells-append (f4 .0) (spells-append (f5 .0) (spells-append (f6 .0) (end-sound s e6 (p .0)))))))) in
+    (spells-append (f1 .0) (spells-append (f2 .0) (spells-append (f3 .0) (spells-append (f4 .0) (spells-append (f5 .0) (spells-append (f6 .0) (spells-append (f7 .0) (end-sound s e7 (p .0))))))))) in
     subst (Claim s at) (p .1) (
       spelled,
       record {
@@ -75,6 +78,7 @@ settings-sound s at f x q =
         hold = omega (arith, f4 .1);
         low = f5 .1;
         high = f6 .1;
+        displays = omega (arith, f7 .1);
       },
     )
 
@@ -90,7 +94,8 @@ settings-complete s r at x fit p =
     number-field-complete (later holdKey) s (2 ^ 32 - 1) e3 (x .hold) most _ (omega (arith, fit .hold)) refl (p3 ∙ append-assoc (later holdKey ++ digits (x .hold)) _ r) λ e4 n4 q4 p4.
     integer-field-complete (later lowKey) s e4 (x .low) _ (fit .low) refl (p4 ∙ append-assoc (later lowKey ++ decimal (x .low)) _ r) λ e5 n5 q5 p5.
     integer-field-complete (later highKey) s e5 (x .high) _ (fit .high) refl (p5 ∙ append-assoc (later highKey ++ decimal (x .high)) _ r) λ e6 n6 q6 p6.
+    number-field-complete (later displaysKey) s (2 ^ 32 - 1) e6 (x .displays) most _ (omega (arith, fit .displays)) refl (p6 ∙ append-assoc (later displaysKey ++ digits (x .displays)) _ r) λ e7 n7 q7 p7.
     let size : length (settingsText x) ≡ length (stretches x) = ap length (text-stretches x) in
-    let end : e6 + 1 ≡ at + length (settingsText x) = omega (arith, simp length-append at size) in
-    let ended : endsLine s e6 ≡ true = end-complete s r e6 p6 in
-    rw (q1, q2, q3, q4, q5, q6, ended) (ap (SettingsAt.Line x) end)
+    let end : e7 + 1 ≡ at + length (settingsText x) = omega (arith, simp length-append at size) in
+    let ended : endsLine s e7 ≡ true = end-complete s r e7 p7 in
+    rw (q1, q2, q3, q4, q5, q6, q7, ended) (ap (SettingsAt.Line x) end)

@@ -26,12 +26,17 @@ maxWindow = 16
 abbrev pub maxHold : ℕ
 maxHold = 864_000
 
+-- displays 1 to 4 (document 02, W2)
+abbrev pub maxDisplays : ℕ
+maxDisplays = 4
+
 -- every setting inside its limits
 unfoldable pub withinLimits : Settings → Bool
 withinLimits s =
     (leb 1 (s .lines) && leb (s .lines) maxLines) &&
     ((leb minBucket (s .bucket) && leb (s .bucket) maxBucket) &&
-    ((leb 1 (s .window) && leb (s .window) maxWindow) && (leb (s .hold) maxHold && leZ (s .low) (s .high))))
+    ((leb 1 (s .window) && leb (s .window) maxWindow) &&
+    ((leb (s .hold) maxHold && leZ (s .low) (s .high)) && (leb 1 (s .displays) && leb (s .displays) maxDisplays))))
 
 -- every setting inside its width
 pub record SettingsFit (s : Settings) : Type 0 where
@@ -41,3 +46,4 @@ pub record SettingsFit (s : Settings) : Type 0 where
   pub hold : s .hold < 2 ^ 32
   pub low : SFits w32 (s .low)
   pub high : SFits w32 (s .high)
+  pub displays : s .displays < 2 ^ 32

@@ -5,7 +5,7 @@ use mathlib.Core.Bool.{cond}
 use mathlib.Core.List.{List}
 use lib.Dec.{eqb}
 use lib.ListN.{length}
-use Rattle.fields.specs.Keys.{linesKey, bucketKey, windowKey, holdKey, lowKey, highKey}
+use Rattle.fields.specs.Keys.{linesKey, bucketKey, windowKey, holdKey, lowKey, highKey, displaysKey}
 use Rattle.fields.specs.Field.{first, later, endsLine, numberField, integerField, withNumber, withInteger}
 use Rattle.settings.specs.SettingsLine.{limited}
 use Rattle.settings.specs.declared.SettingsAt.{SettingsAt}
@@ -22,8 +22,11 @@ settingsAt s at =
     withNumber (numberField (later holdKey) (2 ^ 32 - 1) s e3) SettingsAt.Malformed λ hold e4.
     withInteger (integerField (later lowKey) s e4) SettingsAt.Malformed λ low e5.
     withInteger (integerField (later highKey) s e5) SettingsAt.Malformed λ high e6.
-    cond (endsLine s e6)
-    (SettingsAt.Line (record { lines = lines; bucket = bucket; window = window; hold = hold; low = low; high = high }) (e6 + 1))
+    withNumber (numberField (later displaysKey) (2 ^ 32 - 1) s e6) SettingsAt.Malformed λ displays e7.
+    cond (endsLine s e7)
+    (SettingsAt.Line
+    (record { lines = lines; bucket = bucket; window = window; hold = hold; low = low; high = high; displays = displays })
+    (e7 + 1))
     SettingsAt.Malformed
 
 -- the line must be the whole text, else refusal 1

@@ -7,7 +7,7 @@ use mathlib.Core.List.{List, [], _∷_}
 use lib.IntN.{pos}
 use Rattle.decimal.specs.Decimal.{decimal}
 use Rattle.fields.specs.Line.{field, lineOf}
-use Rattle.fields.specs.Keys.{linesKey, bucketKey, windowKey, holdKey, lowKey, highKey}
+use Rattle.fields.specs.Keys.{linesKey, bucketKey, windowKey, holdKey, lowKey, highKey, displaysKey}
 use Rattle.settings.specs.Limits.{withinLimits, SettingsFit}
 use Rattle.settings.specs.declared.Settings.{Settings}
 use Rattle.settings.specs.declared.SettingsRead.{SettingsRead}
@@ -22,7 +22,8 @@ settingsText s =
     field windowKey (decimal (pos (s .window))) ∷
     field holdKey (decimal (pos (s .hold))) ∷
     field lowKey (decimal (s .low)) ∷
-    field highKey (decimal (s .high)) ∷ [])
+    field highKey (decimal (s .high)) ∷
+    field displaysKey (decimal (pos (s .displays))) ∷ [])
 
 -- settings of the form: refusal 2 where one is outside its limits
 unfoldable pub limited : Settings → SettingsRead

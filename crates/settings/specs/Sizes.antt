@@ -2,4 +2,4 @@
 use Prim.Native.Nat.{ℕ}
 
 abbrev pub longestSettingsLine : ℕ
-longestSettingsLine = 102
+longestSettingsLine = 122

@@ -17,6 +17,8 @@ pub const MAX_WINDOW: u32 = 16;
 
 pub const MAX_HOLD: u32 = 864_000;
 
+pub const MAX_DISPLAYS: u32 = 4;
+
 // The widest unsigned number that a setting may spell.
 const WIDTH: u32 = 4_294_967_295;
 
@@ -28,6 +30,7 @@ pub struct Settings {
     pub hold: u32,
     pub low: i32,
     pub high: i32,
+    pub displays: u32,
 }
 
 // The settings line that a text has from a place on, with the place behind it.
@@ -50,7 +53,8 @@ pub fn within_limits(s: Settings) -> bool
     ((1 <= s.lines) & (s.lines <= MAX_LINES))
         & (((MIN_BUCKET <= s.bucket) & (s.bucket <= MAX_BUCKET))
             & (((1 <= s.window) & (s.window <= MAX_WINDOW))
-                & ((s.hold <= MAX_HOLD) & (s.low <= s.high))))
+                & (((s.hold <= MAX_HOLD) & (s.low <= s.high))
+                    & ((1 <= s.displays) & (s.displays <= MAX_DISPLAYS)))))
 }
 
 // The settings line that the text has from `at` on.
@@ -75,7 +79,10 @@ fn settings_at(s: &[u8], at: usize) -> SettingsAt
     let Integer::Value(high, e6) = fields::integer_field(s, e5, b" high=") else {
         return SettingsAt::Malformed;
     };
-    if fields::ends_line(s, e6) {
+    let Number::Value(displays, e7) = fields::number_field(s, e6, b" displays=", WIDTH) else {
+        return SettingsAt::Malformed;
+    };
+    if fields::ends_line(s, e7) {
         SettingsAt::Line(
             Settings {
                 lines: lines,
@@ -84,8 +91,9 @@ fn settings_at(s: &[u8], at: usize) -> SettingsAt
                 hold: hold,
                 low: low,
                 high: high,
+                displays: displays,
             },
-            e6 + 1,
+            e7 + 1,
         )
     } else {
         SettingsAt::Malformed

@@ -1,4 +1,4 @@
--- What is written over the front of the output lies within it, and the answer line of an opening is its text. Assumes nothing.
+-- What is written over the front of the output lies within it, and the answer line of an opening is its text.
 use mathlib.Core.Path.{_≡_, ap, _∙_}
 use mathlib.Core.List.{List}
 use Prim.Native.Nat.{ℕ, _≤_}
@@ -13,12 +13,16 @@ pub front-within : (t l : List ℕ) {used : ℕ} {m : List ℕ} → (used ≡ le
 unfolding inFront
 front-within t l h kept = omega (arith, h .0, ap length (h .1), length-append t (drop (length t) l))
 
-pub opening-laid : {made q : Opened} → made ≡ q → (before last : List ℕ) (used : ℕ)
-    → (used ≡ length (answerLine (made .answer) 0 (made .state .settings .lines) (made .state .phase)))
-    × (last ≡ inFront (answerLine (made .answer) 0 (made .state .settings .lines) (made .state .phase)) before)
-    → (used ≡ length (openingText q)) × (last ≡ inFront (openingText q) before)
+-- what an opening leaves, and its answer line laid down
+pub opening-laid :
+    {made q : Opened} → made ≡ q → (before last : List ℕ) (used : ℕ) →
+    (used ≡ length (answerLine (made .answer) 0 (made .state .settings .lines) (made .state .phase))) ×
+    (last ≡ inFront (answerLine (made .answer) 0 (made .state .settings .lines) (made .state .phase)) before) →
+    (made .state ≡ q .state) × (made .lent ≡ q .lent) × (used ≡ length (openingText q)) × (last ≡ inFront (openingText q) before)
 unfolding openingText
 opening-laid same before last used laidDown = (
+  ap (λ (c : Opened). c .state) same,
+  ap (λ (c : Opened). c .lent) same,
   laidDown .0 ∙ ap (λ (c : Opened). length (openingText c)) same,
   laidDown .1 ∙ ap (λ (c : Opened). inFront (openingText c) before) same,
 )

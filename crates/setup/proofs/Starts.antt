@@ -1,5 +1,5 @@
 -- A playback's beginning put together from what its parts ensure: where nothing was read and nothing is to be written there is always a
--- first text, and its answer line stands at the front of the output. Assumes nothing.
+-- first text, and its answer line stands at the front of the output.
 use mathlib.Core.Path.{_≡_, refl, ap, subst, _∙_}
 use mathlib.Core.Bool.{Bool, true, false}
 use mathlib.Core.List.{List, _++_}
@@ -12,9 +12,9 @@ use lib.ListN.{length, take, drop}
 use borrow.Rule.Slice.PartMut.{putMid}
 use Rattle.area.specs.Laid.{inFront}
 use Rattle.area.proofs.Lent.{lent-inFront}
-use Rattle.store.specs.Columns.{Columns}
 use Rattle.store.proofs.Choices.{not-both}
 use Rattle.node.specs.declared.State.{State}
+use Rattle.node.specs.View.{Lent}
 use Rattle.node.specs.Opening.{closedState, openedOn}
 use Rattle.reply.specs.Reply.{openingText}
 use Rattle.cursor.specs.declared.Cursor.{Cursor}
@@ -49,10 +49,10 @@ front-laid out bytes at e = rw (e, zero-add (length bytes))
 
 -- ---- the whole
 
-pub begun : (buf out : List ℕ) (x : Columns) (begin : Cursor) → begin ≡ allRead 0 false false false → (first : Cursor) (held : List ℕ)
+pub begun : (buf out : List ℕ) (x : Lent) (begin : Cursor) → begin ≡ allRead 0 false false false → (first : Cursor) (held : List ℕ)
     → Fetched false begin buf first held (length out) → (closed : State) → closed ≡ closedState
-    → (r : Started) (y : Columns) (used : ℕ) (m : List ℕ)
-    → (r .state ≡ openedOn closed x (textAt held first) .state) × (y ≡ openedOn closed x (textAt held first) .columns)
+    → (r : Started) (y : Lent) (used : ℕ) (m : List ℕ)
+    → (r .state ≡ openedOn closed x (textAt held first) .state) × (y ≡ openedOn closed x (textAt held first) .lent)
     × (used ≡ length (openingText (openedOn closed x (textAt held first))))
     × (m ≡ inFront (openingText (openedOn closed x (textAt held first))) (take (length out - first .used) (drop (first .used) out)))
     → (after : List ℕ) → length (putMid (first .used) (length out - first .used) out m) ≡ length out
@@ -69,7 +69,7 @@ begun buf out x begin b first held f closed z r y used m p after same o =
       fetched = found;
       plays = first-plays buf first held (length out) found;
       state = p .0 ∙ ap (λ (s : State). openedOn s x text .state) z;
-      columns = p .1 ∙ ap (λ (s : State). openedOn s x text .columns) z;
+      lent = p .1 ∙ ap (λ (s : State). openedOn s x text .lent) z;
       answer =
           ap (putMid (first .used) (length out - first .used) out) (p .3)
           ∙ lent-inFront out (openingText (openedOn closed x text)) (first .used)

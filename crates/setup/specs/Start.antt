@@ -1,4 +1,4 @@
--- How a playback begins: the input's first text opens the network, and what follows it is played if it did. Assumes nothing.
+-- How a playback begins: the input's first text opens the network, and what follows it is played if it did.
 use mathlib.Core.Path.{_≡_}
 use mathlib.Core.Bool.{Bool, true, false, _||_}
 use mathlib.Core.List.{List}
@@ -6,7 +6,7 @@ use Prim.Native.Nat.{ℕ}
 use lib.Dec.{eqb}
 use lib.ListN.{length}
 use Rattle.area.specs.Laid.{inFront}
-use Rattle.store.specs.Columns.{Columns}
+use Rattle.node.specs.View.{Lent}
 use Rattle.node.specs.Opening.{closedState, openedOn}
 use Rattle.reply.specs.Reply.{openingText}
 use Rattle.cursor.specs.declared.Cursor.{Cursor}
@@ -27,8 +27,8 @@ lastIf b c =
       last = c .last || b;
     }
 
--- buffer, output and columns at the beginning; what `start` gives; and what it leaves of the three
-pub record Begun (buf out : List ℕ) (x : Columns) (r : Started) (after left : List ℕ) (y : Columns) : Type 0 where
+-- buffer, output and stores at the beginning; what `start` gives; and what it leaves of the three
+pub record Begun (buf out : List ℕ) (x : Lent) (r : Started) (after left : List ℕ) (y : Lent) : Type 0 where
   -- the first text is found where nothing was read before; there is always one, as settings that never came are an empty text
   pub first : Cursor
   pub held : List ℕ
@@ -36,7 +36,7 @@ pub record Begun (buf out : List ℕ) (x : Columns) (r : Started) (after left : 
   pub plays : first .plays ≡ true
   -- it opens the network, and the answer line stands in the output
   pub state : r .state ≡ openedOn closedState x (textAt held first) .state
-  pub columns : y ≡ openedOn closedState x (textAt held first) .columns
+  pub lent : y ≡ openedOn closedState x (textAt held first) .lent
   pub answer : left ≡ inFront (openingText (openedOn closedState x (textAt held first))) out
   -- what follows it is played, unless no network is open
   pub onward : Followed (lastIf (eqb (r .state .settings .lines) 0) first)

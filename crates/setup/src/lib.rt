@@ -4,7 +4,8 @@ ghost use Prim.Native.Nat.{_≤_};
 ghost use lib.ListN.{length};
 ghost use Rattle.area.specs.Laid.{inFront};
 ghost use Rattle.store.specs.Columns.{columnsOf};
-ghost use Rattle.node.specs.Opening.{openedOn};
+ghost use Rattle.node.specs.View.{Lent, lentOf};
+ghost use Rattle.node.specs.Opening.{Opened, openedOn};
 ghost use Rattle.reply.specs.Reply.{openingText, longestAnswer, longestReply};
 ghost use Rattle.cursor.specs.Cut.{Lies};
 ghost use Rattle.setup.specs.Start.{Begun};
@@ -26,16 +27,37 @@ fn play_settings(
     arrivals: &mut [u32],
     kinds: &mut [u8],
     meters: &mut [u8],
+    sent: &mut [u8],
     text: &[u8],
     out: &mut [u8],
 ) -> Played
     requires { ⌜ longestAnswer ≤ length (now out) ⌝ }
-    ensures { λ r. ⌜ r .state ≡ openedOn state (columnsOf (now (ids .entry)) (now (times .entry)) (now (values .entry)) (now (arrivals .entry)) (now (kinds .entry)) (now (meters .entry))) (now (text .entry)) .state ⌝ }
-    ensures { λ _. ⌜ columnsOf (now (ids .exit)) (now (times .exit)) (now (values .exit)) (now (arrivals .exit)) (now (kinds .exit)) (now (meters .exit)) ≡ openedOn state (columnsOf (now (ids .entry)) (now (times .entry)) (now (values .entry)) (now (arrivals .entry)) (now (kinds .entry)) (now (meters .entry))) (now (text .entry)) .columns ⌝ }
-    ensures { λ r. ⌜ r .used ≡ length (openingText (openedOn state (columnsOf (now (ids .entry)) (now (times .entry)) (now (values .entry)) (now (arrivals .entry)) (now (kinds .entry)) (now (meters .entry))) (now (text .entry)))) ⌝ }
-    ensures { λ _. ⌜ now (out .exit) ≡ inFront (openingText (openedOn state (columnsOf (now (ids .entry)) (now (times .entry)) (now (values .entry)) (now (arrivals .entry)) (now (kinds .entry)) (now (meters .entry))) (now (text .entry)))) (now (out .entry)) ⌝ }
+    ensures { λ r.
+        let before : Lent =
+        lentOf
+        (columnsOf (now (ids .entry)) (now (times .entry)) (now (values .entry)) (now (arrivals .entry)) (now (kinds .entry))
+        (now (meters .entry)))
+        (now (sent .entry)) in
+        let after : Lent =
+        lentOf
+        (columnsOf (now (ids .exit)) (now (times .exit)) (now (values .exit)) (now (arrivals .exit)) (now (kinds .exit))
+        (now (meters .exit)))
+        (now (sent .exit)) in
+        let opened : Opened = openedOn state before (now (text .entry)) in
+        ⌜ (r .state ≡ opened .state) × (after ≡ opened .lent) × (r .used ≡ length (openingText opened)) ×
+        (now (out .exit) ≡ inFront (openingText opened) (now (out .entry))) ⌝ }
 {
-    let done = opening::open(state, ids, times, values, arrivals, kinds, meters, text);
+    let done = opening::open(
+        state,
+        ids,
+        times,
+        values,
+        arrivals,
+        kinds,
+        meters,
+        sent,
+        text,
+    );
     let next = done.state;
     let settings = next.settings;
     let phase = next.phase;
@@ -60,12 +82,24 @@ pub fn start(
     arrivals: &mut [u32],
     kinds: &mut [u8],
     meters: &mut [u8],
+    sent: &mut [u8],
     buf: &mut [u8],
     out: &mut [u8],
 ) -> Started
     requires { ⌜ longestReply ≤ length (now out) ⌝ }
     ensures { λ r. ⌜ Lies (length (now (buf .entry))) (length (now (out .entry))) (r .cursor) ⌝ }
-    ensures { λ r. ⌜ Begun (now (buf .entry)) (now (out .entry)) (columnsOf (now (ids .entry)) (now (times .entry)) (now (values .entry)) (now (arrivals .entry)) (now (kinds .entry)) (now (meters .entry))) r (now (buf .exit)) (now (out .exit)) (columnsOf (now (ids .exit)) (now (times .exit)) (now (values .exit)) (now (arrivals .exit)) (now (kinds .exit)) (now (meters .exit))) ⌝ }
+    ensures { λ r.
+        let before : Lent =
+        lentOf
+        (columnsOf (now (ids .entry)) (now (times .entry)) (now (values .entry)) (now (arrivals .entry)) (now (kinds .entry))
+        (now (meters .entry)))
+        (now (sent .entry)) in
+        let after : Lent =
+        lentOf
+        (columnsOf (now (ids .exit)) (now (times .exit)) (now (values .exit)) (now (arrivals .exit)) (now (kinds .exit))
+        (now (meters .exit)))
+        (now (sent .exit)) in
+        ⌜ Begun (now (buf .entry)) (now (out .entry)) before r (now (buf .exit)) (now (out .exit)) after ⌝ }
 {
     let begin = cursor::begin();
     let mut cursor = cursor::fetch(begin, false, buf, out);
@@ -81,6 +115,7 @@ pub fn start(
         arrivals,
         kinds,
         meters,
+        sent,
         &buf[start..end],
         &mut out[used..],
     );

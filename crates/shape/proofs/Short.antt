@@ -9,7 +9,7 @@ use lib.Dec.{ltb}
 use lib.ListN.{length}
 use Rattle.store.specs.Sizes.{readingsPerLine}
 use Rattle.store.specs.Columns.{Columns, storeLength}
-use Rattle.node.specs.Opening.{isShort}
+use Rattle.node.specs.Opening.{sharesShort}
 
 min-below : (a b n : ℕ) → ltb (min a b) n ≡ ltb a n || ltb b n
 min-below a b n =
@@ -28,6 +28,6 @@ min-below a b n =
 abbrev lacks : ℕ → ℕ → Bool
 lacks lines places = ltb places (lines * readingsPerLine)
 
-pub some-column-short : (lines : ℕ) (x : Columns) → isShort lines x ≡ lacks lines (length (x .ids)) || (lacks lines (length (x .times)) || (lacks lines (length (x .values)) || (lacks lines (length (x .arrivals)) || (lacks lines (length (x .kinds)) || lacks lines (length (x .meters))))))
-unfolding isShort storeLength
+pub some-column-short : (lines : ℕ) (x : Columns) → sharesShort lines x ≡ lacks lines (length (x .ids)) || (lacks lines (length (x .times)) || (lacks lines (length (x .values)) || (lacks lines (length (x .arrivals)) || (lacks lines (length (x .kinds)) || lacks lines (length (x .meters))))))
+unfolding sharesShort storeLength
 some-column-short lines x = simp min-below

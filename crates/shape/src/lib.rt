@@ -2,7 +2,7 @@
 ghost use mathlib.Core.Path.{_≡_};
 ghost use mathlib.Core.Bool.{true, cond, _&&_};
 ghost use mathlib.Core.List.{List};
-ghost use Prim.Native.Nat.{ℕ, _+_, _*_, _≤_};
+ghost use Prim.Native.Nat.{ℕ, _+_, _*_, _-_, _≤_};
 ghost use lib.Dec.{leb, eqb};
 ghost use lib.ListN.{length, take};
 ghost use Rattle.store.specs.Sizes.{readingsPerLine};
@@ -10,9 +10,12 @@ ghost use Rattle.store.specs.Lists.{allOf};
 ghost use Rattle.store.specs.Columns.{Columns, columnsOf, rows};
 ghost use Rattle.protocol.specs.Refusals.{firstFailed};
 ghost use Rattle.node.specs.Sizes.{lastBucket, resultsPerBucket};
-ghost use Rattle.node.specs.View.{viewLines};
-ghost use Rattle.node.specs.Shape.{headOk, keptOk, phaseOk, inShape};
-ghost use Rattle.node.specs.Opening.{isShort};
+ghost use Rattle.protocol.specs.Displays.{leastOf};
+ghost use Rattle.retransmission.specs.Sizes.{heldBytes};
+ghost use Rattle.retransmission.specs.Places.{placesOf, placesOk};
+ghost use Rattle.node.specs.View.{lentOf, viewLines};
+ghost use Rattle.node.specs.Shape.{headOk, keptOk, phaseOk, displayOk, stateInShape};
+ghost use Rattle.node.specs.Opening.{sharesShort};
 ghost use Rattle.node.specs.Calls.{hostTests};
 ghost use Rattle.shape.specs.Lent.{Lends, shareOk};
 use node::LineHead;
@@ -28,6 +31,9 @@ pub const SHORT_AREA: u32 = 5;
 
 // Bytes of an output area that no call is refused for: 65 records.
 pub const AREA_BYTES: usize = 2080;
+
+// Bytes of a send-back store that no call is refused for: 512 records.
+pub const HELD_BYTES: usize = 16_384;
 
 // The last bucket that c and p may name.
 const LAST_BUCKET: u32 = 42_949_673;
@@ -45,7 +51,10 @@ pub fn is_short(
     kinds: &[u8],
     meters: &[u8],
 ) -> bool
-    ensures { λ r. ⌜ r ≡ isShort lines (columnsOf (now (ids .entry)) (now (times .entry)) (now (values .entry)) (now (arrivals .entry)) (now (kinds .entry)) (now (meters .entry))) ⌝ }
+    ensures { λ r.
+        let readings = columnsOf (now (ids .entry)) (now (times .entry)) (now (values .entry))
+        (now (arrivals .entry)) (now (kinds .entry)) (now (meters .entry)) in
+        ⌜ r ≡ sharesShort lines readings ⌝ }
 {
     let n = lines as usize * store::READINGS_PER_LINE;
     (ids.len() < n)
@@ -78,8 +87,17 @@ fn are_lines_ok(
     kinds: &[u8],
     meters: &[u8],
 ) -> bool
-    requires { ⌜ (lines ≤ 8) × (lines * readingsPerLine ≤ length (now ids)) × (lines * readingsPerLine ≤ length (now kinds)) × (lines * readingsPerLine ≤ length (now meters)) ⌝ }
-    ensures { λ r. ⌜ ((x : Columns) → Lends x lines (now (ids .entry)) (now (kinds .entry)) (now (meters .entry)) → r ≡ (allOf headOk (take lines heads) && allOf keptOk (viewLines lines heads (rows x (lines * readingsPerLine))))) ⌝ }
+    requires { ⌜
+        (lines ≤ 8) ×
+        (lines * readingsPerLine ≤ length (now ids)) ×
+        (lines * readingsPerLine ≤ length (now kinds)) ×
+        (lines * readingsPerLine ≤ length (now meters))
+        ⌝ }
+    ensures { λ r. ⌜ (
+        (x : Columns) →
+        Lends x lines (now (ids .entry)) (now (kinds .entry)) (now (meters .entry)) →
+        r ≡ (allOf headOk (take lines heads) && allOf keptOk (viewLines lines heads (rows x (lines * readingsPerLine))))
+        ) ⌝ }
 {
     let mut i = 0;
     while i < lines {
@@ -110,7 +128,10 @@ fn are_buckets_ok(c: u32, p: u32, phase: Phase) -> bool
 
 // Whether the last stable result's id and the newest one's fit c and p.
 fn are_numbers_ok(stable: u64, newest: u64, c: u32, p: u32) -> bool
-    ensures { λ r. ⌜ r ≡ (leb stable (resultsPerBucket * c) && (leb newest (resultsPerBucket * p) && (leb stable newest && cond (eqb p c) (leb newest stable) true))) ⌝ }
+    ensures { λ r. ⌜ r ≡ (
+        leb stable (resultsPerBucket * c) &&
+        (leb newest (resultsPerBucket * p) && (leb stable newest && cond (eqb p c) (leb newest stable) true))
+        ) ⌝ }
 {
     let level = if p == c { newest <= stable } else { true };
     (stable <= RESULTS_PER_BUCKET * (c as u64))
@@ -119,8 +140,16 @@ fn are_numbers_ok(stable: u64, newest: u64, c: u32, p: u32) -> bool
 
 // Whether state and store are in shape, where the store is long enough.
 fn is_in_shape(state: State, ids: &[u32], kinds: &[u8], meters: &[u8]) -> bool
-    requires { ⌜ (state .settings .lines * readingsPerLine ≤ length (now ids)) × (state .settings .lines * readingsPerLine ≤ length (now kinds)) × (state .settings .lines * readingsPerLine ≤ length (now meters)) ⌝ }
-    ensures { λ r. ⌜ ((x : Columns) → Lends x (state .settings .lines) (now (ids .entry)) (now (kinds .entry)) (now (meters .entry)) → r ≡ inShape state x) ⌝ }
+    requires { ⌜
+        (state .settings .lines * readingsPerLine ≤ length (now ids)) ×
+        (state .settings .lines * readingsPerLine ≤ length (now kinds)) ×
+        (state .settings .lines * readingsPerLine ≤ length (now meters))
+        ⌝ }
+    ensures { λ r. ⌜ (
+        (x : Columns) →
+        Lends x (state .settings .lines) (now (ids .entry)) (now (kinds .entry)) (now (meters .entry)) →
+        r ≡ stateInShape state x
+        ) ⌝ }
 {
     let settings = state.settings;
     if !settings::within_limits(settings) {
@@ -137,6 +166,20 @@ fn is_in_shape(state: State, ids: &[u32], kinds: &[u8], meters: &[u8]) -> bool
                 & (operator.is_within_bounds() & checkpoint.is_within_bounds())))
 }
 
+// Whether the displays' last ids and the held places are in shape, where the send-back store is long enough.
+fn are_displays_ok(ids: [u64; node::DISPLAYS], displays: usize, newest: u64, sent: &[u8]) -> bool
+    requires { ⌜ (1 ≤ displays) × (displays ≤ 4) × (heldBytes ≤ length (now sent)) ⌝ }
+    ensures { λ r.
+        let own = take displays ids in
+        let least = leastOf own in
+        ⌜ r ≡ (allOf (displayOk newest) own && placesOk (placesOf (now (sent .entry))) least (newest - least)) ⌝ }
+{
+    if !displays::are_near(ids, displays, newest) {
+        return false;
+    }
+    retransmission::are_held(sent, displays::least(ids, displays), newest)
+}
+
 // The number of the refusal that is the host's to mend, 0 if there is none; `room` is the length of the output area.
 pub fn host_refusal(
     state: State,
@@ -146,15 +189,33 @@ pub fn host_refusal(
     arrivals: &[u32],
     kinds: &[u8],
     meters: &[u8],
+    sent: &[u8],
     room: usize,
 ) -> u32
-    ensures { λ r. ⌜ ((area : List ℕ) → length area ≡ room → r ≡ firstFailed (hostTests state (columnsOf (now (ids .entry)) (now (times .entry)) (now (values .entry)) (now (arrivals .entry)) (now (kinds .entry)) (now (meters .entry))) area)) ⌝ }
+    ensures { λ r.
+        let readings = columnsOf (now (ids .entry)) (now (times .entry)) (now (values .entry))
+        (now (arrivals .entry)) (now (kinds .entry)) (now (meters .entry)) in
+        let lent = lentOf readings (now (sent .entry)) in
+        ⌜ ((area : List ℕ) → length area ≡ room → r ≡ firstFailed (hostTests state lent area)) ⌝ }
 {
     let settings = state.settings;
     if is_short(settings.lines, ids, times, values, arrivals, kinds, meters) {
         return SHORT_STORE;
     }
+    if sent.len() < HELD_BYTES {
+        return SHORT_STORE;
+    }
     if !is_in_shape(state, ids, kinds, meters) {
+        return OUT_OF_SHAPE;
+    }
+    let checkpoint = state.checkpoint;
+    let acknowledged = state.acknowledged;
+    if !are_displays_ok(
+        acknowledged,
+        settings.displays as usize,
+        checkpoint.number,
+        sent,
+    ) {
         return OUT_OF_SHAPE;
     }
     if room < AREA_BYTES {

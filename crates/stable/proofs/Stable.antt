@@ -7,22 +7,55 @@ use native.Mathlib.Numerals.{add-one}
 use lib.ListN.{length}
 use Rattle.area.specs.Laid.{inFront}
 use Rattle.journal.specs.Kinds.{letterS}
+use Rattle.record.specs.declared.Record.{Record}
 use Rattle.record.specs.Layout.{allBytes}
 use Rattle.store.specs.Columns.{Columns, rows, withRows}
 use Rattle.operator.specs.declared.Operator.{Operator}
+use Rattle.operator.specs.Work.{Worked}
 use Rattle.protocol.specs.declared.Rule.the-variants as Rule
+use Rattle.protocol.specs.Node.{Line}
 use Rattle.protocol.specs.Rules.{act, without, worked, boundaryAt}
 use Rattle.node.specs.declared.LineHead.{LineHead}
 use Rattle.node.specs.declared.State.{State}
 use Rattle.node.specs.View.{places, view, headsWith, sharesWith, putState, putColumns}
 use Rattle.corrections.specs.Acted.{Acted}
+use Rattle.corrections.proofs.LinesStay.{Kept, acknowledged-stay}
 
-pub work-stable-acts : (st : State) (x : Columns) (area area′ : List ℕ) (next : Operator) (heads′ : List LineHead) (x′ : Columns) (records : ℕ) → next ≡ worked (st .settings) letterS (st .c) (view st x) .operator → heads′ ≡ headsWith (st .heads) (map (without (st .settings) (st .c)) (view st x .lines)) → x′ ≡ withRows x (sharesWith (st .heads) (rows x (places st)) (map (without (st .settings) (st .c)) (view st x .lines))) → area′ ≡ inFront (allBytes (worked (st .settings) letterS (st .c) (view st x) .records ++ boundaryAt (st .settings) (st .c))) area → records ≡ length (worked (st .settings) letterS (st .c) (view st x) .records ++ boundaryAt (st .settings) (st .c)) → Acted Rule.WorkStable st x area (record { operator = next; checkpoint = next; heads = heads′; settings = st .settings; clock = st .clock; c = st .c + 1; p = st .p + 1; phase = st .phase }) x′ area′ records
-unfolding act putState putColumns view
-work-stable-acts st x area area′ next heads′ x′ records o hs y e n =
-    record {
-      state = rw (o, hs, add-one (st .c), add-one (st .p));
-      columns = y;
-      bytes = e;
-      count = n;
-    }
+-- the bucket worked, and the lines without its readings
+module _ (st : State) (x : Columns) (kept : Kept st x) (area area′ : List ℕ) where
+  abbrev given : Worked
+  given = worked (st .settings) letterS (st .c) (view st x)
+
+  abbrev records : List Record
+  records = given .records ++ boundaryAt (st .settings) (st .c)
+
+  abbrev left : List Line
+  left = map (without (st .settings) (st .c)) (view st x .lines)
+
+  abbrev leftState : Operator → List LineHead → State
+  leftState next heads′ =
+      record {
+        operator = next;
+        checkpoint = next;
+        heads = heads′;
+        settings = st .settings;
+        clock = st .clock;
+        c = st .c + 1;
+        p = st .p + 1;
+        phase = st .phase;
+        acknowledged = st .acknowledged;
+      }
+
+  pub work-stable-acts :
+      (next : Operator) (heads′ : List LineHead) (x′ : Columns) (n : ℕ) → next ≡ given .operator →
+      heads′ ≡ headsWith (st .heads) left → x′ ≡ withRows x (sharesWith (st .heads) (rows x (places st)) left) →
+      area′ ≡ inFront (allBytes records) area → n ≡ length records →
+      Acted Rule.WorkStable st x area (leftState next heads′) x′ area′ n
+  unfolding act putState putColumns view
+  work-stable-acts next heads′ x′ n o hs y e count =
+      record {
+        state = rw (o, hs, add-one (st .c), add-one (st .p), acknowledged-stay st x kept);
+        columns = y;
+        bytes = e;
+        count = count;
+      }

@@ -10,12 +10,12 @@ ghost use Rattle.journal.specs.Kinds.{letterS};
 ghost use Rattle.record.specs.Layout.{allBytes};
 ghost use Rattle.store.specs.Sizes.{readingsPerLine};
 ghost use Rattle.store.specs.Lists.{Every};
-ghost use Rattle.store.specs.Columns.{columnsOf, storeLength, rows, withRows};
+ghost use Rattle.store.specs.Columns.{Columns, columnsOf, storeLength, rows, withRows};
 ghost use Rattle.protocol.specs.declared.Rule.the-variants as Rules;
 ghost use Rattle.protocol.specs.Rules.{without, worked, boundaryAt};
 ghost use Rattle.node.specs.Sizes.{areaBytes};
 ghost use Rattle.node.specs.View.{viewLines, places, view, headsWith, sharesWith};
-ghost use Rattle.node.specs.Shape.{inShape};
+ghost use Rattle.node.specs.Shape.{stateInShape};
 ghost use Rattle.corrections.specs.Acted.{Acted};
 use clock::ReadingTime;
 use corrections::Stepped;
@@ -82,7 +82,9 @@ fn stable_records(
     meters: &[u8],
     area: &mut [u8],
 ) -> StableWork
-    requires { ⌜ (places state ≤ storeLength (columnsOf (now ids) (now times) (now values) (now arrivals) (now kinds) (now meters))) × (inShape state (columnsOf (now ids) (now times) (now values) (now arrivals) (now kinds) (now meters)) ≡ true) × (areaBytes ≤ length (now area)) × (bucketEnd (state .settings .bucket) (state .c) < 2 ^ 32) ⌝ }
+    requires { ⌜ (let x : Columns = columnsOf (now ids) (now times) (now values) (now arrivals) (now kinds) (now meters) in
+        (places state ≤ storeLength x) × (stateInShape state x ≡ true) × (areaBytes ≤ length (now area)) ×
+        (bucketEnd (state .settings .bucket) (state .c) < 2 ^ 32)) ⌝ }
     ensures { λ r. ⌜ r .operator ≡ worked (state .settings) letterS (state .c) (view state (columnsOf (now (ids .entry)) (now (times .entry)) (now (values .entry)) (now (arrivals .entry)) (now (kinds .entry)) (now (meters .entry)))) .operator ⌝ }
     ensures { λ r. ⌜ r .records ≡ length (worked (state .settings) letterS (state .c) (view state (columnsOf (now (ids .entry)) (now (times .entry)) (now (values .entry)) (now (arrivals .entry)) (now (kinds .entry)) (now (meters .entry)))) .records ++ boundaryAt (state .settings) (state .c)) ⌝ }
     ensures { λ _. ⌜ now (area .exit) ≡ inFront (allBytes (worked (state .settings) letterS (state .c) (view state (columnsOf (now (ids .entry)) (now (times .entry)) (now (values .entry)) (now (arrivals .entry)) (now (kinds .entry)) (now (meters .entry)))) .records ++ boundaryAt (state .settings) (state .c))) (now (area .entry)) ⌝ }
@@ -130,12 +132,15 @@ pub fn work_stable(
     meters: &mut [u8],
     area: &mut [u8],
 ) -> Stepped
-    requires { ⌜ (places state ≤ storeLength (columnsOf (now ids) (now times) (now values) (now arrivals) (now kinds) (now meters))) × (inShape state (columnsOf (now ids) (now times) (now values) (now arrivals) (now kinds) (now meters)) ≡ true) × (areaBytes ≤ length (now area)) × (bucketEnd (state .settings .bucket) (state .c) < 2 ^ 32) ⌝ }
+    requires { ⌜ (let x : Columns = columnsOf (now ids) (now times) (now values) (now arrivals) (now kinds) (now meters) in
+        (places state ≤ storeLength x) × (stateInShape state x ≡ true) × (areaBytes ≤ length (now area)) ×
+        (bucketEnd (state .settings .bucket) (state .c) < 2 ^ 32)) ⌝ }
     ensures { λ r. ⌜ Acted Rules.WorkStable state (columnsOf (now (ids .entry)) (now (times .entry)) (now (values .entry)) (now (arrivals .entry)) (now (kinds .entry)) (now (meters .entry))) (now (area .entry)) (r .state) (columnsOf (now (ids .exit)) (now (times .exit)) (now (values .exit)) (now (arrivals .exit)) (now (kinds .exit)) (now (meters .exit))) (now (area .exit)) (r .records) ⌝ }
 {
     let settings = state.settings;
     let heads = state.heads;
     let clock = state.clock;
+    let acknowledged = state.acknowledged;
     let phase = state.phase;
     let worked_bucket = state.c;
     let given = stable_records(state, ids, times, values, arrivals, kinds, meters, area);
@@ -160,6 +165,7 @@ pub fn work_stable(
         c: worked_bucket + 1,
         p: state.p + 1,
         phase: phase,
+        acknowledged: acknowledged,
     };
     Stepped {
         state: after,

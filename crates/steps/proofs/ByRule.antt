@@ -1,6 +1,6 @@
 -- What the rule that applies does: as the rule that was found at this tick does, and where that is none, state, store and area stay as they
 -- were. How many records it gives: a stable bucket's results, and one more where it closes a window. Assumes nothing.
-use Prim.Native.Nat.{ℕ, _+_, _≤_}
+use Prim.Native.Nat.{ℕ, _+_}
 use mathlib.Core.Path.{_≡_, refl, sym, _∙_}
 use mathlib.Core.Bool.{true, false}
 use mathlib.Core.List.{List}
@@ -9,28 +9,30 @@ use Rattle.area.specs.Laid.{inFront}
 use Rattle.clock.specs.declared.ArrivalTick.{ArrivalTick}
 use Rattle.clock.specs.Buckets.{bucketEnd}
 use Rattle.clock.specs.Windows.{closesWindow}
-use Rattle.settings.specs.Limits.{maxLines}
 use Rattle.journal.specs.Kinds.{letterS, letterB}
 use Rattle.record.specs.Layout.{allBytes}
-use Rattle.store.specs.Columns.{Columns, storeLength}
+use Rattle.store.specs.Columns.{Columns}
 use Rattle.operator.specs.Results.{plain}
 use Rattle.protocol.specs.declared.Rule.{Rule}
 use Rattle.protocol.specs.declared.Rule.the-variants as Rule
 use Rattle.protocol.specs.Rules.{ruleOf, act, worked}
 use Rattle.node.specs.declared.State.{State}
-use Rattle.node.specs.View.{places, view, putState, putColumns}
-use Rattle.node.specs.Shape.{inShape}
-use Rattle.node.proofs.View.{Fits, putState-view, putColumns-view}
-use Rattle.node.proofs.AfterCalls.{shape-fits}
+use Rattle.node.specs.View.{view}
+use Rattle.node.proofs.View.{putState-view, putColumns-view}
 use Rattle.corrections.specs.Acted.{Acted}
+use Rattle.corrections.proofs.LinesStay.{Kept, fits}
 use Rattle.stable.proofs.Boundary.{no-boundary, with-boundary, one-more}
 
 -- nothing to do
-pub idle-acts : (st : State) (x : Columns) → length (st .heads) ≡ maxLines → places st ≤ storeLength x → inShape st x ≡ true → (area : List ℕ) → Acted Rule.Idle st x area st x area 0
+pub idle-acts : (st : State) (x : Columns) → Kept st x → (area : List ℕ) → Acted Rule.Idle st x area st x area 0
 unfolding act inFront allBytes
-idle-acts st x heads room shape area =
-    let fits : Fits st x = shape-fits st x heads room shape in
-    record { state = sym (putState-view st x fits); columns = sym (putColumns-view st x fits); bytes = refl; count = refl }
+idle-acts st x kept area =
+    record {
+      state = sym (putState-view st x (fits st x kept));
+      columns = sym (putColumns-view st x (fits st x kept));
+      bytes = refl;
+      count = refl;
+    }
 
 -- the rule that was found at this tick, and what it is
 pub record Found (tick : ArrivalTick) (st : State) (x : Columns) (rule : Rule) : Type 0 where
@@ -41,9 +43,12 @@ pub record Found (tick : ArrivalTick) (st : State) (x : Columns) (rule : Rule) :
 pub applies : (tick : ArrivalTick) (st : State) (x : Columns) (rule : Rule) → Found tick st x rule → ruleOf (st .settings) (view st x) tick ≡ rule
 applies tick st x rule f = sym (f .first) ∙ f .told
 
--- what the rule that applies does, in the order of the contract
-pub by-rule : (tick : ArrivalTick) (rule : Rule) (st : State) (x : Columns) (area : List ℕ) (st′ : State) (x′ : Columns) (area′ : List ℕ) (records : ℕ) → Found tick st x rule → Acted rule st x area st′ x′ area′ records → (st′ ≡ putState st (act (st .settings) (view st x) (ruleOf (st .settings) (view st x) tick) .node)) × ((records ≡ length (act (st .settings) (view st x) (ruleOf (st .settings) (view st x) tick) .records)) × ((x′ ≡ putColumns st x (act (st .settings) (view st x) (ruleOf (st .settings) (view st x) tick) .node)) × (area′ ≡ inFront (allBytes (act (st .settings) (view st x) (ruleOf (st .settings) (view st x) tick) .records)) area)))
-by-rule tick rule st x area st′ x′ area′ records f a = rw (applies tick st x rule f) (a .state, (a .count, (a .columns, a .bytes)))
+-- what the rule that applies does
+pub by-rule :
+    (tick : ArrivalTick) (rule : Rule) (st : State) (x : Columns) (area : List ℕ) (st′ : State) (x′ : Columns) (area′ : List ℕ) (records : ℕ) →
+    Found tick st x rule → Acted rule st x area st′ x′ area′ records →
+    Acted (ruleOf (st .settings) (view st x) tick) st x area st′ x′ area′ records
+by-rule tick rule st x area st′ x′ area′ records f a = rw (applies tick st x rule f) a
 
 -- how many records the rule that applies gives
 pub count-by-rule : (tick : ArrivalTick) (rule : Rule) (st : State) (x : Columns) (records : ℕ) → Found tick st x rule → records ≡ length (act (st .settings) (view st x) rule .records) → records ≡ length (act (st .settings) (view st x) (ruleOf (st .settings) (view st x) tick) .records)

@@ -26,7 +26,7 @@ use Rattle.node.specs.declared.LineHead.{LineHead}
 use Rattle.node.specs.declared.State.{State}
 use Rattle.node.specs.View.{viewLine, viewLines, places, view}
 use Rattle.node.proofs.Limits.{limits-hold}
-use Rattle.node.proofs.Shape.{InShape}
+use Rattle.node.proofs.Shape.{StateShape}
 use Rattle.node.proofs.Shares.{length-viewLines}
 use Rattle.steps.proofs.ByRule.{Found, applies}
 use Rattle.node.proofs.Times.{TimesWithin, start-fits, stable-end-within, due-start-within}
@@ -94,7 +94,7 @@ was-due false ahead false false e = cc
 
 -- ---- a bucket that a rule works
 
-module _ (st : State) (x : Columns) (tick : ArrivalTick) (heads : st .settings .lines ≤ length (st .heads)) (shape : InShape st x) where
+module _ (st : State) (x : Columns) (tick : ArrivalTick) (heads : st .settings .lines ≤ length (st .heads)) (shape : StateShape st x) where
   pub stable-within : Every BoundaryWithin (st .heads) → Found tick st x Rule.WorkStable → bucketEnd (st .settings .bucket) (st .c) < 2 ^ 32
   unfolding ruleOf view
   stable-within within f =

@@ -1,16 +1,14 @@
-// One step, done by its rule. The host's tests have passed.
+// One step, done by its rule; state and store of readings are in shape.
 ghost use mathlib.Core.Path.{_≡_};
 ghost use mathlib.Core.Bool.{true};
 ghost use Prim.Native.Nat.{_≤_};
 ghost use lib.ListN.{length};
-ghost use Rattle.area.specs.Laid.{inFront};
-ghost use Rattle.record.specs.Layout.{allBytes};
-ghost use Rattle.store.specs.Columns.{columnsOf, storeLength};
+ghost use Rattle.store.specs.Columns.{Columns, columnsOf, storeLength};
 ghost use Rattle.protocol.specs.Rules.{ruleOf, act};
-ghost use Rattle.protocol.specs.Refusals.{firstFailed};
-ghost use Rattle.node.specs.View.{places, view, putState, putColumns};
-ghost use Rattle.node.specs.Shape.{inShape};
-ghost use Rattle.node.specs.Calls.{hostTests};
+ghost use Rattle.node.specs.Sizes.{areaBytes};
+ghost use Rattle.node.specs.View.{places, view};
+ghost use Rattle.node.specs.Shape.{stateInShape};
+ghost use Rattle.corrections.specs.Acted.{Acted};
 use clock::ArrivalTick;
 use corrections::Stepped;
 use node::State;
@@ -28,11 +26,13 @@ pub fn step(
     tick: ArrivalTick,
     area: &mut [u8],
 ) -> Stepped
-    requires { ⌜ firstFailed (hostTests state (columnsOf (now ids) (now times) (now values) (now arrivals) (now kinds) (now meters)) (now area)) ≡ 0 ⌝ }
-    ensures { λ r. ⌜ r .state ≡ putState state (act (state .settings) (view state (columnsOf (now (ids .entry)) (now (times .entry)) (now (values .entry)) (now (arrivals .entry)) (now (kinds .entry)) (now (meters .entry)))) (ruleOf (state .settings) (view state (columnsOf (now (ids .entry)) (now (times .entry)) (now (values .entry)) (now (arrivals .entry)) (now (kinds .entry)) (now (meters .entry)))) tick) .node) ⌝ }
-    ensures { λ r. ⌜ r .records ≡ length (act (state .settings) (view state (columnsOf (now (ids .entry)) (now (times .entry)) (now (values .entry)) (now (arrivals .entry)) (now (kinds .entry)) (now (meters .entry)))) (ruleOf (state .settings) (view state (columnsOf (now (ids .entry)) (now (times .entry)) (now (values .entry)) (now (arrivals .entry)) (now (kinds .entry)) (now (meters .entry)))) tick) .records) ⌝ }
-    ensures { λ _. ⌜ columnsOf (now (ids .exit)) (now (times .exit)) (now (values .exit)) (now (arrivals .exit)) (now (kinds .exit)) (now (meters .exit)) ≡ putColumns state (columnsOf (now (ids .entry)) (now (times .entry)) (now (values .entry)) (now (arrivals .entry)) (now (kinds .entry)) (now (meters .entry))) (act (state .settings) (view state (columnsOf (now (ids .entry)) (now (times .entry)) (now (values .entry)) (now (arrivals .entry)) (now (kinds .entry)) (now (meters .entry)))) (ruleOf (state .settings) (view state (columnsOf (now (ids .entry)) (now (times .entry)) (now (values .entry)) (now (arrivals .entry)) (now (kinds .entry)) (now (meters .entry)))) tick) .node) ⌝ }
-    ensures { λ _. ⌜ now (area .exit) ≡ inFront (allBytes (act (state .settings) (view state (columnsOf (now (ids .entry)) (now (times .entry)) (now (values .entry)) (now (arrivals .entry)) (now (kinds .entry)) (now (meters .entry)))) (ruleOf (state .settings) (view state (columnsOf (now (ids .entry)) (now (times .entry)) (now (values .entry)) (now (arrivals .entry)) (now (kinds .entry)) (now (meters .entry)))) tick) .records)) (now (area .entry)) ⌝ }
+    requires { ⌜ (let x : Columns = columnsOf (now ids) (now times) (now values) (now arrivals) (now kinds) (now meters) in
+        (places state ≤ storeLength x) × (stateInShape state x ≡ true) × (areaBytes ≤ length (now area))) ⌝ }
+    ensures { λ r. ⌜ (let x : Columns = columnsOf (now (ids .entry)) (now (times .entry)) (now (values .entry)) (now (arrivals .entry))
+        (now (kinds .entry)) (now (meters .entry)) in
+        let x′ : Columns = columnsOf (now (ids .exit)) (now (times .exit)) (now (values .exit)) (now (arrivals .exit))
+        (now (kinds .exit)) (now (meters .exit)) in
+        Acted (ruleOf (state .settings) (view state x) tick) state x (now (area .entry)) (r .state) x′ (now (area .exit)) (r .records)) ⌝ }
 {
     let rule = rules::rule_of(state, ids, times, values, arrivals, kinds, meters, tick);
     match rule {
@@ -69,7 +69,8 @@ pub fn records_ahead(
     meters: &[u8],
     tick: ArrivalTick,
 ) -> u32
-    requires { ⌜ (places state ≤ storeLength (columnsOf (now ids) (now times) (now values) (now arrivals) (now kinds) (now meters))) × (inShape state (columnsOf (now ids) (now times) (now values) (now arrivals) (now kinds) (now meters)) ≡ true) ⌝ }
+    requires { ⌜ (let x : Columns = columnsOf (now ids) (now times) (now values) (now arrivals) (now kinds) (now meters) in
+        (places state ≤ storeLength x) × (stateInShape state x ≡ true)) ⌝ }
     ensures { λ r. ⌜ r ≡ length (act (state .settings) (view state (columnsOf (now (ids .entry)) (now (times .entry)) (now (values .entry)) (now (arrivals .entry)) (now (kinds .entry)) (now (meters .entry)))) (ruleOf (state .settings) (view state (columnsOf (now (ids .entry)) (now (times .entry)) (now (values .entry)) (now (arrivals .entry)) (now (kinds .entry)) (now (meters .entry)))) tick) .records) ⌝ }
 {
     let rule = rules::rule_of(state, ids, times, values, arrivals, kinds, meters, tick);

@@ -4,11 +4,11 @@ ghost use mathlib.Core.Bool.{true};
 ghost use Prim.Native.Nat.{_≤_, _<_, _^_};
 ghost use lib.ListN.{length};
 ghost use Rattle.clock.specs.Windows.{windowStart};
-ghost use Rattle.store.specs.Columns.{columnsOf, storeLength};
+ghost use Rattle.store.specs.Columns.{Columns, columnsOf, storeLength};
 ghost use Rattle.protocol.specs.declared.Rule.the-variants as Rules;
 ghost use Rattle.node.specs.Sizes.{areaBytes};
 ghost use Rattle.node.specs.View.{places};
-ghost use Rattle.node.specs.Shape.{inShape};
+ghost use Rattle.node.specs.Shape.{stateInShape};
 ghost use Rattle.corrections.specs.Acted.{Acted};
 use corrections::Stepped;
 use node::State;
@@ -25,7 +25,9 @@ pub fn work_tentative(
     meters: &[u8],
     area: &mut [u8],
 ) -> Stepped
-    requires { ⌜ (places state ≤ storeLength (columnsOf (now ids) (now times) (now values) (now arrivals) (now kinds) (now meters))) × (inShape state (columnsOf (now ids) (now times) (now values) (now arrivals) (now kinds) (now meters)) ≡ true) × (areaBytes ≤ length (now area)) × (windowStart (state .settings .bucket) (state .settings .window) (state .p) < 2 ^ 32) ⌝ }
+    requires { ⌜ (let x : Columns = columnsOf (now ids) (now times) (now values) (now arrivals) (now kinds) (now meters) in
+        (places state ≤ storeLength x) × (stateInShape state x ≡ true) × (areaBytes ≤ length (now area)) ×
+        (windowStart (state .settings .bucket) (state .settings .window) (state .p) < 2 ^ 32)) ⌝ }
     ensures { λ r. ⌜ Acted Rules.WorkTentative state (columnsOf (now (ids .entry)) (now (times .entry)) (now (values .entry)) (now (arrivals .entry)) (now (kinds .entry)) (now (meters .entry))) (now (area .entry)) (r .state) (columnsOf (now (ids .entry)) (now (times .entry)) (now (values .entry)) (now (arrivals .entry)) (now (kinds .entry)) (now (meters .entry))) (now (area .exit)) (r .records) ⌝ }
 {
     let operator = state.operator;
@@ -33,6 +35,7 @@ pub fn work_tentative(
     let heads = state.heads;
     let settings = state.settings;
     let clock = state.clock;
+    let acknowledged = state.acknowledged;
     let p = state.p;
     let next = work::work(
         state,
@@ -56,6 +59,7 @@ pub fn work_tentative(
         c: state.c,
         p: p + 1,
         phase: Phase::Failure,
+        acknowledged: acknowledged,
     };
     Stepped {
         state: after,

@@ -14,11 +14,12 @@
 //  7. 140-163, 170-193: journal lines with a key too many, a key missing, or the keys in another order.
 //  8. 164-174, 194-204: lines with nothing of the form, the empty line first.
 //  9. 175-194, 205-224: settings inside their limits, at each end.
-// 10. 195-217, 225-247: settings of the form, one of them outside its limits; the last line has 102 bytes.
+// 10. 195-217, 225-247: settings of the form, one of them outside its limits; the last line has 122 bytes.
 // 11. 218-234, 248-264: settings with a number past its width.
 // 12. 235-284, 265-314: settings not of the form.
-// 13. 285, 315: a journal line that the end of the input cuts off before its 0A.
-// 14. the texts of `judge_other_texts`, 316-325.
+// 13. 285-318, 315-348: settings with any number of displays: inside the limits, outside, past the width, not of the form.
+// 14. 319, 349: a journal line that the end of the input cuts off before its 0A.
+// 15. the texts of `judge_other_texts`, 350-359.
 use fields::Written;
 use journal::Call;
 use journal::CallRead;
@@ -86,10 +87,10 @@ fn judge_lines(text: &[u8]) {
 // Texts that are no line of an input: the empty one, and lines that lack their 0A, end in another byte or have bytes behind the 0A.
 fn judge_other_texts() {
     judge(b"");
-    judge(b"lines=2 bucket=100 window=1 hold=50 low=-1000 high=1000");
-    judge(b"lines=2 bucket=100 window=1 hold=50 low=-1000 high=1000\0");
-    judge(b"lines=2 bucket=100 window=1 hold=50 low=-1000 high=1000\n\n");
-    judge(b"lines=9 bucket=100 window=1 hold=50 low=-1000 high=1000\nlines=9");
+    judge(b"lines=2 bucket=100 window=1 hold=50 low=-1000 high=1000 displays=1");
+    judge(b"lines=2 bucket=100 window=1 hold=50 low=-1000 high=1000 displays=1\0");
+    judge(b"lines=2 bucket=100 window=1 hold=50 low=-1000 high=1000 displays=1\n\n");
+    judge(b"lines=9 bucket=100 window=1 hold=50 low=-1000 high=1000 displays=1\nlines=9");
     judge(b"now=0 line=1 kind=S id=1 time=10 meter=3 value=7");
     judge(b"now=0 line=1 kind=S id=1 time=10 meter=3 value=7\r");
     judge(b"now=0 line=1 kind=S id=1 time=10 meter=3 value=7\0");

@@ -25,7 +25,7 @@ use Rattle.node.specs.declared.LineHead.{LineHead}
 use Rattle.node.specs.declared.State.{State}
 use Rattle.node.specs.View.{places, view}
 use Rattle.node.proofs.Limits.{limits-hold}
-use Rattle.node.proofs.Shape.{HeadShape, ReadingShape, KeptShape, InShape}
+use Rattle.node.proofs.Shape.{HeadShape, ReadingShape, KeptShape, StateShape}
 use Rattle.node.proofs.Gathered.{every-gather}
 use Rattle.node.proofs.KeptLines.{view-kept, kept-rising}
 use Rattle.work.proofs.Places.{bucket-places-within, few-bucket-places, front-back}
@@ -60,7 +60,7 @@ found st x j = bucketPlaces (st .settings .bucket) j (x .times) 0 (counts st)
 abbrev pub gathered : State → Columns → ℕ → List Placed
 gathered st x j = gather (st .settings .bucket) j 1 (keptOf (view st x .lines))
 
-module _ (st : State) (x : Columns) (h : places st ≤ storeLength x) (shape : InShape st x) (j : ℕ) where
+module _ (st : State) (x : Columns) (h : places st ≤ storeLength x) (shape : StateShape st x) (j : ℕ) where
   counts-room : length (counts st) * readingsPerLine ≤ storeLength x
   unfolding places
   counts-room = omega (arith, few-counts st)

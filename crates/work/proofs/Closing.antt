@@ -21,14 +21,14 @@ use Rattle.protocol.specs.Node.{keptOf}
 use Rattle.protocol.specs.Rules.{worked}
 use Rattle.node.specs.declared.State.{State}
 use Rattle.node.specs.View.{view}
-use Rattle.node.proofs.Shape.{InShape}
+use Rattle.node.proofs.Shape.{StateShape}
 
 -- the operator with bucket j's kept readings added
 abbrev pub Adds : State → Columns → ℕ → Operator → Type 0
 Adds st x j next = next ≡ addAll (st .settings) (st .operator) (inBucket (st .settings .bucket) j (keptOf (view st x .lines)))
 
 module _ (st : State) (x : Columns) (j : ℕ) (next : Operator) (adds : Adds st x j next) where
-  pub number-room : InShape st x → next .number + meterCount < 2 ^ 32
+  pub number-room : StateShape st x → next .number + meterCount < 2 ^ 32
   number-room shape =
       let same : next .number ≡ st .operator .number = ap (λ (o : Operator). o .number) adds ∙ addAll-number (st .settings) (st .operator) _ in
       omega (arith, shape .numbers .newest, shape .buckets .last)

@@ -10,14 +10,14 @@ ghost use Rattle.signed.specs.Range.{InRange};
 ghost use Rattle.record.specs.Layout.{allBytes};
 ghost use Rattle.store.specs.Lists.{Every};
 ghost use Rattle.store.specs.Order.{inBucket};
-ghost use Rattle.store.specs.Columns.{columnsOf, storeLength};
+ghost use Rattle.store.specs.Columns.{Columns, columnsOf, storeLength};
 ghost use Rattle.operator.specs.Meters.{addAll};
 ghost use Rattle.protocol.specs.Node.{keptOf};
 ghost use Rattle.protocol.specs.Rules.{worked};
 ghost use Rattle.node.specs.declared.LineHead.{LineHead as Head};
 ghost use Rattle.node.specs.Sizes.{areaBytes};
 ghost use Rattle.node.specs.View.{places, view};
-ghost use Rattle.node.specs.Shape.{inShape};
+ghost use Rattle.node.specs.Shape.{stateInShape};
 use node::LineHead;
 use node::State;
 use operator::Operator;
@@ -47,7 +47,8 @@ fn added(
     meters: &[u8],
     j: u32,
 ) -> Operator
-    requires { ⌜ (places state ≤ storeLength (columnsOf (now ids) (now times) (now values) (now arrivals) (now kinds) (now meters))) × (inShape state (columnsOf (now ids) (now times) (now values) (now arrivals) (now kinds) (now meters)) ≡ true) ⌝ }
+    requires { ⌜ (let x : Columns = columnsOf (now ids) (now times) (now values) (now arrivals) (now kinds) (now meters) in
+        (places state ≤ storeLength x) × (stateInShape state x ≡ true)) ⌝ }
     ensures { λ r. ⌜ r ≡ addAll (state .settings) (state .operator) (inBucket (state .settings .bucket) j (keptOf (view state (columnsOf (now (ids .entry)) (now (times .entry)) (now (values .entry)) (now (arrivals .entry)) (now (kinds .entry)) (now (meters .entry))) .lines))) ⌝ }
     ensures { λ r. ⌜ Every (λ m. InRange (m .sum) (m .count)) (r .meters) ⌝ }
 {
@@ -78,7 +79,9 @@ pub fn work(
     j: u32,
     area: &mut [u8],
 ) -> Operator
-    requires { ⌜ (places state ≤ storeLength (columnsOf (now ids) (now times) (now values) (now arrivals) (now kinds) (now meters))) × (inShape state (columnsOf (now ids) (now times) (now values) (now arrivals) (now kinds) (now meters)) ≡ true) × (areaBytes ≤ length (now area)) × (windowStart (state .settings .bucket) (state .settings .window) j < 2 ^ 32) ⌝ }
+    requires { ⌜ (let x : Columns = columnsOf (now ids) (now times) (now values) (now arrivals) (now kinds) (now meters) in
+        (places state ≤ storeLength x) × (stateInShape state x ≡ true) × (areaBytes ≤ length (now area)) ×
+        (windowStart (state .settings .bucket) (state .settings .window) j < 2 ^ 32)) ⌝ }
     ensures { λ r. ⌜ r ≡ worked (state .settings) kind j (view state (columnsOf (now (ids .entry)) (now (times .entry)) (now (values .entry)) (now (arrivals .entry)) (now (kinds .entry)) (now (meters .entry)))) .operator ⌝ }
     ensures { λ _. ⌜ now (area .exit) ≡ inFront (allBytes (worked (state .settings) kind j (view state (columnsOf (now (ids .entry)) (now (times .entry)) (now (values .entry)) (now (arrivals .entry)) (now (kinds .entry)) (now (meters .entry)))) .records)) (now (area .entry)) ⌝ }
 {
@@ -101,7 +104,8 @@ pub fn results_ahead(
     meters: &[u8],
     j: u32,
 ) -> u32
-    requires { ⌜ (places state ≤ storeLength (columnsOf (now ids) (now times) (now values) (now arrivals) (now kinds) (now meters))) × (inShape state (columnsOf (now ids) (now times) (now values) (now arrivals) (now kinds) (now meters)) ≡ true) ⌝ }
+    requires { ⌜ (let x : Columns = columnsOf (now ids) (now times) (now values) (now arrivals) (now kinds) (now meters) in
+        (places state ≤ storeLength x) × (stateInShape state x ≡ true)) ⌝ }
     ensures { λ r. ⌜ ((kind : ℕ) → r ≡ length (worked (state .settings) kind j (view state (columnsOf (now (ids .entry)) (now (times .entry)) (now (values .entry)) (now (arrivals .entry)) (now (kinds .entry)) (now (meters .entry)))) .records)) ⌝ }
 {
     let settings = state.settings;

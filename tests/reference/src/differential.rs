@@ -4,6 +4,7 @@ mod balance;
 mod coverage;
 mod difference;
 mod feed;
+mod groups;
 mod inputs;
 
 pub use balance::{due_balance, paid_in_balance, paid_in_output};
@@ -12,6 +13,7 @@ pub use difference::first_difference;
 pub use feed::{run, Feed, Run};
 pub use inputs::odd_inputs;
 
+use crate::playback::{play, Mode};
 use crate::text::next_line;
 
 /// The lines of a text, each with its line end; a last stretch without one is a line too.
@@ -29,9 +31,9 @@ fn starts_reply(line: &[u8]) -> bool {
     line.starts_with(b"answer=")
 }
 
-/// What the reference prints for an input.
-pub fn due_output(input: &[u8]) -> Vec<u8> {
+/// What the reference prints for an input as one of the programs.
+pub fn due_output(mode: Mode, input: &[u8]) -> Vec<u8> {
     let mut output = Vec::new();
-    crate::playback::merge(input, &mut output).expect("memory takes every byte");
+    play(mode, input, &mut output).expect("memory takes every byte");
     output
 }

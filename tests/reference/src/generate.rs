@@ -3,8 +3,11 @@
 mod aim;
 mod crowded;
 mod day;
+mod display;
+mod filling;
 mod host;
 mod host_fault;
+mod host_sent;
 mod journal;
 mod malformed;
 mod nasty;
@@ -13,6 +16,7 @@ mod record;
 mod workload;
 
 pub use aim::{any_call, fitting_call, spoil_call};
+pub use display::aimed_display_call;
 pub use host::{host_case, host_state, near_host_state, some_sum, Host, HostCase};
 pub use host_fault::{break_shape, FAULTS};
 pub use malformed::spoil_text;
@@ -21,6 +25,8 @@ pub use record::{any_bytes, any_record_bytes};
 pub use workload::{write_still, write_workload, Workload, WORKLOADS};
 
 use std::io::{self, Write};
+
+use crate::playback::Mode;
 
 /// The kinds of generated journals.
 #[derive(Clone, Copy, Debug, PartialEq, Eq)]
@@ -33,44 +39,55 @@ pub enum Kind {
     Malformed,
     /// Seven or eight lines full of readings of every meter.
     Crowded,
+    /// Windows of many meters one after the other, until the send-back store is full.
+    Filling,
 }
+
+/// The kinds with their names on the command line.
+pub const KINDS: [(&str, Kind); 5] = [
+    ("day", Kind::Day),
+    ("nasty", Kind::Nasty),
+    ("malformed", Kind::Malformed),
+    ("crowded", Kind::Crowded),
+    ("filling", Kind::Filling),
+];
 
 impl Kind {
-    /// The kind of a name on the command line.
-    pub fn of_name(name: &str) -> Option<Kind> {
-        match name {
-            "day" => Some(Kind::Day),
-            "nasty" => Some(Kind::Nasty),
-            "malformed" => Some(Kind::Malformed),
-            "crowded" => Some(Kind::Crowded),
-            _ => None,
-        }
-    }
-
     /// The name that stands for the kind.
     pub fn name(self) -> &'static str {
-        match self {
-            Kind::Day => "day",
-            Kind::Nasty => "nasty",
-            Kind::Malformed => "malformed",
-            Kind::Crowded => "crowded",
-        }
+        let known = KINDS.iter().find(|(_, kind)| *kind == self);
+        known.expect("a name for every kind").0
     }
 }
 
-/// Writes a journal: its settings line, then about so many journal lines.
-pub fn write_journal(kind: Kind, seed: u64, lines: u64, output: &mut dyn Write) -> io::Result<()> {
-    match kind {
-        Kind::Day => day::write(seed, lines, output),
-        Kind::Nasty => nasty::write(seed, lines, output),
-        Kind::Malformed => malformed::write(seed, lines, output),
-        Kind::Crowded => crowded::write(seed, lines, output),
-    }
+/// Writes an input for a program: its settings line, then about so many lines. It is aimed at the
+/// state that the program has: beside `merge` displays do nothing, beside `replay` they acknowledge
+/// everything at once, and a `console` gets lines for their calls among the journal's.
+pub fn write_input(
+    mode: Mode,
+    kind: Kind,
+    seed: u64,
+    lines: u64,
+    output: &mut dyn Write,
+) -> io::Result<()> {
+    let write = match kind {
+        Kind::Day => day::write,
+        Kind::Nasty => nasty::write,
+        Kind::Malformed => malformed::write,
+        Kind::Crowded => crowded::write,
+        Kind::Filling => filling::write,
+    };
+    write(mode, seed, lines, output)
 }
 
-/// The bytes of a journal.
-pub fn journal(kind: Kind, seed: u64, lines: u64) -> Vec<u8> {
+/// The bytes of an input for a program.
+pub fn input_for(mode: Mode, kind: Kind, seed: u64, lines: u64) -> Vec<u8> {
     let mut bytes = Vec::new();
-    write_journal(kind, seed, lines, &mut bytes).expect("memory takes every byte");
+    write_input(mode, kind, seed, lines, &mut bytes).expect("memory takes every byte");
     bytes
+}
+
+/// The bytes of a journal, as for `merge`.
+pub fn journal(kind: Kind, seed: u64, lines: u64) -> Vec<u8> {
+    input_for(Mode::Merge, kind, seed, lines)
 }

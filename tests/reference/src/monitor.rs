@@ -1,6 +1,6 @@
 //! The monitor, which is document 01's day book (section 'From the opening on'), and the checks of
-//! demand 3 that rest on it, with code of its own throughout; how many steps settle a box (document
-//! 02, W4), and the heat balance (W11).
+//! demand 3 that rest on it, with code of its own throughout; what is sent back to displays (document
+//! 02, W2), how many steps settle a box (W4), and the heat balance (W11).
 
 mod balance;
 mod count;
@@ -8,6 +8,7 @@ mod failure_free;
 mod output;
 mod replica;
 mod run;
+mod sent_back;
 mod watch;
 
 pub use balance::{balance_text, check_balance, kept_heat, open_heat, paid_heat, Balance, Heat};
@@ -16,6 +17,7 @@ pub use failure_free::failure_free;
 pub use output::Output;
 pub use replica::{are_replicas, check_replicas};
 pub use run::Run;
+pub use sent_back::check_sent;
 pub use watch::{check, check_settled, Watch};
 
 use crate::text::{Call, Settings, BOUNDARY, STABLE, STEP, TENTATIVE, UNDO};
@@ -72,6 +74,11 @@ impl Monitor {
     /// Each line's boundary.
     pub fn boundaries(&self) -> &[u32] {
         &self.boundaries
+    }
+
+    /// Whether the next step would work a stable bucket.
+    pub fn works_stable(&self) -> bool {
+        self.left() > 0 && self.d == self.t
     }
 
     /// How many finished buckets still wait for their stable work.

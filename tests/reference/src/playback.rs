@@ -1,10 +1,12 @@
-//! The program `merge` over any input and output (document 01, 'On the last tick and past it').
+//! The programs `merge`, `replay` and `console` over any input and output (document 01, 'On the last
+//! tick and past it').
 
 use std::io::{self, BufRead, BufReader, BufWriter, ErrorKind, Read, Write};
+use std::process::ExitCode;
 
-use crate::node::{call, call_in_shape, open, Reading, State, LINES, SHARE};
+use crate::node::{acknowledge, call_in_shape, make, open, Input, Lent, State};
 use crate::record::{decode, spell, AREA_BYTES, RECORD_BYTES};
-use crate::refusal::answer;
+use crate::refusal::{answer, ACCEPTED};
 use crate::text::{Pen, LINE_END};
 
 /// The bytes read and written at a time.
@@ -12,49 +14,109 @@ const BUFFER: usize = 1 << 16;
 /// The bytes kept of a line; each form is shorter, so a cut line still lacks it.
 const LINE_ROOM: usize = 128;
 
-/// What makes a call: state, store, text and area in; the answer and the number of records out.
-type MakeCall = fn(&mut State, &mut [Reading], &[u8], &mut [u8]) -> (u32, usize);
-
-/// Reads the settings line and the journal lines, and prints what each of them gives.
-pub fn merge<I: Read, O: Write>(input: I, output: O) -> io::Result<()> {
-    merge_by(call, input, output)
+/// Which program it is.
+#[derive(Clone, Copy, Debug, PartialEq, Eq)]
+pub enum Mode {
+    /// Journal calls only, as document 01 has it: nobody acknowledges a result.
+    Merge,
+    /// The same, but every display acknowledges all stable results of a line before the next is read.
+    Replay,
+    /// Journal lines, and lines for the calls of displays.
+    Console,
 }
 
-/// The same without refusals 3 and 4, which no journal can get.
-pub fn merge_unchecked<I: Read, O: Write>(input: I, output: O) -> io::Result<()> {
-    merge_by(call_in_shape, input, output)
+/// The programs with their names.
+pub const MODES: [(&str, Mode); 3] = [
+    ("merge", Mode::Merge),
+    ("replay", Mode::Replay),
+    ("console", Mode::Console),
+];
+
+/// Reads the settings line and the lines behind it, and prints what each of them gives.
+pub fn play<I: Read, O: Write>(mode: Mode, input: I, output: O) -> io::Result<()> {
+    play_by(make, mode, input, output)
 }
 
-fn merge_by<I: Read, O: Write>(make: MakeCall, input: I, output: O) -> io::Result<()> {
+/// The same without refusals 3 and 4 of journal calls, which no input can get.
+pub fn play_unchecked<I: Read, O: Write>(mode: Mode, input: I, output: O) -> io::Result<()> {
+    let unchecked: MakeCall = |state, lent, input, area| match input {
+        Input::Journal(text) => call_in_shape(state, lent, text, area),
+        Input::Display(_) => make(state, lent, input, area),
+    };
+    play_by(unchecked, mode, input, output)
+}
+
+/// A program of this name as it is run from a shell, from standard input to standard output.
+pub fn run_program(name: &str, mode: Mode) -> ExitCode {
+    let arguments: Vec<String> = std::env::args().skip(1).collect();
+    let (input, output) = (io::stdin().lock(), io::stdout().lock());
+    let played = match &arguments[..] {
+        [] => play(mode, input, output),
+        [option] if option == "--unchecked" => play_unchecked(mode, input, output),
+        _ => {
+            eprintln!("usage: {name} [--unchecked]");
+            return ExitCode::from(2);
+        }
+    };
+    match played {
+        Ok(()) => ExitCode::SUCCESS,
+        Err(error) => {
+            eprintln!("{name}: {error}");
+            ExitCode::FAILURE
+        }
+    }
+}
+
+/// What makes a call: state, stores, input and area in; the answer and the number of records out.
+type MakeCall = fn(&mut State, &mut Lent, Input, &mut [u8]) -> (u32, usize);
+
+fn play_by<I: Read, O: Write>(call: MakeCall, mode: Mode, input: I, output: O) -> io::Result<()> {
     let mut lines = Lines::new(input);
     let mut output = BufWriter::with_capacity(BUFFER, output);
     lines.next()?;
-    let mut store = vec![Reading::ZERO; LINES * SHARE];
-    let opened = open(lines.line(), &mut store);
+    let mut lent = Lent::zeroed();
+    let opened = open(lines.line(), &mut lent);
     let word = opened.as_ref().map_or("none", |state| state.word.name());
     print_answer(&mut output, answer(&opened), 0, word)?;
-    if let Ok(state) = opened {
-        play(make, &mut lines, &mut output, state, &mut store)?;
+    if let Ok(mut state) = opened {
+        let mut area = [0; AREA_BYTES];
+        loop {
+            if lines.is_empty() {
+                output.flush()?;
+            }
+            if !lines.next()? {
+                break;
+            }
+            let input = match mode {
+                Mode::Merge | Mode::Replay => Input::Journal(lines.line()),
+                Mode::Console => Input::of_line(lines.line()),
+            };
+            let (answer, records) = call(&mut state, &mut lent, input, &mut area);
+            print_answer(&mut output, answer, records, state.word.name())?;
+            print_records(&mut output, &area[..records * RECORD_BYTES])?;
+            if mode == Mode::Replay {
+                acknowledge_all(&mut state, &mut lent);
+            }
+        }
     }
     output.flush()
 }
 
-/// Plays every line after an accepted settings line.
-fn play<I: Read, O: Write>(
-    make: MakeCall,
-    lines: &mut Lines<I>,
-    output: &mut O,
-    mut state: State,
-    store: &mut [Reading],
-) -> io::Result<()> {
-    let mut area = [0; AREA_BYTES];
-    while lines.next()? {
-        let (answer, records) = make(&mut state, store, lines.line(), &mut area);
-        print_answer(output, answer, records, state.word.name())?;
-        for bytes in area.chunks_exact(RECORD_BYTES).take(records) {
-            let record = decode(bytes).expect("a record just laid down");
-            output.write_all(spell(&record).text())?;
+/// Every display acknowledges all stable results so far; one that has done so says nothing.
+pub fn acknowledge_all(state: &mut State, lent: &mut Lent) {
+    let newest = state.newest_stable();
+    for display in 1..=state.settings.displays {
+        if state.displays()[display as usize - 1] < newest {
+            let (answer, _) = acknowledge(state, lent, display, newest, &[0; AREA_BYTES]);
+            assert_eq!(answer, ACCEPTED, "the newest stable id");
         }
+    }
+}
+
+fn print_records<O: Write>(output: &mut O, bytes: &[u8]) -> io::Result<()> {
+    for bytes in bytes.chunks_exact(RECORD_BYTES) {
+        let record = decode(bytes).expect("a record just laid down");
+        output.write_all(spell(&record).text())?;
     }
     Ok(())
 }
@@ -81,6 +143,7 @@ struct Lines<I> {
     input: BufReader<I>,
     room: [u8; LINE_ROOM],
     length: usize,
+    ended: bool,
 }
 
 impl<I: Read> Lines<I> {
@@ -89,7 +152,13 @@ impl<I: Read> Lines<I> {
             input: BufReader::with_capacity(BUFFER, input),
             room: [0; LINE_ROOM],
             length: 0,
+            ended: false,
         }
+    }
+
+    /// Whether no byte is left of what was read: a program that waits must have its answers by then.
+    fn is_empty(&self) -> bool {
+        self.input.buffer().is_empty()
     }
 
     /// The line read last, cut to the room if it is longer; empty before the first.
@@ -101,15 +170,13 @@ impl<I: Read> Lines<I> {
     fn next(&mut self) -> io::Result<bool> {
         self.length = 0;
         let mut any = false;
-        loop {
+        while !self.ended {
             let piece = match self.input.fill_buf() {
                 Err(error) if error.kind() == ErrorKind::Interrupted => continue,
                 piece => piece?,
             };
-            if piece.is_empty() {
-                return Ok(any);
-            }
-            any = true;
+            self.ended = piece.is_empty();
+            any |= !self.ended;
             let end = piece.iter().position(|&byte| byte == LINE_END);
             let taken = end.map_or(piece.len(), |place| place + 1);
             let copied = taken.min(LINE_ROOM - self.length);
@@ -117,8 +184,9 @@ impl<I: Read> Lines<I> {
             self.length += copied;
             self.input.consume(taken);
             if end.is_some() {
-                return Ok(true);
+                break;
             }
         }
+        Ok(any)
     }
 }

@@ -1,4 +1,4 @@
-//! The fourteen refusals and the answer numbers (document 01, section 'Refusal by whom').
+//! The refusals and the answer numbers (document 01, section 'Refusal by whom'; document 02, W2).
 
 /// The answer of an accepted call.
 pub const ACCEPTED: u32 = 0;
@@ -20,6 +20,9 @@ pub enum Refusal {
     BelowBoundary = 12,
     TentativeKept = 13,
     LineFull = 14,
+    PlacesTaken = 15,
+    WrongDisplay = 16,
+    WrongResult = 17,
 }
 
 /// The answer number of an outcome: 0 if accepted, else the refusal's number.

@@ -1,10 +1,13 @@
-//! Texts: the settings line, the journal line, and the cutting of a text into lines.
+//! Texts: the settings line, the journal line, the console's lines for displays, and the cutting of a
+//! text into lines.
 
+mod display;
 mod journal;
 mod pen;
 mod reader;
 mod settings;
 
+pub use display::{read_display_call, spell_display_call, DisplayCall, Wish};
 pub use journal::{
     has_form, read_call, spell_call, write_call, Call, BOUNDARY, DONE, JOURNAL_LONGEST, STABLE,
     STEP, TENTATIVE, UNDO,

@@ -3,6 +3,7 @@
 
 use reference::differential::{due_balance, due_output, paid_in_balance, paid_in_output};
 use reference::monitor::{check_balance, paid_heat, Balance, Heat, Run};
+use reference::playback::Mode;
 use reference::record::Record;
 use reference::text::{next_line, read_call, STABLE, TENTATIVE};
 
@@ -31,7 +32,7 @@ fn upset(run: &Run) -> Balance {
 #[test]
 fn stored_journal_has_its_balance() {
     assert_eq!(due_balance(JOURNAL).unwrap(), BALANCE);
-    assert_eq!(due_output(JOURNAL), OUTPUT);
+    assert_eq!(due_output(Mode::Merge, JOURNAL), OUTPUT);
     let paid = paid_in_output(OUTPUT).unwrap();
     assert_eq!(paid.len(), 2);
     assert_eq!(paid_in_balance(BALANCE.as_bytes()), Some(paid));
@@ -62,7 +63,7 @@ fn operator_is_not_the_checkpoint() {
 #[test]
 fn tentative_readings_kept_do_not_count() {
     let mut run = played();
-    for reading in &mut run.store {
+    for reading in &mut run.lent.store {
         if reading.kind == TENTATIVE {
             reading.kind = STABLE;
         }

@@ -135,7 +135,7 @@ fn what_an_undo_touches() {
     due.state.clock = 60;
     due.state.heads[0].last_id = 0;
     due.state.heads[0].kept = 0;
-    due.store[..3].fill(Reading::ZERO);
+    due.lent.store[..3].fill(Reading::ZERO);
     assert_eq!(bench, due);
     assert_eq!(bench.state.word, Word::Failure);
     assert_eq!(bench.step(61), []);
@@ -220,7 +220,7 @@ fn full_line() {
     assert_eq!(bench.send(reading(0, 1, 'S', 257, 100, 0)), 14);
     assert_eq!(bench.send(reading(0, 1, 'T', 257, 100, 0)), 14);
     assert_eq!(bench.send(reading(0, 2, 'S', 1, 100, 0)), 0);
-    assert_eq!(bench.store[255], placed('S', 256, 100, 0));
-    assert_eq!(bench.store[256], placed('S', 1, 100, 0));
+    assert_eq!(bench.lent.store[255], placed('S', 256, 100, 0));
+    assert_eq!(bench.lent.store[256], placed('S', 1, 100, 0));
     assert_eq!(bench.text(&spell(&plain(0, 1, 'R'))), (0, 0));
 }

@@ -4,16 +4,19 @@
 mod common;
 
 use common::{boundary, meter, placed, plain, reading, spell, undo, Bench, SINGLE, USUAL};
-use reference::node::{call, open, store_length, Head, Reading, State};
+use reference::node::{call, open, store_length, Head, Lent, Reading, State};
 use reference::record::AREA_BYTES;
 use reference::text::{read_settings, Settings};
 
 fn step_over(lines: u32, places: usize) -> u32 {
     let settings = read_settings(USUAL.as_bytes()).unwrap();
     let mut state = State::fresh(Settings { lines, ..settings });
-    let mut store = vec![Reading::ZERO; places];
+    let mut lent = Lent {
+        store: vec![Reading::ZERO; places],
+        ..Lent::zeroed()
+    };
     let text = spell(&plain(0, 0, 'P'));
-    call(&mut state, &mut store, &text, &mut [0; AREA_BYTES]).0
+    call(&mut state, &mut lent, &text, &mut [0; AREA_BYTES]).0
 }
 
 // The store's length is judged by whatever number of lines the state has.
@@ -32,17 +35,21 @@ fn short_store_before_bad_lines() {
 // The opening's refusal 3 comes after 1 and 2.
 #[test]
 fn opening_over_a_short_store() {
-    let mut store = vec![placed('S', 1, 2, 3); 511];
-    let before = store.clone();
-    assert_eq!(open(USUAL.as_bytes(), &mut store).unwrap_err() as u32, 3);
-    let none = b"lines=0 bucket=100 window=1 hold=50 low=0 high=0\n";
-    assert_eq!(open(none, &mut []).unwrap_err() as u32, 2);
-    assert_eq!(open(b"", &mut store).unwrap_err() as u32, 1);
-    assert_eq!(store, before);
-    store.resize(514, placed('T', 4, 5, 6));
-    assert!(open(USUAL.as_bytes(), &mut store).is_ok());
-    assert!(store[..512].iter().all(|place| *place == Reading::ZERO));
-    assert_eq!(store[512..], [placed('T', 4, 5, 6); 2]);
+    let mut lent = Lent {
+        store: vec![placed('S', 1, 2, 3); 511],
+        ..Lent::zeroed()
+    };
+    let before = lent.clone();
+    assert_eq!(open(USUAL.as_bytes(), &mut lent).unwrap_err() as u32, 3);
+    let none = b"lines=0 bucket=100 window=1 hold=50 low=0 high=0 displays=1\n";
+    assert_eq!(open(none, &mut lent).unwrap_err() as u32, 2);
+    assert_eq!(open(b"", &mut lent).unwrap_err() as u32, 1);
+    assert_eq!(lent, before);
+    lent.store.resize(514, placed('T', 4, 5, 6));
+    assert!(open(USUAL.as_bytes(), &mut lent).is_ok());
+    let (places, behind) = lent.store.split_at(512);
+    assert!(places.iter().all(|place| *place == Reading::ZERO));
+    assert_eq!(behind, [placed('T', 4, 5, 6); 2]);
 }
 
 // A store in columns is as long as its shortest column.
@@ -98,7 +105,8 @@ fn meters_of_both() {
 // A stable bucket is worked from the operator, and the checkpoint becomes what it leaves.
 #[test]
 fn stable_work_starts_at_the_operator() {
-    let mut bench = Bench::open("lines=1 bucket=100 window=2 hold=50 low=-1000 high=1000\n");
+    let mut bench =
+        Bench::open("lines=1 bucket=100 window=2 hold=50 low=-1000 high=1000 displays=1\n");
     bench.state.operator.meters[3] = meter(1, 5, 5);
     bench.state.checkpoint.meters[3] = meter(7, 70, 10);
     bench.place(1, placed('S', 1, 10, 2));
@@ -155,7 +163,7 @@ fn undo_at_the_last_id() {
         bench.kept(1),
         [placed('S', 3, 10, 1), placed('S', 5, 10, 1)]
     );
-    assert_eq!(bench.store[2..4], [Reading::ZERO; 2]);
+    assert_eq!(bench.lent.store[2..4], [Reading::ZERO; 2]);
     assert_eq!(bench.send(undo(0, 1, 2)), 0);
     assert_eq!(bench.kept(1), []);
     assert_eq!(bench.state.heads[0].last_id, 2);

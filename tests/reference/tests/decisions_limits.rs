@@ -10,7 +10,7 @@ use reference::record::Record;
 // A meter at the greatest count still takes readings; afterwards it is out of shape.
 #[test]
 fn count_past_the_limit() {
-    let mut bench = Bench::open("lines=1 bucket=100 window=2 hold=0 low=-9 high=9\n");
+    let mut bench = Bench::open("lines=1 bucket=100 window=2 hold=0 low=-9 high=9 displays=1\n");
     bench.state.operator.meters[3] = meter(32_768, i64::from(i32::MAX) * 32_768, 0);
     for id in 1..=256 {
         bench.place(1, placed('S', id, 10, 9));
@@ -32,32 +32,33 @@ fn count_past_the_limit() {
 fn junk_stays() {
     let junk = placed('S', 77, 10, 7);
     let mut bench = Bench::open(SINGLE);
-    bench.store[..300].fill(junk);
+    bench.lent.store[..300].fill(junk);
     bench.state.heads[0].last_id = 9;
     bench.state.heads[0].kept = 0;
     bench.place(1, placed('S', 1, 10, 1));
     bench.place(1, placed('S', 2, 10, 1));
     bench.place(1, placed('S', 3, 110, 1));
     assert_eq!(bench.send(undo(0, 1, 2)), 0);
-    assert_eq!(bench.store[2], Reading::ZERO);
-    assert!(bench.store[3..300].iter().all(|place| *place == junk));
+    assert_eq!(bench.lent.store[2], Reading::ZERO);
+    assert!(bench.lent.store[3..300].iter().all(|place| *place == junk));
     bench.boundaries(100);
     assert_eq!(bench.step(0)[0].sum, 2);
-    assert_eq!(bench.store[..3], [Reading::ZERO; 3]);
-    assert!(bench.store[3..300].iter().all(|place| *place == junk));
+    assert_eq!(bench.lent.store[..3], [Reading::ZERO; 3]);
+    assert!(bench.lent.store[3..300].iter().all(|place| *place == junk));
     assert_eq!(bench.send(reading(0, 1, 'S', 3, 110, 5)), 0);
-    assert_eq!(bench.store[0], placed('S', 3, 110, 5));
+    assert_eq!(bench.lent.store[0], placed('S', 3, 110, 5));
 }
 
 // Arrival plus hold is a number without width, and an arrival may lie ahead of the clock.
 #[test]
 fn holds_past_the_clock() {
-    let mut bench = Bench::open("lines=1 bucket=100 window=1 hold=864000 low=0 high=9\n");
+    let mut bench =
+        Bench::open("lines=1 bucket=100 window=1 hold=864000 low=0 high=9 displays=1\n");
     assert_eq!(bench.send(reading(u32::MAX, 1, 'S', 1, 10, 1)), 0);
     assert_eq!(bench.step(u32::MAX), []);
-    let mut ahead = Bench::open("lines=1 bucket=100 window=1 hold=0 low=0 high=9\n");
+    let mut ahead = Bench::open("lines=1 bucket=100 window=1 hold=0 low=0 high=9 displays=1\n");
     ahead.place(1, placed('S', 1, 10, 1));
-    ahead.store[0].arrival = 10;
+    ahead.lent.store[0].arrival = 10;
     assert_eq!(ahead.step(9), []);
     assert_eq!(ahead.step(10).len(), 1);
 }
@@ -96,7 +97,7 @@ fn first_id() {
     assert_eq!(bench.try_step(0), 0);
     bench.place(1, placed('S', 0, 10, 1));
     assert_eq!(bench.try_step(0), 4);
-    bench.store[1].id = 1;
+    bench.lent.store[1].id = 1;
     assert_eq!(bench.try_step(0), 0);
 }
 
@@ -107,10 +108,10 @@ fn kinds_are_letters() {
     bench.state.heads[0].kept = 1;
     assert_eq!(bench.try_step(0), 4);
     for kind in ['B', 'U', 'R', 'P', 's', 't'] {
-        bench.store[0] = placed(kind, 1, 10, 1);
+        bench.lent.store[0] = placed(kind, 1, 10, 1);
         assert_eq!(bench.try_step(0), 4, "{kind}");
     }
-    bench.store[0] = placed('T', 1, 10, 1);
+    bench.lent.store[0] = placed('T', 1, 10, 1);
     assert_eq!(bench.try_step(0), 0);
 }
 
@@ -124,7 +125,7 @@ fn at(settings: &str, c: u32, p: u32, word: Word) -> Bench {
 // One limit for c and p whatever the bucket length, and no end of a bucket wraps.
 #[test]
 fn greatest_buckets() {
-    let long = "lines=1 bucket=36000 window=1 hold=0 low=0 high=9\n";
+    let long = "lines=1 bucket=36000 window=1 hold=0 low=0 high=9 displays=1\n";
     let top = 42_949_673;
     assert_eq!(at(long, top, top, Word::Stable).step(0), []);
     let mut closing = at(long, top, top, Word::Correcting);
@@ -136,11 +137,11 @@ fn greatest_buckets() {
     let all = at(long, u32::MAX, u32::MAX, Word::Stable);
     assert_eq!(all.clone().try_step(0), 4);
     for (length, last) in [(100, 42_949_672), (128, 33_554_431), (256, 16_777_215)] {
-        let text = format!("lines=1 bucket={length} window=1 hold=0 low=0 high=9\n");
+        let text = format!("lines=1 bucket={length} window=1 hold=0 low=0 high=9 displays=1\n");
         let end = at(&text, last, last, Word::Stable);
-        assert_eq!(rule(&end.state, &end.store), Rule::Idle);
+        assert_eq!(rule(&end.state, &end.lent.store), Rule::Idle);
         let before = at(&text, last - 1, last - 1, Word::Stable);
-        assert_eq!(rule(&before.state, &before.store), Rule::WorkStable);
+        assert_eq!(rule(&before.state, &before.lent.store), Rule::WorkStable);
     }
 }
 
@@ -166,6 +167,7 @@ fn words_and_numbers() {
         let mut bench = at(SINGLE, c, p, word);
         bench.state.checkpoint.newest = stable;
         bench.state.operator.newest = newest;
+        bench.state.acknowledged[0] = stable;
         assert_eq!(bench.try_step(0), answer, "{stable} {newest}");
     }
 }
@@ -204,7 +206,8 @@ fn oddities_pass() {
 // A meter without a count keeps its last value until the operator is cleared.
 #[test]
 fn last_without_a_count() {
-    let mut bench = Bench::open("lines=1 bucket=100 window=2 hold=50 low=-1000 high=1000\n");
+    let mut bench =
+        Bench::open("lines=1 bucket=100 window=2 hold=50 low=-1000 high=1000 displays=1\n");
     bench.state.operator.meters[3].last = 99;
     bench.boundaries(200);
     assert_eq!(bench.step(0), []);

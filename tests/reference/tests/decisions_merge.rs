@@ -6,11 +6,11 @@ use std::io::{self, Read};
 
 use common::{plain, spell, USUAL};
 use reference::generate::{journal, Kind};
-use reference::playback::merge;
+use reference::playback::{play, Mode};
 
 fn merged(input: &[u8]) -> String {
     let mut output = Vec::new();
-    merge(input, &mut output).unwrap();
+    play(Mode::Merge, input, &mut output).unwrap();
     String::from_utf8(output).unwrap()
 }
 
@@ -45,7 +45,7 @@ fn last_stretch() {
 fn long_lines() {
     let step = String::from_utf8(spell(&plain(0, 0, 'P'))).unwrap();
     for length in [
-        80, 89, 90, 127, 128, 129, 256, 65_535, 65_536, 65_537, 300_000,
+        80, 89, 90, 122, 127, 128, 129, 256, 65_535, 65_536, 65_537, 300_000,
     ] {
         let long = "x".repeat(length);
         let input = format!("{USUAL}{long}{step}{step}");
@@ -93,7 +93,7 @@ fn pieces_of_any_size() {
                 interrupted: false,
             };
             let mut output = Vec::new();
-            merge(pieces, &mut output).unwrap();
+            play(Mode::Merge, pieces, &mut output).unwrap();
             assert_eq!(String::from_utf8(output).unwrap(), due);
         }
     }
@@ -113,7 +113,7 @@ fn refused_lines() {
     assert_eq!(merged(input.as_bytes()), due);
     let most = u32::MAX;
     let longest = format!(
-        "lines={most} bucket={most} window={most} hold={most} low=-2147483648 high=-2147483648\n"
+        "lines={most} bucket={most} window={most} hold={most} low=-2147483648 high=-2147483648 displays={most}\n"
     );
     assert_eq!(
         merged(longest.as_bytes()),

@@ -6,7 +6,7 @@ use common::{boundary, placed, reading, undo, Bench, SINGLE, USUAL};
 use reference::node::{mean, rule, Reading, Rule, Word};
 use reference::record::Record;
 
-const DOUBLE: &str = "lines=1 bucket=100 window=2 hold=50 low=-1000 high=1000\n";
+const DOUBLE: &str = "lines=1 bucket=100 window=2 hold=50 low=-1000 high=1000 displays=1\n";
 
 // One boundary for each window, also for an empty one, and never from tentative work.
 #[test]
@@ -118,7 +118,7 @@ fn close_up() {
     assert_eq!(bench.step(0)[0].count, 3);
     let stay = [(1, 150), (3, 160), (6, 110)].map(|(id, time)| placed('S', id, time, 1));
     assert_eq!(bench.kept(1), stay);
-    assert_eq!(bench.store[3..6], [Reading::ZERO; 3]);
+    assert_eq!(bench.lent.store[3..6], [Reading::ZERO; 3]);
 }
 
 // The mean at a half and beside it, of even and odd counts; the sign changes nothing else.
@@ -232,5 +232,5 @@ fn tentative_readings_are_due() {
     assert_eq!(bench.step(50)[0].sum, 7);
     assert_eq!(undone.send(undo(1, 1, 0)), 0);
     assert_eq!(undone.step(50), []);
-    assert_eq!(rule(&undone.state, &undone.store), Rule::Idle);
+    assert_eq!(rule(&undone.state, &undone.lent.store), Rule::Idle);
 }

@@ -129,6 +129,20 @@ fn settings_numbers() {
         ("low=-1000", "low=-2147483649", 1),
         ("high=1000", "high=2147483647", 0),
         ("high=1000", "high=2147483648", 1),
+        ("displays=1", "displays=0", 2),
+        ("displays=1", "displays=4", 0),
+        ("displays=1", "displays=5", 2),
+        ("displays=1", "displays=4294967295", 2),
+        ("displays=1", "displays=4294967296", 1),
+        ("displays=1", "displays=4294967297", 1),
+        ("displays=1", "displays=-1", 1),
+        ("displays=1", "displays=01", 1),
+        ("displays=1", "displays=+1", 1),
+        ("displays=1", "displays=", 1),
+        (" displays=1", "", 1),
+        (" displays=1", " displays=1 displays=1", 1),
+        (" high=1000 displays=1", " displays=1 high=1000", 1),
+        ("lines=2", "displays=1 lines=2", 1),
     ];
     for (from, to, answer) in cases {
         assert_eq!(
@@ -150,7 +164,7 @@ fn settings_form_before_limits() {
     assert_eq!(settings_answer(&both.replace('\n', "")), 1);
     let most = "4294967295";
     let longest = format!(
-        "lines={most} bucket={most} window={most} hold={most} low=-2147483648 high=-2147483648\n"
+        "lines={most} bucket={most} window={most} hold={most} low=-2147483648 high=-2147483648 displays={most}\n"
     );
     assert_eq!(longest.len(), SETTINGS_LONGEST);
     assert_eq!(settings_answer(&longest), 2);

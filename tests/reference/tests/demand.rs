@@ -1,5 +1,6 @@
-//! Demand 3 on generated journals: clean, never struck, failure-free, settling in exactly as many
-//! steps as document 02 counts, replicas; and the heat balance wherever it is checked.
+//! Demand 3 on generated lists of journal calls and displays' calls: clean, never struck, failure-free,
+//! settling in exactly as many steps as document 02 counts, replicas; and wherever it is checked, what
+//! the send-back store holds, and the heat balance.
 
 mod common;
 
@@ -7,9 +8,10 @@ use std::collections::BTreeMap;
 
 use common::balance::Balances;
 use common::replica::replica;
-use reference::generate::{journal, Kind, Random};
-use reference::monitor::{check, check_replicas, Run};
-use reference::node::{Reading, State, Word, SHARE};
+use reference::generate::{aimed_display_call, input_for, Kind, Random};
+use reference::monitor::{check, check_replicas, check_sent, Run};
+use reference::node::{free_places, Input, Reading, State, Word, METERS, SHARE};
+use reference::playback::Mode;
 use reference::record::AREA_BYTES;
 use reference::text::{next_line, read_call, Call};
 
@@ -18,10 +20,10 @@ const FAR: u32 = 2_000;
 /// From so many on never.
 const TOO_FAR: u32 = 150_000;
 
-/// What became of a journal.
+/// What became of the lists.
 #[derive(Debug, Default)]
 struct Tally {
-    journals: u32,
+    lists: u32,
     calls: u64,
     results: usize,
     undone: u64,
@@ -29,19 +31,42 @@ struct Tally {
     /// From which state, and with how many stable buckets left (2 stands for two or more), steps
     /// were counted.
     counted: BTreeMap<(&'static str, u32), u32>,
+    /// How often steps that were to settle were refused for want of places.
+    waited: u32,
+    /// How often each thing came of the displays' side: answers to their calls, steps refused for
+    /// want of places, and how much was held where it was checked.
+    displays: BTreeMap<String, u32>,
     balances: Balances,
 }
 
-/// A journal played, with its calls of the form by how they were answered.
+impl Tally {
+    fn count(&mut self, what: impl Into<String>) {
+        *self.displays.entry(what.into()).or_insert(0) += 1;
+    }
+
+    /// Checks all that must be so after a list.
+    fn check(&mut self, run: &Run, refused: &[Call]) {
+        check(&run.watch).unwrap();
+        check_sent(run).unwrap();
+        self.balances.check(run, refused);
+        self.count(match free_places(&run.state) {
+            0 => "full",
+            512 => "empty",
+            _ => "partly full",
+        });
+    }
+}
+
+/// A list played, with its journal calls of the form by how they were answered.
 struct Played {
     run: Run,
     accepted: Vec<Call>,
     refused: Vec<Call>,
 }
 
-/// Plays a journal, sometimes over short areas; checks at some places on the way and at the end.
+/// Plays a list, some calls of it first over a short area; checks at some places on the way and at the end.
 fn play(kind: Kind, seed: u64, lines: u64, tally: &mut Tally) -> Option<Played> {
-    let bytes = journal(kind, seed, lines);
+    let bytes = input_for(Mode::Console, kind, seed, lines);
     let mut random = Random::new(seed);
     let settings = next_line(&bytes);
     let mut rest = &bytes[settings.len()..];
@@ -50,36 +75,83 @@ fn play(kind: Kind, seed: u64, lines: u64, tally: &mut Tally) -> Option<Played> 
     while !rest.is_empty() {
         let text = next_line(rest);
         rest = &rest[text.len()..];
-        let short = if random.once_in(50) { 1 } else { 0 };
-        let mut area = [0; AREA_BYTES];
-        let answer = run.feed_area(text, &mut area[short..]).unwrap();
-        assert_eq!(answer == 5, short == 1);
+        let fill = random.pick(&[0, 0xFF]);
+        let mut area = vec![fill; AREA_BYTES + random.pick(&[0, 0, 7])];
+        let input = Input::of_line(text);
+        if random.once_in(50) {
+            let short = &mut [fill; AREA_BYTES - 1];
+            assert_eq!(run.feed_input(input, short), Ok(5));
+            assert_eq!(*short, [fill; AREA_BYTES - 1]);
+            refused.extend(read_call(text));
+        }
+        let answer = run.feed_input(input, &mut area).unwrap();
         tally.calls += 1;
-        tally.undone += u64::from(answer == 0 && area[0] == b'U');
-        let answered = if answer == 0 {
-            &mut accepted
-        } else {
-            &mut refused
-        };
-        answered.extend(read_call(text));
-        if random.once_in(60) {
-            check(&run.watch).unwrap();
-            tally.balances.check(&run, &refused);
+        match input {
+            Input::Journal(_) => {
+                tally.undone += u64::from(answer == 0 && area[0] == b'U');
+                let answered = if answer == 0 {
+                    &mut accepted
+                } else {
+                    &mut refused
+                };
+                answered.extend(read_call(text));
+                if answer == 15 {
+                    tally.count(format!("15 while {}", run.state.word.name()));
+                }
+            }
+            Input::Display(call) => tally.count(format!("{:?} {answer}", call.wish)),
+        }
+        if random.once_in(60) || (answer == 15 && random.once_in(4)) {
+            tally.check(&run, &refused);
             check_facts(&run, &accepted);
             if run.watch.monitor.left() < FAR {
-                let pace = random.pick(&[0, 1, 60, 900_000]);
                 let from = (run.state.word.name(), run.watch.monitor.left().min(2));
-                *tally.counted.entry(from).or_insert(0) += 1;
-                run.clone().settle(pace).unwrap();
+                if settle(&mut run.clone(), &mut random) {
+                    *tally.counted.entry(from).or_insert(0) += 1;
+                } else {
+                    tally.waited += 1;
+                }
             }
         }
     }
-    tally.journals += 1;
+    tally.lists += 1;
     Some(Played {
         run,
         accepted,
         refused,
     })
+}
+
+/// Steps until it has settled, with nothing between them, with calls of displays, or with all of them
+/// acknowledging where places may be wanting; whether no step was refused.
+fn settle(run: &mut Run, random: &mut Random) -> bool {
+    let pace = random.pick(&[0, 1, 60, 900_000]);
+    match random.below(3) {
+        0 => run.settle(pace, |_| Ok(())).unwrap(),
+        1 => run.settle(pace, |run| strew(run, random)).unwrap(),
+        _ => settle_surely(run, pace),
+    }
+}
+
+/// The same with no step refused.
+fn settle_surely(run: &mut Run, pace: u32) -> bool {
+    let settled = run.settle(pace, |run| {
+        if free_places(&run.state) < METERS {
+            run.acknowledge_all()?;
+        }
+        Ok(())
+    });
+    assert_eq!(settled, Ok(true));
+    true
+}
+
+/// The call of a display, half the time.
+fn strew(run: &mut Run, random: &mut Random) -> Result<(), String> {
+    if random.once_in(2) {
+        let call = aimed_display_call(random, &run.state);
+        run.feed_display(&call, &mut [0; AREA_BYTES])?;
+    }
+    Ok(())
 }
 
 /// What ties the node to the monitor after any list of calls from a fresh opening, and what is
@@ -95,7 +167,7 @@ fn check_facts(run: &Run, accepted: &[Call]) {
     for line in 0..state.settings.lines as usize {
         let stable = |call: &&Call| call.kind == b'S' && usize::from(call.line) == line + 1;
         let count = accepted.iter().filter(stable).count();
-        check_line(state, &run.store, line, count as u32);
+        check_line(state, &run.lent.store, line, count as u32);
     }
 }
 
@@ -114,7 +186,7 @@ fn check_line(state: &State, store: &[Reading], line: usize, stable: u32) {
     }
 }
 
-/// Plays journals of one kind, each to its end and on until it has settled, with a replica.
+/// Plays lists of one kind, each to its end and on until it has settled, with a replica.
 fn play_all(kind: Kind, seeds: std::ops::Range<u64>, lines: u64) -> Tally {
     let mut tally = Tally::default();
     for seed in seeds {
@@ -127,23 +199,19 @@ fn play_all(kind: Kind, seeds: std::ops::Range<u64>, lines: u64) -> Tally {
             refused,
         } = played;
         let mut random = Random::new(seed ^ 0xFF);
-        check(&run.watch).unwrap();
-        tally.balances.check(&run, &refused);
+        tally.check(&run, &refused);
         let left = run.watch.monitor.left();
         if left >= TOO_FAR || (left >= FAR && seed % 10 != 0) {
             continue;
         }
-        run.settle(random.pick(&[0, 3, 100])).unwrap();
-        check(&run.watch).unwrap();
-        tally.balances.check(&run, &refused);
+        settle_surely(&mut run, random.pick(&[0, 3, 100]));
+        tally.check(&run, &refused);
         check_facts(&run, &accepted);
         tally.results += run.watch.output.stable().unwrap().len();
         if let Some(mut other) = replica(&run, &accepted, &mut random) {
-            check(&other.watch).unwrap();
-            tally.balances.check(&other, &[]);
-            other.settle(1).unwrap();
-            check(&other.watch).unwrap();
-            tally.balances.check(&other, &[]);
+            tally.check(&other, &[]);
+            settle_surely(&mut other, 1);
+            tally.check(&other, &[]);
             let compared = check_replicas(&run.watch, &other.watch).unwrap();
             tally.replicas += u32::from(compared);
         }
@@ -152,10 +220,10 @@ fn play_all(kind: Kind, seeds: std::ops::Range<u64>, lines: u64) -> Tally {
 }
 
 #[test]
-fn demand_3_on_nasty_journals() {
+fn demand_3_on_nasty_lists() {
     let tally = play_all(Kind::Nasty, 0..2_500, 400);
-    assert!(tally.journals > 2_300 && tally.calls > 900_000, "{tally:?}");
-    assert!(tally.results > 15_000 && tally.undone > 6_000, "{tally:?}");
+    assert!(tally.lists > 2_300 && tally.calls > 900_000, "{tally:?}");
+    assert!(tally.results > 12_000 && tally.undone > 4_000, "{tally:?}");
     assert!(tally.replicas > 2_100, "{tally:?}");
     assert_eq!(tally.counted.len(), 9, "{tally:?}");
     assert!(tally.counted.values().all(|&times| times > 50), "{tally:?}");
@@ -166,17 +234,28 @@ fn demand_3_on_nasty_journals() {
 
 #[test]
 fn demand_3_on_days() {
-    let tally = play_all(Kind::Day, 0..500, 1_500);
-    assert!(tally.journals == 500 && tally.results > 15_000, "{tally:?}");
-    assert!(tally.undone > 500, "{tally:?}");
-    assert!(tally.replicas > 400, "{tally:?}");
-    assert!(tally.balances.are_of_all(1_000), "{tally:?}");
+    let tally = play_all(Kind::Day, 0..300, 1_500);
+    assert!(tally.lists == 300 && tally.results > 8_000, "{tally:?}");
+    assert!(tally.undone > 300, "{tally:?}");
+    assert!(tally.replicas > 240, "{tally:?}");
+    assert!(tally.balances.are_of_all(500), "{tally:?}");
 }
 
 #[test]
-fn demand_3_on_malformed_journals() {
+fn demand_3_on_malformed_lists() {
     let tally = play_all(Kind::Malformed, 0..1_000, 400);
-    assert!(tally.journals > 800 && tally.results > 1_500, "{tally:?}");
+    assert!(tally.lists > 800 && tally.results > 1_500, "{tally:?}");
     assert!(tally.replicas > 700, "{tally:?}");
     assert!(tally.balances.are_of_all(100), "{tally:?}");
+}
+
+/// Lists with more results than the send-back store holds, most of them acknowledged too late.
+#[test]
+fn demand_3_on_filling_lists() {
+    let tally = play_all(Kind::Filling, 0..80, 1_600);
+    assert!(tally.lists == 80 && tally.results > 60_000, "{tally:?}");
+    assert!(tally.replicas > 60 && tally.waited > 200, "{tally:?}");
+    assert_eq!(tally.displays.len(), 11, "{tally:?}");
+    let often = tally.displays.values().all(|&times| times > 100);
+    assert!(often, "{tally:?}");
 }

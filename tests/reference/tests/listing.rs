@@ -4,10 +4,10 @@ mod common;
 
 use common::{boundary, placed, plain, reading, undo, Bench, SINGLE, USUAL};
 use reference::node::{bucket_of, is_stable, mean};
-use reference::playback::merge;
+use reference::playback::{play, MODES};
 
 const INPUT: &str = "\
-lines=2 bucket=100 window=1 hold=50 low=-1000 high=1000
+lines=2 bucket=100 window=1 hold=50 low=-1000 high=1000 displays=1
 now=0 line=1 kind=S id=1 time=10 meter=3 value=7
 now=0 line=1 kind=B id=0 time=100 meter=0 value=0
 now=50 line=0 kind=P id=0 time=0 meter=0 value=0
@@ -39,9 +39,11 @@ answer=0 records=0 state=stable
 
 #[test]
 fn listing() {
-    let mut output = Vec::new();
-    merge(INPUT.as_bytes(), &mut output).unwrap();
-    assert_eq!(String::from_utf8(output).unwrap(), OUTPUT);
+    for (name, mode) in MODES {
+        let mut output = Vec::new();
+        play(mode, INPUT.as_bytes(), &mut output).unwrap();
+        assert_eq!(String::from_utf8(output).unwrap(), OUTPUT, "{name}");
+    }
 }
 
 #[test]

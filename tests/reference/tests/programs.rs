@@ -4,11 +4,13 @@ use std::fs::File;
 use std::io::Write;
 use std::process::{Command, Output, Stdio};
 
-use reference::differential::due_balance;
-use reference::generate::{journal, Kind};
-use reference::playback::merge;
+use reference::differential::{due_balance, due_output};
+use reference::generate::{input_for, KINDS};
+use reference::playback::{Mode, MODES};
 
 const MERGE: &str = env!("CARGO_BIN_EXE_reference-merge");
+const REPLAY: &str = env!("CARGO_BIN_EXE_reference-replay");
+const CONSOLE: &str = env!("CARGO_BIN_EXE_reference-console");
 const BALANCE: &str = env!("CARGO_BIN_EXE_reference-balance");
 
 fn run(program: &str, input: &[u8]) -> Output {
@@ -31,22 +33,27 @@ fn run_generate(arguments: &[&str]) -> Output {
     command.args(arguments).output().unwrap()
 }
 
+fn program_of(mode: Mode) -> &'static str {
+    match mode {
+        Mode::Merge => MERGE,
+        Mode::Replay => REPLAY,
+        Mode::Console => CONSOLE,
+    }
+}
+
 #[test]
 fn programs_agree_with_the_library() {
-    for (name, kind) in [
-        ("day", Kind::Day),
-        ("nasty", Kind::Nasty),
-        ("malformed", Kind::Malformed),
-        ("crowded", Kind::Crowded),
-    ] {
-        let generated = run_generate(&[name, "12", "3000"]);
-        assert!(generated.status.success());
-        assert!(generated.stdout == journal(kind, 12, 3_000));
-        let mut due = Vec::new();
-        merge(&generated.stdout[..], &mut due).unwrap();
-        let merged = run(MERGE, &generated.stdout);
-        assert!(merged.status.success());
-        assert!(merged.stdout == due);
+    for (name, kind) in KINDS {
+        for (program, mode) in MODES {
+            let generated = run_generate(&[name, "3", "3000", program]);
+            assert!(generated.status.success());
+            assert!(generated.stdout == input_for(mode, kind, 3, 3_000));
+            let played = run(program_of(mode), &generated.stdout);
+            assert!(played.status.success());
+            assert!(played.stdout == due_output(mode, &generated.stdout));
+        }
+        let generated = run_generate(&[name, "3", "3000"]);
+        assert!(generated.stdout == input_for(Mode::Merge, kind, 3, 3_000));
         let balanced = run(BALANCE, &generated.stdout);
         assert!(balanced.status.success());
         assert!(!balanced.stdout.is_empty());
@@ -55,15 +62,17 @@ fn programs_agree_with_the_library() {
 }
 
 #[test]
-fn merge_ends_at_refused_settings() {
-    let merged = run(MERGE, &b"x\n".repeat(100_000));
-    assert_eq!(merged.stdout, b"answer=1 records=0 state=none\n");
-    assert!(merged.status.success());
+fn programs_end_at_refused_settings() {
+    for (_, mode) in MODES {
+        let played = run(program_of(mode), &b"x\n".repeat(100_000));
+        assert_eq!(played.stdout, b"answer=1 records=0 state=none\n");
+        assert!(played.status.success());
+    }
 }
 
 #[test]
 fn balance_names_refused_settings() {
-    let beyond = b"lines=9 bucket=100 window=1 hold=50 low=-1000 high=1000\n";
+    let beyond = b"lines=9 bucket=100 window=1 hold=50 low=-1000 high=1000 displays=1\n";
     for (input, refusal) in [(&b""[..], "1"), (b"x\nx\n", "1"), (beyond, "2")] {
         let balanced = run(BALANCE, input);
         assert_eq!(balanced.status.code(), Some(1));
@@ -91,7 +100,12 @@ fn balance_takes_no_arguments() {
 
 #[test]
 fn generate_asks_for_its_arguments() {
-    for wrong in [&["day", "1"][..], &["night", "1", "2"], &["day", "x", "2"]] {
+    for wrong in [
+        &["day", "1"][..],
+        &["night", "1", "2"],
+        &["day", "x", "2"],
+        &["day", "1", "2", "purge"],
+    ] {
         assert_eq!(run_generate(wrong).status.code(), Some(2));
     }
 }

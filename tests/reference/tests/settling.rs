@@ -71,7 +71,8 @@ fn stored_journal_counts_what_it_says() {
 }
 
 /// From any state in shape, k being its own, as long as no step is refused; a step may leave more
-/// counted on a meter than a state in shape has, and 4 then ends it.
+/// counted on a meter than a state in shape has, and 4 then ends it, or want more places than are
+/// free, and 15 does.
 #[test]
 fn host_made_states_need_as_many_steps() {
     let mut random = Random::new(4);
@@ -87,7 +88,8 @@ fn host_made_states_need_as_many_steps() {
             assert_eq!(settled, taken >= needed, "{taken} of {needed}, {from:?}");
             answer = host.step();
             if answer != 0 {
-                assert!(answer == 4 && taken > 0, "{answer} after {taken}");
+                let due = answer == 15 || (answer == 4 && taken > 0);
+                assert!(due, "{answer} after {taken}");
                 break;
             }
         }
@@ -97,4 +99,7 @@ fn host_made_states_need_as_many_steps() {
     let times: Vec<i32> = to_the_end.map(|(_, &times)| times).collect();
     assert_eq!(times.len(), 9, "{counted:?}");
     assert!(times.iter().all(|&times| times > 200), "{counted:?}");
+    let waiting = counted.iter().filter(|((_, answer), _)| *answer == 15);
+    let waiting: i32 = waiting.map(|(_, &times)| times).sum();
+    assert!(waiting > 200, "{counted:?}");
 }

@@ -3,8 +3,8 @@
 use std::process::Command;
 
 use reference::generate::{write_still, write_workload, Workload, WORKLOADS};
-use reference::node::{call, open, Reading, State, LINES, SHARE};
-use reference::playback::{merge, merge_unchecked};
+use reference::node::{call, open, Lent, State, LINES, SHARE};
+use reference::playback::{acknowledge_all, play, play_unchecked, Mode};
 use reference::record::AREA_BYTES;
 use reference::text::{next_line, DONE, STEP};
 
@@ -16,19 +16,20 @@ fn workload(workload: Workload, lines: u64) -> Vec<u8> {
     bytes
 }
 
-/// Plays a journal and shows each call's answer, records and the kept readings before and after it.
+/// Plays a journal as `replay` does and shows each call's answer, records and the kept readings before and after it.
 fn watch(journal: &[u8], mut seen: impl FnMut(u32, usize, u32, u32)) {
     let kept = |state: &State| state.lines().iter().map(|head| head.kept).sum();
-    let mut store = vec![Reading::ZERO; LINES * SHARE];
+    let mut lent = Lent::zeroed();
     let settings = next_line(journal);
     let mut rest = &journal[settings.len()..];
-    let mut state = open(settings, &mut store).unwrap();
+    let mut state = open(settings, &mut lent).unwrap();
     let mut area = [0; AREA_BYTES];
     while !rest.is_empty() {
         let text = next_line(rest);
         rest = &rest[text.len()..];
         let before = kept(&state);
-        let (answer, records) = call(&mut state, &mut store, text, &mut area);
+        let (answer, records) = call(&mut state, &mut lent, text, &mut area);
+        acknowledge_all(&mut state, &mut lent);
         seen(answer, records, before, kept(&state));
     }
 }
@@ -38,8 +39,8 @@ fn the_checks_change_no_output() {
     for (name, kind) in WORKLOADS {
         let journal = workload(kind, 6_000);
         let (mut checked, mut unchecked) = (Vec::new(), Vec::new());
-        merge(&journal[..], &mut checked).unwrap();
-        merge_unchecked(&journal[..], &mut unchecked).unwrap();
+        play(Mode::Replay, &journal[..], &mut checked).unwrap();
+        play_unchecked(Mode::Replay, &journal[..], &mut unchecked).unwrap();
         assert!(checked == unchecked, "{name}");
     }
 }

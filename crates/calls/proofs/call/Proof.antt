@@ -1,33 +1,43 @@
 -- `calls::call` meets its contract: a call that is judged refused changes nothing, and what an accepted one leaves is what `accept` ensures.
 -- Assumes nothing.
 use Prim.Native.Nat.{ℕ}
-use mathlib.Core.Path.{_≡_, refl, sym, subst, _∙_}
+use mathlib.Core.Path.{_≡_, refl, sym, ap, subst, _∙_}
 use mathlib.Core.List.{List}
 use native.Mathlib.Omega.{arith}
 use borrow.Author.Needs.{needs}
-use Rattle.store.specs.Columns.{Columns, columnsOf}
+use Rattle.store.specs.Columns.{columnsOf}
 use Rattle.node.specs.declared.State.{State}
+use Rattle.node.specs.View.{Lent, lentOf}
 use Rattle.node.specs.Calls.{refusedWith, calledOn}
+use Rattle.journal.specs.declared.CallRead.{CallRead}
 use Rattle.judging.specs.declared.Judged.{Judged}
+use Rattle.judging.specs.Judging.{judgedOn}
 use Rattle.judging.proofs.Answers.{Passed, Answered, answered}
 use Rattle.calls.proofs.call.Statement.{statement}
 use Rattle.calls.proofs.call.Tie as tie
 
 -- what a refused call answers and leaves
-refused-same : (x : Columns) (area : List ℕ) {st next : State} {n answer records : ℕ} → next ≡ st → records ≡ 0 → answer ≡ n → record { answer = answer; records = records; state = next; columns = x; area = area } ≡ refusedWith n st x area
+refused-same :
+    (x : Lent) (area : List ℕ) {st next : State} {n answer records : ℕ} → next ≡ st → records ≡ 0 → answer ≡ n →
+    record { answer = answer; records = records; state = next; lent = x; area = area } ≡ refusedWith n st x area
 unfolding refusedWith
-refused-same x area e f g = λ t. record { answer = g t; records = f t; state = e t; columns = x; area = area }
+refused-same x area e f g = λ t. record { answer = g t; records = f t; state = e t; lent = x; area = area }
 
 -- ---- what is known at the places on the way; each place names the one that it goes back to
 
--- the columns as they are lent
-abbrev store : tie.Start → Columns
+-- what is lent
+abbrev store : tie.Start → Lent
 store s =
-    columnsOf (s .args .ids .now) (s .args .times .now) (s .args .values .now) (s .args .arrivals .now) (s .args .kinds .now) (s .args .meters .now)
+    lentOf (columnsOf (s .args .ids .now) (s .args .times .now) (s .args .values .now) (s .args .arrivals .now) (s .args .kinds .now)
+    (s .args .meters .now)) (s .args .sent .now)
+
+-- what the text is read as
+abbrev reading : tie.After-judge → tie.After-read-call
+reading j = j .before .before .before .before .before .before .before .before
 
 -- what is decided of the call, once it is judged
 abbrev asked : tie.After-judge → tie.Start
-asked j = j .before .before .before .before .before .before .before .before .before .before .before .before .before .before
+asked j = reading j .before .before .before .before .before .before .before .before .before
 
 abbrev Decided : tie.Start → Judged → Type 0
 Decided s r = Answered (s .args .state) (store s) (s .args .text .now) (s .args .area .now) r
@@ -35,7 +45,8 @@ Decided s r = Answered (s .args .state) (store s) (s .args .text .now) (s .args 
 judged : (j : tie.After-judge) (r : Judged) → j .judge .result ≡ r → Decided (asked j) r
 judged j r e =
     let s = asked j in
-    subst (Decided s) (sym (j .judge .ensures (s .args .area .now) (omega arith)) ∙ e)
+    let same = ap (λ (read : CallRead). judgedOn (s .args .state) (store s) read (s .args .area .now)) (reading j .read-call .ensures .0) in
+    subst (Decided s) (sym (j .judge .ensures (s .args .area .now) (omega arith) ∙ same) ∙ e)
     (answered (s .args .state) (store s) (s .args .text .now) (s .args .area .now))
 
 -- a refused call
@@ -56,6 +67,9 @@ passed a = judged (a .before .before) _ (a .judged2 .given .1)
 
 -- ---- the needs
 
+read-call-requires : tie.Need-read-call-requires
+read-call-requires c κs = search needs
+
 judge-requires : tie.Need-judge-requires
 judge-requires c κs = search needs
 
@@ -70,7 +84,7 @@ enum-known-judged-2 c = search needs
 
 accept-requires : tie.Need-accept-requires
 accept-requires c κs =
-    let a = c .before .before .before .before .before .before .before .before in
+    let a = c .before .before .before .before .before .before .before .before .before in
     (passed a .host, passed a .call)
 
 same-length : tie.Need-same-length
@@ -91,6 +105,9 @@ same-length-5 c = refl
 same-length-6 : tie.Need-same-length-6
 same-length-6 c = refl
 
+same-length-7 : tie.Need-same-length-7
+same-length-7 c = refl
+
 returns : tie.Need-returns
 returns c =
     let r = c .before .before in
@@ -98,38 +115,42 @@ returns c =
     refused-same (store s) (s .args .area .now) (c .refused .ensures .0) (c .refused .ensures .1 .0) (c .refused .ensures .1 .1) ∙ refused r
 
 -- the accepted call, once it is done
-abbrev done : tie.After-slice-known12 → tie.After-accept
-done c = c .before .before .before .before .before .before .before .before .before .before .before .before .before
-
-same-length-7 : tie.Need-same-length-7
-same-length-7 c = done c .accept .kept .1 .0
+abbrev done : tie.After-slice-known14 → tie.After-accept
+done c = c .before .before .before .before .before .before .before .before .before .before .before .before .before .before .before
 
 same-length-8 : tie.Need-same-length-8
-same-length-8 c = done c .accept .kept .1 .1 .0
+same-length-8 c = done c .accept .kept .1 .0
 
 same-length-9 : tie.Need-same-length-9
-same-length-9 c = done c .accept .kept .1 .1 .1 .0
+same-length-9 c = done c .accept .kept .1 .1 .0
 
 same-length-10 : tie.Need-same-length-10
-same-length-10 c = done c .accept .kept .1 .1 .1 .1 .0
+same-length-10 c = done c .accept .kept .1 .1 .1 .0
 
 same-length-11 : tie.Need-same-length-11
-same-length-11 c = done c .accept .kept .1 .1 .1 .1 .1 .0
+same-length-11 c = done c .accept .kept .1 .1 .1 .1 .0
 
 same-length-12 : tie.Need-same-length-12
-same-length-12 c = done c .accept .kept .1 .1 .1 .1 .1 .1 .0
+same-length-12 c = done c .accept .kept .1 .1 .1 .1 .1 .0
 
 same-length-13 : tie.Need-same-length-13
-same-length-13 c = done c .accept .kept .1 .1 .1 .1 .1 .1 .1 .0
+same-length-13 c = done c .accept .kept .1 .1 .1 .1 .1 .1 .0
+
+same-length-14 : tie.Need-same-length-14
+same-length-14 c = done c .accept .kept .1 .1 .1 .1 .1 .1 .1 .0
+
+same-length-15 : tie.Need-same-length-15
+same-length-15 c = done c .accept .kept .1 .1 .1 .1 .1 .1 .1 .1 .0
 
 returns-2 : tie.Need-returns-2
 returns-2 c =
-    done c .accept .ensures ∙ passed (done c .before .before .before .before .before .before .before .before .before) .done
+    done c .accept .ensures ∙ passed (done c .before .before .before .before .before .before .before .before .before .before) .done
 
 pub call-spec : {M : Type 1} → statement M
 call-spec =
     tie.close
     (tie.spec
+    read-call-requires
     judge-requires
     enum-known-judged
     refused-requires
@@ -141,12 +162,14 @@ call-spec =
     same-length-4
     same-length-5
     same-length-6
-    returns
     same-length-7
+    returns
     same-length-8
     same-length-9
     same-length-10
     same-length-11
     same-length-12
     same-length-13
+    same-length-14
+    same-length-15
     returns-2)

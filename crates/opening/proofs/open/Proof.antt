@@ -1,27 +1,35 @@
--- `opening::open` meets its contract: each way out is the law of what the text was read as. Assumes nothing.
-use mathlib.Core.Path.{_≡_, refl, sym, _∙_}
-use mathlib.Core.Bool.{true, false}
+-- `opening::open` meets its contract: each way out is the law of what the text was read as.
+use mathlib.Core.Path.{_≡_, refl, sym, _∙_, ap}
+use mathlib.Core.Bool.{Bool, true, false, _||_}
 use native.Mathlib.Omega.{arith}
 use borrow.Author.Needs.{needs}
+use lib.Dec.{ltb}
+use lib.ListN.{length}
 use Rattle.settings.specs.declared.Settings.{Settings}
 use Rattle.settings.specs.declared.SettingsRead.the-variants as SettingsRead
 use Rattle.settings.specs.ReadLine.{settingsOf}
 use Rattle.store.specs.Columns.{Columns, columnsOf}
+use Rattle.retransmission.specs.Sizes.{heldBytes}
+use Rattle.node.specs.View.{Lent, lentOf}
 use Rattle.node.specs.Opening.{isShort}
-use Rattle.opening.proofs.Openings.{enough-room, opening-malformed, opening-outside, opening-short, opening-done}
+use Rattle.node.proofs.Opening.{not-short}
+use Rattle.opening.proofs.Openings.{opening-malformed, opening-outside, opening-short, opening-done}
 use Rattle.opening.proofs.open.Statement.{statement}
 use Rattle.opening.proofs.open.Tie as tie
 
 -- ---- what is known at the places on the way; each place names the one that it goes back to
 
--- the columns as they are lent
-abbrev store : tie.Start → Columns
-store s =
-    columnsOf (s .args .ids .now) (s .args .times .now) (s .args .values .now) (s .args .arrivals .now) (s .args .kinds .now) (s .args .meters .now)
+-- what is lent
+abbrev stores : tie.Start → Lent
+stores s =
+    lentOf
+    (columnsOf (s .args .ids .now) (s .args .times .now) (s .args .values .now) (s .args .arrivals .now) (s .args .kinds .now)
+    (s .args .meters .now))
+    (s .args .sent .now)
 
 -- the text, once it is read
 abbrev asked : tie.After-read-settings → tie.Start
-asked t = t .before .before .before .before .before .before .before
+asked t = t .before .before .before .before .before .before .before .before
 
 abbrev entry : tie.After-read → tie.Start
 entry r = asked (r .before .before)
@@ -36,11 +44,19 @@ read r = sym (r .before .before .read-settings .ensures .0) ∙ r .read .given .
 abbrev measured : tie.After-is-short → tie.After-read
 measured m = m .before .before .before .before .before .before .before .before
 
-short : (t : tie.Then1) → isShort (settings (measured (t .before)) .lines) (store (entry (measured (t .before)))) ≡ true
-short t = sym (t .before .is-short .ensures) ∙ t .if1 .taken
+-- both stores are measured in one test
+tested :
+    (m : tie.After-is-short) →
+    m .is-short .result || ltb (length (entry (measured m) .args .sent .now)) heldBytes ≡
+    isShort (settings (measured m) .lines) (stores (entry (measured m)))
+unfolding isShort
+tested m = ap (λ (b : Bool). b || ltb (length (entry (measured m) .args .sent .now)) heldBytes) (m .is-short .ensures)
 
-room : (e : tie.Else1) → isShort (settings (measured (e .before)) .lines) (store (entry (measured (e .before)))) ≡ false
-room e = sym (e .before .is-short .ensures) ∙ e .if1 .left
+short : (t : tie.Then1) → isShort (settings (measured (t .before)) .lines) (stores (entry (measured (t .before)))) ≡ true
+short t = sym (tested (t .before)) ∙ t .if1 .taken
+
+room : (e : tie.Else1) → isShort (settings (measured (e .before)) .lines) (stores (entry (measured (e .before)))) ≡ false
+room e = sym (tested (e .before)) ∙ e .if1 .left
 
 -- ---- the needs
 
@@ -81,7 +97,7 @@ returns : tie.Need-returns
 returns c =
     let r = measured (c .before) in
     let s = entry r in
-    opening-short (s .args .state) (store s) (s .args .text .now) (settings r) (read r) (short c)
+    opening-short (s .args .state) (stores s) (s .args .text .now) (settings r) (read r) (short c)
 
 cast-end : tie.Need-cast-end
 cast-end c = search needs
@@ -93,7 +109,18 @@ zero-requires : tie.Need-zero-requires
 zero-requires c κs =
     let e = c .before .before .before .before .before .before .before in
     let r = measured (e .before) in
-    let long = enough-room (settings r .lines) (store (entry r)) (room e) in
+    let long = not-short (settings r .lines) (stores (entry r)) (room e) .0 in
+    (omega arith, omega (arith, long))
+
+-- the shares, once they are zeroed
+abbrev tested-before : tie.After-zero → tie.Else1
+tested-before z = z .before .before .before .before .before .before .before .before
+
+zero-u8-requires : tie.Need-zero-u8-requires
+zero-u8-requires c κs =
+    let e = tested-before (c .before .before .before .before .before .before .before .before .before .before .before .before) in
+    let r = measured (e .before) in
+    let long = not-short (settings r .lines) (stores (entry r)) (room e) .1 in
     (omega arith, omega (arith, long))
 
 fresh-state-requires : tie.Need-fresh-state-requires
@@ -103,21 +130,25 @@ returns-2 : tie.Need-returns-2
 returns-2 c =
     let t = c .before .before in
     let s = asked t in
-    opening-malformed (s .args .state) (store s) (s .args .text .now) (sym (t .read-settings .ensures .0) ∙ c .enum-told .given .1)
+    opening-malformed (s .args .state) (stores s) (s .args .text .now) (sym (t .read-settings .ensures .0) ∙ c .enum-told .given .1)
 
 returns-3 : tie.Need-returns-3
 returns-3 c =
     let t = c .before .before in
     let s = asked t in
-    opening-outside (s .args .state) (store s) (s .args .text .now) (sym (t .read-settings .ensures .0) ∙ c .enum-told2 .given .1)
+    opening-outside (s .args .state) (stores s) (s .args .text .now) (sym (t .read-settings .ensures .0) ∙ c .enum-told2 .given .1)
 
--- the places, once they are zeroed
+-- and then the places
+abbrev emptied : tie.After-fresh-state → tie.After-zero-u8
+emptied c = c .before .before .before
+
 abbrev zeroed : tie.After-fresh-state → tie.After-zero
-zeroed c = c .before .before .before .before .before .before .before .before .before .before .before .before
+zeroed c = emptied c .before .before .before .before .before .before .before .before .before .before .before .before .before
 
 abbrev zeroedStore : tie.After-zero → Columns
 zeroedStore z =
-    columnsOf (z .zero .last .0) (z .zero .last .1 .0) (z .zero .last .1 .1 .0) (z .zero .last .1 .1 .1 .0) (z .zero .last .1 .1 .1 .1 .0) (z .zero .last .1 .1 .1 .1 .1 .0)
+    columnsOf (z .zero .last .0) (z .zero .last .1 .0) (z .zero .last .1 .1 .0) (z .zero .last .1 .1 .1 .0)
+    (z .zero .last .1 .1 .1 .1 .0) (z .zero .last .1 .1 .1 .1 .1 .0)
 
 same-length-7 : tie.Need-same-length-7
 same-length-7 c = zeroed c .zero .kept .0
@@ -137,13 +168,17 @@ same-length-11 c = zeroed c .zero .kept .1 .1 .1 .1 .0
 same-length-12 : tie.Need-same-length-12
 same-length-12 c = zeroed c .zero .kept .1 .1 .1 .1 .1 .0
 
+same-length-13 : tie.Need-same-length-13
+same-length-13 c = emptied c .zero-u8 .kept .0
+
 returns-4 : tie.Need-returns-4
 returns-4 c =
     let z = zeroed c in
-    let e = z .before .before .before .before .before .before .before .before in
+    let e = tested-before z in
     let r = measured (e .before) in
     let s = entry r in
-    opening-done (s .args .state) (store s) (s .args .text .now) (settings r) (read r) (room e) (c .fresh-state .ensures) {y = zeroedStore z} (z .zero .ensures)
+    opening-done (s .args .state) (stores s) (s .args .text .now) (settings r) (read r) (room e) (c .fresh-state .ensures)
+    {y = zeroedStore z} (z .zero .ensures) {sent = emptied c .zero-u8 .last .0} (emptied c .zero-u8 .ensures)
 
 pub open-spec : {M : Type 1} → statement M
 open-spec =
@@ -164,6 +199,7 @@ open-spec =
     cast-end
     mul-end
     zero-requires
+    zero-u8-requires
     fresh-state-requires
     returns-2
     returns-3
@@ -173,4 +209,5 @@ open-spec =
     same-length-10
     same-length-11
     same-length-12
+    same-length-13
     returns-4)

@@ -1,16 +1,16 @@
--- `playback::play_line` meets its contract: what the call leaves is handed on, and behind its answer line stand its records' texts. Assumes
--- nothing.
+-- `playback::play_line` meets its contract: what the call leaves is handed on, and its reply stands in front of the output.
 use native.Mathlib.Omega.{arith}
 use borrow.Author.Needs.{needs}
 use mathlib.Core.Path.{_≡_, ap, _∙_}
-use Prim.Native.Nat.{_<_, _^_}
 use lib.ListN.{length}
+use Rattle.area.specs.Laid.{inFront}
 use Rattle.operator.specs.Meters.{meterCount}
 use Rattle.operator.proofs.FromPlace.{length-mapped}
-use Rattle.store.specs.Columns.{Columns, columnsOf}
+use Rattle.store.specs.Columns.{columnsOf}
+use Rattle.node.specs.View.{Lent, lentOf}
 use Rattle.node.specs.Calls.{Called, calledOn}
-use Rattle.playback.proofs.Few.{Fewest, called-few}
-use Rattle.playback.proofs.Replies.{records-room, reply-laid}
+use Rattle.node.proofs.Few.{Fewest, called-few}
+use Rattle.reply.specs.Reply.{replyText}
 use Rattle.playback.proofs.play_line.Statement.{statement}
 use Rattle.playback.proofs.play_line.Tie as tie
 
@@ -18,22 +18,23 @@ use Rattle.playback.proofs.play_line.Tie as tie
 
 -- an operator's array has its length
 long : (s : tie.Start) → length (s .args .state .operator .meters) ≡ meterCount
-long s = search (needs, length-mapped)
+long s = let owned = s .good .0 .1 .1 .0 .1 .1 .0 in search (needs, length-mapped)
 
-abbrev store : tie.Start → Columns
-store s =
-    columnsOf (s .args .ids .now) (s .args .times .now) (s .args .values .now) (s .args .arrivals .now) (s .args .kinds .now) (s .args .meters .now)
+abbrev lent : tie.Start → Lent
+lent s =
+    lentOf (columnsOf (s .args .ids .now) (s .args .times .now) (s .args .values .now) (s .args .arrivals .now) (s .args .kinds .now)
+    (s .args .meters .now)) (s .args .sent .now)
 
 -- what the call is to leave, and its records are few
 abbrev due : tie.Start → Called
-due s = calledOn (s .args .state) (store s) (s .args .text .now) (s .args .area .now)
+due s = calledOn (s .args .state) (lent s) (s .args .text .now) (s .args .area .now)
 
 few : (s : tie.Start) → Fewest (s .args .area .now) (due s)
-few s = called-few (s .args .state) (store s) (s .args .text .now) (s .args .area .now) (long s)
+few s = called-few (s .args .state) (lent s) (s .args .text .now) (s .args .area .now) (long s)
 
 -- what it leaves
 abbrev entered : tie.After-call → tie.Start
-entered d = d .before .before .before .before .before .before .before .before .before .before .before .before .before .before .before .before
+entered d = d .before .before .before .before .before .before .before .before .before .before .before .before .before .before .before .before .before .before
 
 abbrev made : tie.After-call → Called
 made d =
@@ -41,97 +42,78 @@ made d =
       answer = d .call .result .answer;
       records = d .call .result .records;
       state = d .call .result .state;
-      columns = columnsOf (d .call .last .1 .0) (d .call .last .1 .1 .0) (d .call .last .1 .1 .1 .0) (d .call .last .1 .1 .1 .1 .0) (d .call .last .1 .1 .1 .1 .1 .0) (d .call .last .1 .1 .1 .1 .1 .1 .0);
-      area = d .call .last .1 .1 .1 .1 .1 .1 .1 .1 .0;
+      lent =
+          lentOf (columnsOf (d .call .last .1 .0) (d .call .last .1 .1 .0) (d .call .last .1 .1 .1 .0) (d .call .last .1 .1 .1 .1 .0)
+          (d .call .last .1 .1 .1 .1 .1 .0) (d .call .last .1 .1 .1 .1 .1 .1 .0)) (d .call .last .1 .1 .1 .1 .1 .1 .1 .0);
+      area = d .call .last .1 .1 .1 .1 .1 .1 .1 .1 .1 .0;
     }
 
 left : (d : tie.After-call) → made d ≡ due (entered d)
 left d = d .call .ensures
-
-same-state : (d : tie.After-call) → made d .state ≡ due (entered d) .state
-same-state d = ap (λ (q : Called). q .state) (left d)
-
-same-columns : (d : tie.After-call) → made d .columns ≡ due (entered d) .columns
-same-columns d = ap (λ (q : Called). q .columns) (left d)
-
-same-area : (d : tie.After-call) → made d .area ≡ due (entered d) .area
-same-area d = ap (λ (q : Called). q .area) (left d)
-
--- behind the answer line
-abbrev called : tie.After-put-answer → tie.After-call
-called p = p .before .before .before .before .before .before .before .before .before .before .before .before .before .before .before .before .before
-
-abbrev answered : tie.After-struct-known → tie.After-put-answer
-answered k = k .before .before .before .before .before
-
-answer-fits : (k : tie.After-struct-known) → made (called (answered k)) .answer < 2 ^ 32
-answer-fits k =
-    let told = k .struct-known .given in
-    search needs
 
 -- ---- the needs
 
 call-requires : tie.Need-call-requires
 call-requires c κs = search needs
 
-put-answer-requires : tie.Need-put-answer-requires
-put-answer-requires c κs = omega (arith, entered (c .before .before .before .before .before .before .before .before .before .before .before .before .before .before .before .before) .pre)
-
-cast-put-records : tie.Need-cast-put-records
-cast-put-records c = search needs
-
-put-records-requires : tie.Need-put-records-requires
-put-records-requires c κs =
-    let p = answered c .put-answer in
-    let d = called (answered c) in
+put-reply-requires : tie.Need-put-reply-requires
+put-reply-requires c κs =
+    let d = c .before .before .before .before .before .before .before .before .before .before .before .before .before .before .before .before .before .before .before in
     let s = entered d in
-    records-room {made = made d} {q = due s} (left d) (s .args .area .now) (s .args .out .now) (p .last .0) (p .result) (few s)
-    (d .call .kept .1 .1 .1 .1 .1 .1 .1 .1 .0) (answer-fits c) (s .pre) (p .kept .0) (p .ensures .0)
+    let few = few s in
+    let same = ap (λ (q : Called). q .records) (left d) in
+    (s .pre, omega (arith, same, few .0), omega (arith, same, few .1, d .call .kept .1 .1 .1 .1 .1 .1 .1 .1 .1 .0))
+
+abbrev called : tie.After-slice-known16 → tie.After-call
+called c = c .before .before .before .before .before .before .before .before .before .before .before .before .before .before .before .before .before .before .before .before .before .before
 
 same-length : tie.Need-same-length
-same-length c = c .before .before .before .before .before .before .before .before .before .before .before .before .before .before .before .before .before .before .before .before .before .before .before .before .before .call .kept .1 .0
+same-length c = called c .call .kept .1 .0
 
 same-length-2 : tie.Need-same-length-2
-same-length-2 c = c .before .before .before .before .before .before .before .before .before .before .before .before .before .before .before .before .before .before .before .before .before .before .before .before .before .call .kept .1 .1 .0
+same-length-2 c = called c .call .kept .1 .1 .0
 
 same-length-3 : tie.Need-same-length-3
-same-length-3 c = c .before .before .before .before .before .before .before .before .before .before .before .before .before .before .before .before .before .before .before .before .before .before .before .before .before .call .kept .1 .1 .1 .0
+same-length-3 c = called c .call .kept .1 .1 .1 .0
 
 same-length-4 : tie.Need-same-length-4
-same-length-4 c = c .before .before .before .before .before .before .before .before .before .before .before .before .before .before .before .before .before .before .before .before .before .before .before .before .before .call .kept .1 .1 .1 .1 .0
+same-length-4 c = called c .call .kept .1 .1 .1 .1 .0
 
 same-length-5 : tie.Need-same-length-5
-same-length-5 c = c .before .before .before .before .before .before .before .before .before .before .before .before .before .before .before .before .before .before .before .before .before .before .before .before .before .call .kept .1 .1 .1 .1 .1 .0
+same-length-5 c = called c .call .kept .1 .1 .1 .1 .1 .0
 
 same-length-6 : tie.Need-same-length-6
-same-length-6 c = c .before .before .before .before .before .before .before .before .before .before .before .before .before .before .before .before .before .before .before .before .before .before .before .before .before .call .kept .1 .1 .1 .1 .1 .1 .0
+same-length-6 c = called c .call .kept .1 .1 .1 .1 .1 .1 .0
 
 same-length-7 : tie.Need-same-length-7
-same-length-7 c = c .before .before .before .before .before .before .before .before .before .before .before .before .before .before .before .before .before .before .before .before .before .before .before .before .before .call .kept .1 .1 .1 .1 .1 .1 .1 .1 .0
+same-length-7 c = called c .call .kept .1 .1 .1 .1 .1 .1 .1 .0
 
 same-length-8 : tie.Need-same-length-8
-same-length-8 c = c .before .before .put-records .kept .0 ∙ c .before .before .before .before .before .before .before .before .put-answer .kept .0
+same-length-8 c = called c .call .kept .1 .1 .1 .1 .1 .1 .1 .1 .1 .0
+
+same-length-9 : tie.Need-same-length-9
+same-length-9 c = c .before .before .put-reply .kept .0
 
 returns : tie.Need-returns
+unfolding replyText
 returns c =
-    let k = c .before .before .before in
-    let p = answered k .put-answer in
-    let r = c .before .before .put-records in
-    let d = called (answered k) in
+    let d = called c in
     let s = entered d in
-    let played =
-    reply-laid {made = made d} {q = due s} (left d) (s .args .out .now) (p .last .0) (r .last .0) (p .result) (r .result) (answer-fits k) (few s .0)
-    (λ i. omega (arith, c .before .before .before .before .before .before .before .before .before .before .before .before .slice-known13 .given i)) (s .pre) (p .ensures) (r .ensures) in
-    (same-state d, (same-columns d, (same-area d, played)))
+    let r = c .before .before .put-reply in
+    record {
+      state = ap (λ (q : Called). q .state) (left d);
+      lent = ap (λ (q : Called). q .lent) (left d);
+      area = ap (λ (q : Called). q .area) (left d);
+      used = r .ensures .0 ∙ ap (λ (q : Called). length (replyText q)) (left d);
+      text = r .ensures .1 ∙ ap (λ (q : Called). inFront (replyText q) (s .args .out .now)) (left d);
+    }
 
 pub play-line-spec : {M : Type 1} → statement M
 play-line-spec =
     tie.close
     (tie.spec
     call-requires
-    put-answer-requires
-    cast-put-records
-    put-records-requires
+    put-reply-requires
     same-length
     same-length-2
     same-length-3
@@ -140,4 +122,5 @@ play-line-spec =
     same-length-6
     same-length-7
     same-length-8
+    same-length-9
     returns)

@@ -1,5 +1,5 @@
 -- `refusals::refusal` meets its contract: the first half of the tests decides where one of them fails; else a step passes, and for every
--- other kind the second half decides, on the line that the call names. Assumes nothing.
+-- other kind the second half decides, on the line that the call names.
 use Prim.Native.Nat.{_-_, _<_}
 use mathlib.Core.Path.{_≡_, sym, _∙_, ap}
 use native.Mathlib.Omega.{arith}
@@ -23,10 +23,10 @@ call-refusal-requires c κs = search needs
 returns : tie.Need-returns
 unfolding view
 returns c =
-    λ st x e f g h room.
+    λ st x e g h room.
     let a = c .before .before .before .args in
     let early = c .before .call-refusal .ensures in
-    early ∙ answer-early (a .s) (view st x) (a .k) f (λ z. c .if1 .taken (early ∙ z))
+    early ∙ answer-early (a .s) (a .clock) (lineOf (view st x) (a .k)) (a .k) (kindOf (a .k .kind)) (λ z. c .if1 .taken (early ∙ z))
 
 is-step-requires : tie.Need-is-step-requires
 is-step-requires c κs = search needs
@@ -34,11 +34,12 @@ is-step-requires c κs = search needs
 returns-2 : tie.Need-returns-2
 unfolding view
 returns-2 c =
-    λ st x e f g h room.
+    λ st x e g h room.
     let a = c .before .before .before .before .before .args in
     let none = sym (c .before .before .before .call-refusal .ensures) ∙ c .before .before .if1 .left in
     let step = sym (c .before .is-step .ensures) ∙ c .if2 .taken in
-    sym (step-passes (lineOf (view st x) (a .k)) (a .k) (kindOf (a .k .kind)) step) ∙ answer-late (a .s) (view st x) (a .k) f none
+    let line = lineOf (view st x) (a .k) in
+    sym (step-passes line (a .k) (kindOf (a .k .kind)) step) ∙ answer-late (a .s) (a .clock) line (a .k) (kindOf (a .k .kind)) none
 
 cast-i : tie.Need-cast-i
 cast-i c = search needs
@@ -78,7 +79,7 @@ line-refusal-requires c κs =
 returns-3 : tie.Need-returns-3
 unfolding headOf noLine view lineOf
 returns-3 c =
-    λ st x e f g h room.
+    λ st x e g h room.
     let a = c .before .before .before .before .before .before .before .before .args in
     let pre = c .before .before .before .before .before .before .before .before .pre in
     let none = sym (c .before .before .before .before .before .before .call-refusal .ensures) ∙ c .before .before .before .before .before .if1 .left in
@@ -88,7 +89,7 @@ returns-3 c =
     let below : a .k .line - 1 < a .s .lines = omega arith in
     c .line-refusal .ensures (lineOf (view st x) (a .k))
     (viewed-line-stands x (a .s .lines) (a .t3) (a .k .line - 1) (pre .2) below (omega arith) room st (ap (λ (s : Settings). s .lines) e) g h) ∙
-    answer-late (a .s) (view st x) (a .k) f none
+    answer-late (a .s) (a .clock) (lineOf (view st x) (a .k)) (a .k) (kindOf (a .k .kind)) none
 
 pub refusal-spec : {M : Type 1} → statement M
 refusal-spec =

@@ -9,7 +9,7 @@ use Rattle.store.proofs.Pairs.{every-to}
 use Rattle.node.specs.declared.LineHead.{LineHead}
 use Rattle.node.specs.View.{places, view}
 use Rattle.node.proofs.Limits.{limits-hold}
-use Rattle.node.proofs.Shape.{HeadShape, inShape-facts}
+use Rattle.node.proofs.Shape.{HeadShape, state-facts}
 use Rattle.rules.proofs.InOrder.{withdraws, works-stable, ends-correction, works-tentative, idles}
 use Rattle.rules.proofs.rule_of.Statement.{statement}
 use Rattle.rules.proofs.rule_of.Tie as tie
@@ -19,7 +19,7 @@ is-stable-requires c κs =
     let b = c .before .before .before .before .before .before .before in
     let a = b .args in
     let x = columnsOf (a .ids .now) (a .times .now) (a .values .now) (a .arrivals .now) (a .kinds .now) (a .meters .now) in
-    limits-hold (a .state .settings) (inShape-facts (a .state) x (b .pre .1) .limits) .lines
+    limits-hold (a .state .settings) (state-facts (a .state) x (b .pre .1) .limits) .lines
 
 returns : tie.Need-returns
 unfolding view places
@@ -58,7 +58,7 @@ some-overdue-requires c κs =
     let b = c .before .before .before .before .before .before .before .before .before .before .before in
     let a = b .args in
     let x = columnsOf (a .ids .now) (a .times .now) (a .values .now) (a .arrivals .now) (a .kinds .now) (a .meters .now) in
-    let shape = inShape-facts (a .state) x (b .pre .1) in
+    let shape = state-facts (a .state) x (b .pre .1) in
     let limits = limits-hold (a .state .settings) (shape .limits) in
     let fits = room (places (a .state)) x (b .pre .0) in
     (limits .lines, omega (arith, limits .leastBucket), fits .times, fits .arrivals, every-to (take (a .state .settings .lines) (a .state .heads)) (λ (h : LineHead) (k : HeadShape h). k .kept) (shape .heads))

@@ -10,7 +10,7 @@ use mir.Facts.{toZ-ofZ}
 use Rattle.decimal.specs.declared.Number.the-variants as Number
 use Rattle.decimal.specs.declared.Integer.the-variants as Integer
 use Rattle.fields.specs.Field.{numberField, integerField, withNumber, withInteger, first, later}
-use Rattle.fields.specs.Keys.{linesKey, bucketKey, windowKey, holdKey, lowKey, highKey}
+use Rattle.fields.specs.Keys.{linesKey, bucketKey, windowKey, holdKey, lowKey, highKey, displaysKey}
 use Rattle.fields.proofs.Fields.{integer-field-sound, end-inside}
 use Rattle.settings.specs.ReadLine.{settingsAt}
 use Rattle.settings.proofs.settings_at.Statement.{statement}
@@ -164,6 +164,32 @@ low c = c .before .before .before .before .before
 high-read : (c : tie.After-high) → integerField (later highKey) (start (lines (bucket (window (hold (low c))))) .args .s .now) (low c .low .given .0 .1 .0) ≡ Integer.Value (c .high .given .0 .0) (c .high .given .0 .1 .0)
 high-read c = sym (c .before .before .integer-field2 .ensures) ∙ c .high .given .1
 
+slice-aggregate-number-field-5 : tie.Need-slice-aggregate-number-field-5
+slice-aggregate-number-field-5 c = refl
+
+number-field-requires-5 : tie.Need-number-field-requires-5
+number-field-requires-5 c κs = tt
+
+enum-known-displays : tie.Need-enum-known-displays
+enum-known-displays c = c .match7 .keys1
+
+enum-told-7 : tie.Need-enum-told-7
+enum-told-7 c = c .match7 .keys2
+
+returns-7 : tie.Need-returns-7
+unfolding settingsAt withNumber withInteger
+returns-7 c =
+    let h = c .before .before .before .before .before in
+    let l = low h in
+    rw (lines-read (lines (bucket (window (hold l)))), bucket-read (bucket (window (hold l))), window-read (window (hold l)), hold-read (hold l), low-read l, high-read h, sym (c .before .before .number-field5 .ensures) ∙ c .enum-told7 .given .1)
+
+-- the displays, once they are read, and the place that they go back to
+abbrev high : tie.After-displays → tie.After-high
+high c = c .before .before .before .before .before
+
+displays-read : (c : tie.After-displays) → numberField (later displaysKey) (2 ^ 32 - 1) (start (lines (bucket (window (hold (low (high c)))))) .args .s .now) (high c .high .given .0 .1 .0) ≡ Number.Value (c .displays .given .0 .0) (c .displays .given .0 .1 .0)
+displays-read c = sym (c .before .before .number-field5 .ensures) ∙ c .displays .given .1
+
 ends-line-requires : tie.Need-ends-line-requires
 ends-line-requires c κs = tt
 
@@ -171,17 +197,19 @@ ends-line-requires c κs = tt
 next-fits : (c : tie.Start) (e : ℕ) → e < length (c .args .s .now) → Fits w64 (e + 1)
 next-fits c e h = omega (arith, c .good)
 
-add-t42 : tie.Need-add-t42
-add-t42 c =
-    let h = c .before .before .before in
+add-t48 : tie.Need-add-t48
+add-t48 c =
+    let d = c .before .before .before in
+    let h = high d in
     let s = start (lines (bucket (window (hold (low h))))) in
-    let place = h .high .given .0 .1 .0 in
+    let place = d .displays .given .0 .1 .0 in
     next-fits s place (end-inside (s .args .s .now) place (sym (c .before .ends-line .ensures) ∙ c .if1 .taken))
 
-returns-7 : tie.Need-returns-7
+returns-8 : tie.Need-returns-8
 unfolding settingsAt withNumber withInteger
-returns-7 c =
-    let h = c .before .before .before in
+returns-8 c =
+    let d = c .before .before .before in
+    let h = high d in
     let l = low h in
     let b = bucket (window (hold l)) in
     let s = start (lines b) .args .s .now in
@@ -194,15 +222,17 @@ returns-7 c =
       hold-read (hold l),
       low-read l,
       high-read h,
+      displays-read d,
       sym (c .before .ends-line .ensures) ∙ c .if1 .taken,
       toZ-ofZ low-fits,
       toZ-ofZ high-fits,
     )
 
-returns-8 : tie.Need-returns-8
+returns-9 : tie.Need-returns-9
 unfolding settingsAt withNumber withInteger
-returns-8 c =
-    let h = c .before .before .before in
+returns-9 c =
+    let d = c .before .before .before in
+    let h = high d in
     let l = low h in
     let b = bucket (window (hold l)) in
     rw (
@@ -212,6 +242,7 @@ returns-8 c =
       hold-read (hold l),
       low-read l,
       high-read h,
+      displays-read d,
       sym (c .before .ends-line .ensures) ∙ c .if1 .left,
     )
 
@@ -249,7 +280,12 @@ settings-at-spec =
     enum-known-high
     enum-told-6
     returns-6
-    ends-line-requires
-    add-t42
+    slice-aggregate-number-field-5
+    number-field-requires-5
+    enum-known-displays
+    enum-told-7
     returns-7
-    returns-8)
+    ends-line-requires
+    add-t48
+    returns-8
+    returns-9)

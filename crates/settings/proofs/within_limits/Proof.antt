@@ -10,8 +10,8 @@ use Rattle.settings.proofs.within_limits.Tie as tie
 returns : tie.Need-returns
 unfolding withinLimits
 returns c =
-    let s = c .before .before .before .before .before .before .before .before .before .args .s in
-    let told = c .struct-told .given in
+    let s = c .before .before .before .before .before .before .before .before .before .before .before .args .s in
+    let told = c .before .before .struct-told .given in
     let low : SFits w32 (s .low) = search needs in
     let high : SFits w32 (s .high) = search needs in
     rw (toZ-ofZ low, toZ-ofZ high)

@@ -18,7 +18,7 @@ use Rattle.operator.proofs.FromPlace.{length-mapped}
 use Rattle.protocol.specs.Rules.{worked}
 use Rattle.node.specs.View.{view}
 use Rattle.node.proofs.Limits.{limits-hold}
-use Rattle.node.proofs.Shape.{inShape-facts}
+use Rattle.node.proofs.Shape.{state-facts}
 use Rattle.node.proofs.Times.{start-fits, stable-start-fits}
 use Rattle.work.proofs.Given.{Given, work-given}
 use Rattle.stable.proofs.Boundary.{no-boundary, with-boundary, one-more, record-behind}
@@ -46,7 +46,7 @@ work-requires c κs =
     let start = c .before .before .before .before .before .before .before .before .before in
     let a = start .args in
     let x : Columns = columnsOf (a .ids .now) (a .times .now) (a .values .now) (a .arrivals .now) (a .kinds .now) (a .meters .now) in
-    let window : 1 ≤ a .state .settings .window = limits-hold (a .state .settings) (inShape-facts (a .state) x (start .pre .1) .limits) .someWindow in
+    let window : 1 ≤ a .state .settings .window = limits-hold (a .state .settings) (state-facts (a .state) x (start .pre .1) .limits) .someWindow in
     let begins = start-fits (a .state .settings .bucket) (a .state .settings .window) (a .state .c) window (stable-start-fits (a .state .settings .bucket) (a .state .c) (start .pre .3)) in
     (start .pre .0, start .pre .1, start .pre .2, begins)
 
@@ -58,7 +58,7 @@ closes-window-requires c κs =
     let start = c .before .before .before .before .before .before .before .before .before .before .before .before .before .before in
     let a = start .args in
     let x : Columns = columnsOf (a .ids .now) (a .times .now) (a .values .now) (a .arrivals .now) (a .kinds .now) (a .meters .now) in
-    omega (arith, limits-hold (a .state .settings) (inShape-facts (a .state) x (start .pre .1) .limits) .someWindow)
+    omega (arith, limits-hold (a .state .settings) (state-facts (a .state) x (start .pre .1) .limits) .someWindow)
 
 cast-t21 : tie.Need-cast-t21
 cast-t21 c = let g = results-given (c .before .before) in omega arith

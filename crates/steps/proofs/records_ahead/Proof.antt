@@ -11,7 +11,7 @@ use Rattle.protocol.specs.declared.Rule.the-variants as Rule
 use Rattle.protocol.specs.Rules.{act}
 use Rattle.node.specs.View.{view}
 use Rattle.node.proofs.Limits.{limits-hold}
-use Rattle.node.proofs.Shape.{inShape-facts}
+use Rattle.node.proofs.Shape.{state-facts}
 use Rattle.work.proofs.Given.{few-results}
 use Rattle.steps.proofs.ByRule.{Found, count-by-rule, stable-count-closing, stable-count}
 use Rattle.steps.proofs.records_ahead.Statement.{statement}
@@ -38,7 +38,7 @@ closes-window-requires c κs =
     let start = c .before .before .before .before .before .before .before .before .before .before in
     let a = start .args in
     let x : Columns = columnsOf (a .ids .now) (a .times .now) (a .values .now) (a .arrivals .now) (a .kinds .now) (a .meters .now) in
-    omega (arith, limits-hold (a .state .settings) (inShape-facts (a .state) x (start .pre .1) .limits) .someWindow)
+    omega (arith, limits-hold (a .state .settings) (state-facts (a .state) x (start .pre .1) .limits) .someWindow)
 
 add-result : tie.Need-add-result
 add-result c =

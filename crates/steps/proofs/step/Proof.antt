@@ -1,10 +1,9 @@
 -- `steps::step` meets its contract: what the rule that applies does, by its function. Assumes nothing.
 use Prim.Native.Nat.{_≤_}
-use mathlib.Core.Path.{_≡_, refl}
+use mathlib.Core.Path.{refl}
 use native.Mathlib.Omega.{arith}
 use borrow.Author.Needs.{needs}
 use lib.ListN.{length}
-use Rattle.settings.specs.Limits.{maxLines}
 use Rattle.store.specs.Lists.{Every}
 use Rattle.store.specs.Columns.{Columns, columnsOf}
 use Rattle.operator.proofs.FromPlace.{length-mapped}
@@ -12,8 +11,8 @@ use Rattle.protocol.specs.declared.Rule.{Rule}
 use Rattle.protocol.specs.declared.Rule.the-variants as Rule
 use Rattle.node.proofs.LineHead.{the-field as head-field}
 use Rattle.node.proofs.Limits.{limits-hold}
-use Rattle.node.proofs.Shape.{InShape, inShape-facts}
-use Rattle.node.proofs.Calls.{HostPassed, host-passed}
+use Rattle.node.proofs.Shape.{StateShape, state-facts}
+use Rattle.corrections.proofs.LinesStay.{Kept}
 use Rattle.steps.proofs.ByRule.{Found, idle-acts, by-rule}
 use Rattle.steps.proofs.Within.{BoundaryWithin, every-owned, stable-within, tentative-within}
 use Rattle.steps.proofs.step.Statement.{statement}
@@ -26,19 +25,23 @@ abbrev store : tie.Start → Columns
 store s =
     columnsOf (s .args .ids .now) (s .args .times .now) (s .args .values .now) (s .args .arrivals .now) (s .args .kinds .now) (s .args .meters .now)
 
--- the host's tests have passed
-host : (s : tie.Start) → HostPassed (s .args .state) (store s) (s .args .area .now)
-host s = host-passed (s .args .state) (store s) (s .args .area .now) (s .pre)
+shape : (s : tie.Start) → StateShape (s .args .state) (store s)
+shape s = state-facts (s .args .state) (store s) (s .pre .1)
 
-shape : (s : tie.Start) → InShape (s .args .state) (store s)
-shape s = inShape-facts (s .args .state) (store s) (host s .shape)
-
--- the state's array of heads has its length
-all-heads : (s : tie.Start) → length (s .args .state .heads) ≡ maxLines
-all-heads s = let owned = s .good .0 .1 .1 .1 .1 .0 in search (needs, length-mapped)
+-- the state has a head for each line, and a last id for each display, that there can be
+kept : (s : tie.Start) → Kept (s .args .state) (store s)
+kept s =
+    let heads = s .good .0 .1 .1 .1 .1 .0 in
+    let displays = s .good .0 .1 .1 .1 .1 .1 .1 .1 .1 in
+    record {
+      heads = search (needs, length-mapped, heads);
+      displays = search (needs, length-mapped, displays);
+      room = s .pre .0;
+      shape = s .pre .1;
+    }
 
 enough-heads : (s : tie.Start) → s .args .state .settings .lines ≤ length (s .args .state .heads)
-enough-heads s = omega (arith, all-heads s, limits-hold (s .args .state .settings) (shape s .limits) .lines)
+enough-heads s = omega (arith, kept s .heads, limits-hold (s .args .state .settings) (shape s .limits) .lines)
 
 all-boundaries : (s : tie.Start) → Every BoundaryWithin (s .args .state .heads)
 all-boundaries s =
@@ -89,7 +92,7 @@ working-tentative d = d .before .before .before .before .before .before .before 
 -- ---- the needs
 
 rule-of-requires : tie.Need-rule-of-requires
-rule-of-requires c κs = let h = host (c .before .before .before .before .before .before .before .before .before .before .before .before) in (h .room, h .shape)
+rule-of-requires c κs = let s = c .before .before .before .before .before .before .before .before .before .before .before .before in (s .pre .0, s .pre .1)
 
 enum-told : tie.Need-enum-told
 enum-told c = search needs
@@ -97,7 +100,7 @@ enum-told c = search needs
 withdraw-requires : tie.Need-withdraw-requires
 withdraw-requires c κs =
     let s = start (c .before .before .before) in
-    (omega (arith, host s .bytes), omega (arith, shape s .numbers .stable, shape s .buckets .order, shape s .buckets .last))
+    (omega (arith, s .pre .2), omega (arith, shape s .numbers .stable, shape s .buckets .order, shape s .buckets .last))
 
 enum-told-2 : tie.Need-enum-told-2
 enum-told-2 c = search needs
@@ -106,14 +109,13 @@ work-stable-requires : tie.Need-work-stable-requires
 work-stable-requires c κs =
     let t = c .before .before .before .before .before .before .before in
     let s = start (t .before .before) in
-    let h = host s in
-    (h .room, h .shape, h .bytes, stable-within (s .args .state) (store s) (s .args .tick) (enough-heads s) (shape s) (all-boundaries s) (is-work-stable t))
+    (s .pre .0, s .pre .1, s .pre .2, stable-within (s .args .state) (store s) (s .args .tick) (enough-heads s) (shape s) (all-boundaries s) (is-work-stable t))
 
 enum-told-3 : tie.Need-enum-told-3
 enum-told-3 c = search needs
 
 end-correction-requires : tie.Need-end-correction-requires
-end-correction-requires c κs = omega (arith, host (start (c .before .before .before)) .bytes)
+end-correction-requires c κs = omega (arith, start (c .before .before .before) .pre .2)
 
 enum-told-4 : tie.Need-enum-told-4
 enum-told-4 c = search needs
@@ -123,8 +125,7 @@ work-tentative-requires c κs =
     let t = c .before .before .before .before .before .before .before in
     let f = t .before .before in
     let s = start f in
-    let h = host s in
-    (h .room, h .shape, h .bytes, tentative-within (s .args .state) (store s) (s .args .tick) (enough-heads s) (shape s) (λ i. f .before .before .before .before .before .before .before .before .before .before .before .slice-known2 .given i .fits) (is-work-tentative t))
+    (s .pre .0, s .pre .1, s .pre .2, tentative-within (s .args .state) (store s) (s .args .tick) (enough-heads s) (shape s) (λ i. f .before .before .before .before .before .before .before .before .before .before .before .slice-known2 .given i .fits) (is-work-tentative t))
 
 enum-told-5 : tie.Need-enum-told-5
 enum-told-5 c = search needs
@@ -156,7 +157,7 @@ returns c =
     let t = withdrawing d in
     let s = start (t .before .before) in
     by-rule (s .args .tick) Rule.Withdraw (s .args .state) (store s) (s .args .area .now) _ _ _ _ (is-withdraw t)
-    (d .withdraw .ensures (store s) (host s .room) (host s .shape))
+    (d .withdraw .ensures (store s) (s .pre .0) (s .pre .1))
 
 -- bucket c worked, and the columns handed back
 abbrev worked-stable : tie.After-slice-known13 → tie.After-work-stable
@@ -218,7 +219,7 @@ returns-3 c =
     let t = ending d in
     let s = start (t .before .before) in
     by-rule (s .args .tick) Rule.EndCorrection (s .args .state) (store s) (s .args .area .now) _ _ _ _ (is-end-correction t)
-    (d .end-correction .ensures (store s) (host s .room) (host s .shape))
+    (d .end-correction .ensures (store s) (s .pre .0) (s .pre .1))
 
 same-length-22 : tie.Need-same-length-22
 same-length-22 c = refl
@@ -271,7 +272,7 @@ returns-5 : tie.Need-returns-5
 returns-5 c =
     let s = start (c .before .before) in
     by-rule (s .args .tick) Rule.Idle (s .args .state) (store s) (s .args .area .now) _ _ _ _ (is-idle c)
-    (idle-acts (s .args .state) (store s) (all-heads s) (host s .room) (host s .shape) (s .args .area .now))
+    (idle-acts (s .args .state) (store s) (kept s) (s .args .area .now))
 
 pub step-spec : {M : Type 1} → statement M
 step-spec =

@@ -5,7 +5,7 @@ use native.Mathlib.Omega.{arith}
 use borrow.Author.Needs.{needs}
 use Rattle.store.specs.Columns.{Columns, columnsOf}
 use Rattle.node.proofs.Limits.{limits-hold}
-use Rattle.node.proofs.Shape.{inShape-facts, operator-within, InShape}
+use Rattle.node.proofs.Shape.{state-facts, operator-within, StateShape}
 use Rattle.work.proofs.BucketReadings.{counts-asked, found, found-few, count-few, found-back, found-workable, found-passed}
 use Rattle.work.proofs.added.Statement.{statement}
 use Rattle.work.proofs.added.Tie as tie
@@ -33,7 +33,7 @@ part-bucket-places-end c =
     let start = c .before .before .before .before .before .before .before .before .before .before .before .before in
     let a = start .args in
     let x : Columns = columnsOf (a .ids .now) (a .times .now) (a .values .now) (a .arrivals .now) (a .kinds .now) (a .meters .now) in
-    let few : a .state .settings .lines ≤ 8 = limits-hold (a .state .settings) (inShape-facts (a .state) x (start .pre .1) .limits) .lines in
+    let few : a .state .settings .lines ≤ 8 = limits-hold (a .state .settings) (state-facts (a .state) x (start .pre .1) .limits) .lines in
     search needs
 
 bucket-places-requires : tie.Need-bucket-places-requires
@@ -42,7 +42,7 @@ bucket-places-requires c κs =
     let a = start .args in
     let x : Columns = columnsOf (a .ids .now) (a .times .now) (a .values .now) (a .arrivals .now) (a .kinds .now) (a .meters .now) in
     let kept = c .before .before .before .before .before .kept-of in
-    counts-asked (a .state) x (start .pre .0) (inShape-facts (a .state) x (start .pre .1)) (a .j) (kept .result) (kept .ensures)
+    counts-asked (a .state) x (start .pre .0) (state-facts (a .state) x (start .pre .1)) (a .j) (kept .result) (kept .ensures)
 
 sub-add-places : tie.Need-sub-add-places
 sub-add-places c = search needs
@@ -57,7 +57,7 @@ part-add-places-end c =
     let x : Columns = columnsOf (a .ids .now) (a .times .now) (a .values .now) (a .arrivals .now) (a .kinds .now) (a .meters .now) in
     let kept = c .before .before .before .before .before .before .before .before .before .kept-of in
     let chosen = c .before .before .before .bucket-places in
-    let few = count-few (a .state) x (start .pre .0) (inShape-facts (a .state) x (start .pre .1)) (a .j) (kept .result) (chosen .result) (kept .ensures) (chosen .ensures .0) in
+    let few = count-few (a .state) x (start .pre .0) (state-facts (a .state) x (start .pre .1)) (a .j) (kept .result) (chosen .result) (kept .ensures) (chosen .ensures .0) in
     search needs
 
 add-places-requires : tie.Need-add-places-requires
@@ -67,7 +67,7 @@ add-places-requires c κs =
     let x : Columns = columnsOf (a .ids .now) (a .times .now) (a .values .now) (a .arrivals .now) (a .kinds .now) (a .meters .now) in
     let kept = c .before .before .before .before .before .before .before .before .before .before .kept-of in
     let chosen = c .before .before .before .before .bucket-places in
-    let shape : InShape (a .state) x = inShape-facts (a .state) x (start .pre .1) in
+    let shape : StateShape (a .state) x = state-facts (a .state) x (start .pre .1) in
     let few = found-few (a .state) x (start .pre .0) shape (a .j) in
     rw (found-back (a .state) x (start .pre .0) shape (a .j) (kept .result) (chosen .result) (kept .ensures) (chosen .ensures .0) _ (chosen .ensures .1))
     (omega arith, found-workable (a .state) x (start .pre .0) shape (a .j), operator-within (a .state) x (start .pre .1))
@@ -79,7 +79,7 @@ returns c =
     let x : Columns = columnsOf (a .ids .now) (a .times .now) (a .values .now) (a .arrivals .now) (a .kinds .now) (a .meters .now) in
     let kept = c .before .before .before .before .before .before .before .before .before .before .before .before .kept-of in
     let chosen = c .before .before .before .before .before .before .bucket-places in
-    let shape : InShape (a .state) x = inShape-facts (a .state) x (start .pre .1) in
+    let shape : StateShape (a .state) x = state-facts (a .state) x (start .pre .1) in
     let passed = c .before .add-places .ensures in (
       found-passed (a .state) x (start .pre .0) shape (a .j)
           (rw (found-back (a .state) x (start .pre .0) shape (a .j) (kept .result) (chosen .result) (kept .ensures) (chosen .ensures .0) _ (chosen .ensures .1)) at

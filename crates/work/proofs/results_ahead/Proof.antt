@@ -10,7 +10,7 @@ use Rattle.operator.specs.Meters.{meterCount}
 use Rattle.operator.specs.Work.{Worked}
 use Rattle.operator.proofs.FromPlace.{length-mapped}
 use Rattle.node.proofs.Limits.{limits-hold}
-use Rattle.node.proofs.Shape.{inShape-facts}
+use Rattle.node.proofs.Shape.{state-facts}
 use Rattle.work.proofs.Closing.{window-closed, nothing-given, few-results}
 use Rattle.work.proofs.results_ahead.Statement.{statement}
 use Rattle.work.proofs.results_ahead.Tie as tie
@@ -20,7 +20,7 @@ closes-window-requires c κs =
     let start = c .before .before .before .before .before .before in
     let a = start .args in
     let x : Columns = columnsOf (a .ids .now) (a .times .now) (a .values .now) (a .arrivals .now) (a .kinds .now) (a .meters .now) in
-    omega (arith, limits-hold (a .state .settings) (inShape-facts (a .state) x (start .pre .1) .limits) .someWindow)
+    omega (arith, limits-hold (a .state .settings) (state-facts (a .state) x (start .pre .1) .limits) .someWindow)
 
 returns : tie.Need-returns
 returns c kind =

@@ -4,7 +4,7 @@ use native.Mathlib.Omega.{arith}
 use borrow.Author.Needs.{needs}
 use Rattle.store.specs.Columns.{Columns, columnsOf}
 use Rattle.node.proofs.Limits.{limits-hold}
-use Rattle.node.proofs.Shape.{inShape-facts}
+use Rattle.node.proofs.Shape.{state-facts}
 use Rattle.work.proofs.Closing.{number-room, window-closed, window-open, area-untouched}
 use Rattle.work.proofs.work.Statement.{statement}
 use Rattle.work.proofs.work.Tie as tie
@@ -17,7 +17,7 @@ closes-window-requires c κs =
     let start = c .before .before .before .before .before .before .before .before in
     let a = start .args in
     let x : Columns = columnsOf (a .ids .now) (a .times .now) (a .values .now) (a .arrivals .now) (a .kinds .now) (a .meters .now) in
-    omega (arith, limits-hold (a .state .settings) (inShape-facts (a .state) x (start .pre .1) .limits) .someWindow)
+    omega (arith, limits-hold (a .state .settings) (state-facts (a .state) x (start .pre .1) .limits) .someWindow)
 
 close-requires : tie.Need-close-requires
 close-requires c κs =
@@ -25,7 +25,7 @@ close-requires c κs =
     let a = start .args in
     let x : Columns = columnsOf (a .ids .now) (a .times .now) (a .values .now) (a .arrivals .now) (a .kinds .now) (a .meters .now) in
     let next = c .before .before .before .added in
-    (omega (arith, start .pre .2), start .pre .3, number-room (a .state) x (a .j) (next .result) (next .ensures .0) (inShape-facts (a .state) x (start .pre .1)), next .ensures .1)
+    (omega (arith, start .pre .2), start .pre .3, number-room (a .state) x (a .j) (next .result) (next .ensures .0) (state-facts (a .state) x (start .pre .1)), next .ensures .1)
 
 same-length : tie.Need-same-length
 same-length c = search needs

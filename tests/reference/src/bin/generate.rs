@@ -1,20 +1,22 @@
-//! Writes a generated journal to standard output: generate KIND SEED LINES.
+//! Writes a generated input to standard output: generate KIND SEED LINES [PROGRAM], for `merge` or
+//! for the program named.
 
 use std::io::{self, BufWriter, Write};
 use std::process::ExitCode;
 
-use reference::generate::{write_journal, Kind};
-
-const USAGE: &str = "usage: generate day|nasty|malformed|crowded SEED LINES";
+use reference::generate::{write_input, Kind, KINDS};
+use reference::playback::{Mode, MODES};
 
 fn main() -> ExitCode {
     let arguments: Vec<String> = std::env::args().skip(1).collect();
-    let Some((kind, seed, lines)) = read(&arguments) else {
-        eprintln!("{USAGE}");
+    let Some((kind, seed, lines, mode)) = read(&arguments) else {
+        let (kinds, modes) = (KINDS.map(|kind| kind.0), MODES.map(|mode| mode.0));
+        let (kinds, modes) = (kinds.join("|"), modes.join("|"));
+        eprintln!("usage: generate {kinds} SEED LINES [{modes}]");
         return ExitCode::from(2);
     };
     let mut output = BufWriter::new(io::stdout().lock());
-    let written = write_journal(kind, seed, lines, &mut output).and_then(|()| output.flush());
+    let written = write_input(mode, kind, seed, lines, &mut output).and_then(|()| output.flush());
     match written {
         Ok(()) => ExitCode::SUCCESS,
         Err(error) => {
@@ -24,13 +26,13 @@ fn main() -> ExitCode {
     }
 }
 
-fn read(arguments: &[String]) -> Option<(Kind, u64, u64)> {
-    let [kind, seed, lines] = arguments else {
-        return None;
+fn read(arguments: &[String]) -> Option<(Kind, u64, u64, Mode)> {
+    let (kind, seed, lines, mode) = match arguments {
+        [kind, seed, lines] => (kind, seed, lines, "merge"),
+        [kind, seed, lines, mode] => (kind, seed, lines, mode.as_str()),
+        _ => return None,
     };
-    Some((
-        Kind::of_name(kind)?,
-        seed.parse().ok()?,
-        lines.parse().ok()?,
-    ))
+    let (_, kind) = KINDS.iter().find(|(name, _)| name == kind)?;
+    let (_, mode) = MODES.iter().find(|(name, _)| *name == mode)?;
+    Some((*kind, seed.parse().ok()?, lines.parse().ok()?, *mode))
 }

@@ -44,7 +44,7 @@ pub(super) fn of_box(number: usize, question: &BoxQuestion) -> String {
     let lent = format!("box-{number}");
     let columns = question.columns.literal();
     let body = format!(
-        "record {{ state = {}; columns = {columns} }}",
+        "record {{ state = {}; lent = lentOf ({columns}) [] }}",
         value::state(state)
     );
     text += &definition(&lent, "Box", &body);

@@ -36,7 +36,7 @@ pub(super) fn boxes(random: &mut Random, cases: usize, tally: &mut Tally) -> Vec
     let mut questions = Vec::new();
     while questions.len() < cases {
         let host = host_state(random);
-        if host.store.len() > 3 * SHARE && !random.once_in(8) {
+        if host.lent.store.len() > 3 * SHARE && !random.once_in(8) {
             continue;
         }
         let question = BoxQuestion::ask(random, host);
@@ -55,13 +55,13 @@ pub(super) fn boxes(random: &mut Random, cases: usize, tally: &mut Tally) -> Vec
 
 impl BoxQuestion {
     fn ask(random: &mut Random, host: Host) -> Self {
-        let mut columns = Columns::of_store(&host.store);
+        let mut columns = Columns::of_store(&host.lent.store);
         if random.once_in(4) {
             columns.lengthen(random);
         }
         let meters: Vec<u8> = (0..ASKED).map(|_| some_meter(random, &host)).collect();
         let open = |&meter: &u8| (meter, open_heat(&host.state, meter));
-        let kept = |&meter: &u8| (meter, kept_heat(&host.state, &host.store, meter));
+        let kept = |&meter: &u8| (meter, kept_heat(&host.state, &host.lent.store, meter));
         BoxQuestion {
             open: meters.iter().map(open).collect(),
             kept: meters.iter().map(kept).collect(),
@@ -73,11 +73,11 @@ impl BoxQuestion {
 
 /// The meter of some place in the store, one that the checkpoint holds something of, or any.
 fn some_meter(random: &mut Random, host: &Host) -> u8 {
-    let place = random.below(host.store.len() as u64) as usize;
+    let place = random.below(host.lent.store.len() as u64) as usize;
     let any = random.bits() as u8 % METERS as u8;
     let mut others = (any..METERS as u8).chain(0..any);
     let held = others.find(|&meter| open_heat(&host.state, meter).count > 0);
-    let read = host.store[place].meter % METERS as u8;
+    let read = host.lent.store[place].meter % METERS as u8;
     random.pick(&[read, read, held.unwrap_or(any), any])
 }
 

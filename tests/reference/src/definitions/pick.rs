@@ -1,14 +1,18 @@
-//! Which questions are asked: host-made calls of every sort, stretches of journals, openings.
+//! Which questions are asked: host-made calls of every sort, stretches of journals with displays' calls
+//! among them, openings.
 
 use super::columns::Columns;
-use super::question::{HostQuestion, NodeQuestion};
-use super::tally::Tally;
+use super::question::{HostQuestion, Loan, NodeQuestion};
+use super::tally::{Tally, DISPLAY_SORTS, JOURNAL_SORTS};
 use super::texts::settings_text;
-use crate::generate::{fitting_call, host_case, host_state, journal, spoil_call};
-use crate::generate::{HostCase, Kind, Random};
-use crate::node::{bucket_of, open, Reading, State, Store, LINES, SHARE};
-use crate::record::AREA_BYTES;
-use crate::text::{next_line, read_call, read_settings, Call, STEP};
+use crate::generate::{aimed_display_call, fitting_call, host_case, host_state, input_for};
+use crate::generate::{spoil_call, Host, HostCase, Kind, Random};
+use crate::node::{bucket_of, make, open, Input, Lent, Reading, State, Store};
+use crate::node::{LINES, SENT_BYTES, SHARE};
+use crate::playback::Mode;
+use crate::record::{AREA_BYTES, RECORD_BYTES};
+use crate::refusal::Refusal;
+use crate::text::{next_line, read_call, read_display_call, read_settings, Call, Wish, STEP};
 
 /// The readings of one bucket that a question has at most; sorting more takes antt long.
 const FEW: usize = 100;
@@ -38,7 +42,33 @@ fn is_heavy(random: &mut Random, state: &State, store: &Store, call: Option<Call
     call.is_some_and(|call| call.kind == STEP) && work_load(state, store) > most
 }
 
-/// Host-made calls, so many of them, no sort far above the others.
+/// A host-made call, its columns now and then of lengths of their own; none, but for once in a while,
+/// where it would take antt long.
+fn host_question(random: &mut Random, case: HostCase) -> Option<HostQuestion> {
+    let Host { state, lent } = case.host;
+    let broad = lent.store.len() > 3 * SHARE && !random.once_in(8);
+    let call = read_call(&case.text).filter(|_| case.display.is_none());
+    if broad || is_heavy(random, &state, &lent.store, call) {
+        return None;
+    }
+    let mut columns = Columns::of_store(&lent.store);
+    if random.once_in(4) {
+        columns.lengthen(random);
+    }
+    let due = state.settings.lines as usize * SHARE;
+    if random.once_in(30) && (1..=columns.length()).contains(&due) {
+        columns.cut_one(random, due - 1);
+    }
+    let loan = Loan {
+        state,
+        columns,
+        sent: lent.sent,
+        area: case.area,
+    };
+    Some(HostQuestion::of_call(loan, case.text, case.display))
+}
+
+/// Host-made journal calls, so many of them, no sort far above the others.
 pub(super) fn host_calls(
     random: &mut Random,
     count: usize,
@@ -46,25 +76,34 @@ pub(super) fn host_calls(
 ) -> Vec<HostQuestion> {
     let mut questions = Vec::new();
     while questions.len() < count {
-        let HostCase {
-            host, text, area, ..
-        } = host_case(random);
-        let broad = host.store.len() > 3 * SHARE && !random.once_in(8);
-        if broad || is_heavy(random, &host.state, &host.store, read_call(&text)) {
+        let case = host_case(random);
+        if case.display.is_some() {
             continue;
         }
-        let mut columns = Columns::of_store(&host.store);
-        if random.once_in(4) {
-            columns.lengthen(random);
+        let question = host_question(random, case);
+        questions.extend(question.filter(|asked| tally.takes(asked.sort, count, JOURNAL_SORTS)));
+    }
+    questions
+}
+
+/// Host-made calls of displays of one kind, likewise.
+pub(super) fn display_calls(
+    random: &mut Random,
+    wish: Wish,
+    count: usize,
+    tally: &mut Tally,
+) -> Vec<HostQuestion> {
+    let mut questions = Vec::new();
+    while questions.len() < count {
+        let mut case = host_case(random);
+        let aimed = aimed_display_call(random, &case.host.state);
+        let call = case.display.unwrap_or(aimed);
+        if call.wish != wish {
+            continue;
         }
-        let due = host.state.settings.lines as usize * SHARE;
-        if random.once_in(30) && (1..=columns.length()).contains(&due) {
-            columns.cut_one(random, due - 1);
-        }
-        let question = HostQuestion::of_call(host.state, columns, text, area);
-        if tally.takes(question.sort, count) {
-            questions.push(question);
-        }
+        case.display = Some(call);
+        let question = host_question(random, case);
+        questions.extend(question.filter(|asked| tally.takes(asked.sort, count, DISPLAY_SORTS)));
     }
     questions
 }
@@ -81,13 +120,17 @@ fn journal_lines(bytes: &[u8]) -> Vec<&[u8]> {
     lines
 }
 
-/// A journal of one of the kinds that opens, with the state that its opening leaves.
-fn some_journal(random: &mut Random, calls: u64, lines: u32) -> (State, Vec<u8>) {
+/// An input of one of these kinds that opens, with the state that its opening leaves.
+fn some_input(
+    random: &mut Random,
+    mode: Mode,
+    kinds: &[Kind],
+    calls: u64,
+    lines: u32,
+) -> (State, Vec<u8>) {
     loop {
-        let kind = random.pick(&[Kind::Day, Kind::Nasty, Kind::Nasty, Kind::Malformed]);
-        let bytes = journal(kind, random.bits(), calls);
-        let mut store = vec![Reading::ZERO; LINES * SHARE];
-        match open(next_line(&bytes), &mut store) {
+        let bytes = input_for(mode, random.pick(kinds), random.bits(), calls);
+        match open(next_line(&bytes), &mut Lent::zeroed()) {
             Ok(state) if state.settings.lines <= lines => return (state, bytes),
             _ => {}
         }
@@ -96,26 +139,71 @@ fn some_journal(random: &mut Random, calls: u64, lines: u32) -> (State, Vec<u8>)
 
 /// The calls of one journal that are asked in a row.
 const STRETCH: usize = 10;
+/// The lines in which a filling journal most often meets refusal 15.
+const FILLED: usize = 1_200;
 
-/// Stretches of journals, each call on what the one before it left.
+/// The lines of an input, and the place from which on a stretch is asked; of every third input, about the
+/// first refusal 15. Displays call, but for every sixth: there nothing is ever given up.
+fn some_stretch(random: &mut Random, number: usize) -> (State, Vec<Vec<u8>>, usize) {
+    let most = random.pick(&[2, 3, 3, 3, 8]);
+    let any = random.below(300) as usize;
+    let filling = number.is_multiple_of(3);
+    let mode = if number.is_multiple_of(6) {
+        Mode::Merge
+    } else {
+        Mode::Console
+    };
+    let (kinds, calls): (&[Kind], usize) = if filling {
+        (&[Kind::Filling], FILLED)
+    } else {
+        let kinds = &[Kind::Day, Kind::Nasty, Kind::Nasty, Kind::Malformed];
+        (kinds, any + STRETCH)
+    };
+    let (state, bytes) = some_input(random, mode, kinds, calls as u64, most);
+    let lines: Vec<Vec<u8>> = journal_lines(&bytes)[1..]
+        .iter()
+        .map(|line| line.to_vec())
+        .collect();
+    let (mut node, mut lent) = (state.clone(), Lent::zeroed());
+    let mut lacks_places = |line: &Vec<u8>| {
+        let input = Input::of_line(line);
+        make(&mut node, &mut lent, input, &mut [0; AREA_BYTES]).0 == Refusal::PlacesTaken as u32
+    };
+    let full = filling.then(|| lines.iter().position(&mut lacks_places));
+    let passed = full.flatten().map_or(any, |place| place - STRETCH / 2);
+    (state, lines, passed)
+}
+
+/// Stretches of journals with displays' calls among the lines, each call on what the one before it left.
 pub(super) fn journal_calls(
     random: &mut Random,
     count: usize,
     tally: &mut Tally,
 ) -> Vec<HostQuestion> {
     let mut questions: Vec<HostQuestion> = Vec::new();
-    while questions.len() < count {
-        let (most, passed) = (random.pick(&[2, 3, 3, 3, 8]), random.below(300) as usize);
-        let (mut state, bytes) = some_journal(random, (passed + STRETCH) as u64, most);
+    for number in 0.. {
+        if questions.len() >= count {
+            break;
+        }
+        let (mut state, lines, passed) = some_stretch(random, number);
         let places = state.settings.lines as usize * SHARE + random.pick(&[0, 0, 1]);
-        let mut columns = Columns::of_store(&vec![Reading::ZERO; places]);
+        let mut lent = Lent::zeroed();
+        lent.store.resize(places, Reading::ZERO);
         let mut area: Vec<u8> = (0..AREA_BYTES).map(|_| random.bits() as u8).collect();
-        for (number, line) in journal_lines(&bytes)[1..].iter().enumerate() {
-            let question = HostQuestion::of_call(state, columns, line.to_vec(), area);
-            state = question.left.state.clone();
-            columns = question.left.columns.clone();
-            area = question.left.area.clone();
-            if number >= passed && questions.len() < count {
+        let passed = passed.min(lines.len());
+        for line in &lines[..passed] {
+            make(&mut state, &mut lent, Input::of_line(line), &mut area);
+        }
+        let mut loan = Loan {
+            state,
+            columns: Columns::of_store(&lent.store),
+            sent: lent.sent,
+            area,
+        };
+        for line in lines[passed..].iter().take(STRETCH) {
+            let question = HostQuestion::of_call(loan, line.clone(), read_display_call(line));
+            loan = question.left.loan.clone();
+            if questions.len() < count {
                 tally.note(question.sort);
                 questions.push(question);
             }
@@ -133,15 +221,16 @@ pub(super) fn node_calls(
     let mut questions = Vec::new();
     while questions.len() < count / 2 {
         let host = host_state(random);
-        let mut call = fitting_call(random, &host.state, &host.store);
+        let store = &host.lent.store;
+        let mut call = fitting_call(random, &host.state, store);
         for _ in 0..random.pick(&[0, 0, 1, 2]) {
-            spoil_call(random, &host.state, &host.store, &mut call);
+            spoil_call(random, &host.state, store, &mut call);
         }
-        if is_heavy(random, &host.state, &host.store, Some(call)) {
+        if is_heavy(random, &host.state, store, Some(call)) {
             continue;
         }
-        let question = NodeQuestion::ask(host.state, host.store, call);
-        if tally.takes(question.sort, count / 2) {
+        let question = NodeQuestion::ask(host.state, host.lent, call);
+        if tally.takes(question.sort, count / 2, JOURNAL_SORTS) {
             questions.push(question);
         }
     }
@@ -159,16 +248,17 @@ fn play_nodes(
     questions: &mut Vec<NodeQuestion>,
 ) {
     let calls = 20 + random.below(300);
-    let (mut state, bytes) = some_journal(random, calls, LINES as u32);
-    let mut store = vec![Reading::ZERO; LINES * SHARE];
+    let kinds = [Kind::Day, Kind::Nasty, Kind::Nasty, Kind::Malformed];
+    let (mut state, bytes) = some_input(random, Mode::Merge, &kinds, calls, LINES as u32);
+    let mut lent = Lent::zeroed();
     for line in &journal_lines(&bytes)[1..] {
         let Some(call) = read_call(line) else {
             continue;
         };
-        let heavy = is_heavy(random, &state, &store, Some(call));
-        let question = NodeQuestion::ask(state, store, call);
+        let heavy = is_heavy(random, &state, &lent.store, Some(call));
+        let question = NodeQuestion::ask(state, lent, call);
         state = question.after.clone();
-        store = question.store_after.clone();
+        lent = question.lent_after.clone();
         if !heavy && questions.len() < count && random.once_in(calls / 20) {
             tally.note(question.sort);
             questions.push(question);
@@ -185,8 +275,14 @@ pub(super) fn openings(random: &mut Random, count: usize, tally: &mut Tally) -> 
         let lines = read_settings(&text).map_or(2, |settings| settings.lines);
         let due = lines as usize * SHARE;
         let places = random.pick(&[due, due, due + 1, due + 200, due - 1, 0]);
-        let mut store = host.store;
+        let Lent {
+            mut store,
+            mut sent,
+        } = host.lent;
         store.resize(places, Reading::ZERO);
+        if random.once_in(8) {
+            sent.truncate(random.pick(&[0, SENT_BYTES - RECORD_BYTES, SENT_BYTES - 1]));
+        }
         let mut columns = Columns::of_store(&store);
         if random.once_in(2) {
             columns.lengthen(random);
@@ -194,7 +290,13 @@ pub(super) fn openings(random: &mut Random, count: usize, tally: &mut Tally) -> 
         if random.once_in(8) {
             columns.cut_one(random, due - 1);
         }
-        let question = HostQuestion::of_opening(host.state, columns, text);
+        let loan = Loan {
+            state: host.state,
+            columns,
+            sent,
+            area: Vec::new(),
+        };
+        let question = HostQuestion::of_opening(loan, text);
         tally.note(question.sort);
         questions.push(question);
     }

@@ -1,8 +1,7 @@
-//! The equations in antt's writing, one or two for each question.
+//! The equations in antt's writing, one for each question on nodes, numbers and texts.
 
-use super::columns::Columns;
 use super::literal::{bytes, integer, spelled_list};
-use super::question::{HostQuestion, Left, NodeQuestion};
+use super::question::NodeQuestion;
 use super::value;
 use crate::generate::Host;
 use crate::node::mean;
@@ -10,130 +9,14 @@ use crate::refusal::answer;
 use crate::text::{read_call, read_settings};
 
 /// The text as a comment can show it, cut if it is long.
-fn shown(text: &[u8]) -> String {
+pub(super) fn shown(text: &[u8]) -> String {
     let mut shown: String = String::from_utf8_lossy(text).escape_default().collect();
     shown.truncate(160);
     shown
 }
 
-/// The columns that a host gets back, by name where they are those that it lent.
-fn columns_left(number: usize, question: &HostQuestion, left: &Left) -> String {
-    if left.columns == question.columns {
-        format!("columns-{number}")
-    } else {
-        left.columns.literal()
-    }
-}
-
 pub(super) fn definition(name: &str, kind: &str, body: &str) -> String {
     format!("abbrev {name} : {kind}\n{name} = {body}\n\n")
-}
-
-/// A theorem that a question has these parts of its answer otherwise.
-fn call_theorem(name: &str, case: &str, parts: &str) -> String {
-    format!("{name} : onCall {case} ≡ {parts}\nunfolding onCallQuickly\n{name} = by-quickly {case} ({parts}) refl\n\n")
-}
-
-fn call_case(number: usize, question: &HostQuestion, left: &Left) -> String {
-    let area = if left.area == question.area {
-        format!("area-{number}")
-    } else {
-        bytes(&left.area)
-    };
-    format!(
-        "record {{ state = {}; columns = columns-{number}; text = {}; area = area-{number}; left = record {{ answer = {}; records = {}; state = {}; columns = {}; area = {area} }} }}",
-        value::state(&question.state),
-        bytes(&question.text),
-        left.answer,
-        left.records,
-        value::state(&left.state),
-        columns_left(number, question, left),
-    )
-}
-
-/// A call on what a host lends.
-pub(super) fn of_call(number: usize, question: &HostQuestion) -> String {
-    let (case, name) = (format!("case-{number}"), format!("call-{number}"));
-    let mut text = format!("-- {}: {}\n", question.sort, shown(&question.text));
-    text += &definition(
-        &format!("columns-{number}"),
-        "Columns",
-        &question.columns.literal(),
-    );
-    text += &definition(&format!("area-{number}"), "List ℕ", &bytes(&question.area));
-    text += &definition(
-        &case,
-        "CallCase",
-        &call_case(number, question, &question.left),
-    );
-    text += &call_theorem(&name, &case, "[]");
-    if let Some((part, left)) = spoiled(number, &question.left).filter(|_| number.is_multiple_of(8))
-    {
-        let case = format!("spoiled-{number}");
-        text += &definition(&case, "CallCase", &call_case(number, question, &left));
-        text += &call_theorem(&format!("control-{number}"), &case, &spelled_list(&[part]));
-    }
-    text
-}
-
-/// A wrong answer, with the number of the part in which it is wrong: a comparison must find it.
-fn spoiled(number: usize, left: &Left) -> Option<(u64, Left)> {
-    let mut left = left.clone();
-    let Columns { ids, meters, .. } = &mut left.columns;
-    let part = match number / 8 % 8 {
-        0 => {
-            left.answer += 1;
-            1
-        }
-        1 => {
-            left.records += 1;
-            2
-        }
-        2 => {
-            left.state.clock ^= 1;
-            4
-        }
-        3 => {
-            left.state.checkpoint.meters[63].last ^= 1;
-            11
-        }
-        4 => {
-            left.state.heads[7].kept ^= 1;
-            12
-        }
-        5 => {
-            *ids.last_mut()? ^= 1;
-            13
-        }
-        6 => {
-            meters.pop()?;
-            18
-        }
-        _ => {
-            *left.area.last_mut()? ^= 1;
-            19
-        }
-    };
-    Some((part, left))
-}
-
-/// An opening on what a host lends.
-pub(super) fn of_opening(number: usize, question: &HostQuestion) -> String {
-    let (case, name) = (format!("case-{number}"), format!("opening-{number}"));
-    let mut text = format!("-- {}: {}\n", question.sort, shown(&question.text));
-    let columns = format!("columns-{number}");
-    text += &definition(&columns, "Columns", &question.columns.literal());
-    let body = format!(
-        "record {{ state = {}; columns = {columns}; text = {}; left = record {{ answer = {}; state = {}; columns = {} }} }}",
-        value::state(&question.state),
-        bytes(&question.text),
-        question.left.answer,
-        value::state(&question.left.state),
-        columns_left(number, question, &question.left),
-    );
-    text += &definition(&case, "OpeningCase", &body);
-    text += &format!("{name} : onOpening {case} ≡ []\nunfolding onOpening\n{name} = refl\n\n");
-    text
 }
 
 /// A call on a node.
@@ -142,10 +25,10 @@ pub(super) fn of_node(number: usize, question: &NodeQuestion) -> String {
     let body = format!(
         "record {{ settings = {}; node = {}; call = {}; answer = {}; outcome = record {{ node = {}; records = {} }} }}",
         value::settings(&question.state.settings),
-        value::node(&question.state, &question.store),
+        value::node(&question.state, &question.lent.store),
         value::call(&question.call),
         question.answer,
-        value::node(&question.after, &question.store_after),
+        value::node(&question.after, &question.lent_after.store),
         value::records(&question.records),
     );
     let mut text = format!("-- {}\n", question.sort);
@@ -170,7 +53,7 @@ pub(super) fn of_steps(number: usize, host: &Host, steps: u32) -> String {
         host.state.word.name(),
         host.state.c,
         value::settings(&host.state.settings),
-        value::node(&host.state, &host.store),
+        value::node(&host.state, &host.lent.store),
     )
 }
 
@@ -200,6 +83,7 @@ pub(super) fn of_settings_text(number: usize, text: &[u8]) -> String {
         fields.extend([settings.lines, settings.bucket].map(u64::from));
         fields.extend([settings.window, settings.hold].map(u64::from));
         fields.extend([settings.low, settings.high].map(|limit| u64::from(limit as u32)));
+        fields.push(u64::from(settings.displays));
     }
     of_text(number, text, "settingsFields", "readSettings", &fields)
 }

@@ -3,11 +3,14 @@
 use std::collections::BTreeMap;
 use std::fmt;
 
-use crate::node::{rule, Rule, State, Store, Word};
-use crate::text::{Call, BOUNDARY, DONE, STABLE, TENTATIVE, UNDO};
+use crate::node::{rule, Rule, State, Store, Word, FETCH_LIMIT};
+use crate::text::{Call, DisplayCall, Wish, BOUNDARY, DONE, STABLE, TENTATIVE, UNDO};
 
-/// The sorts: refusals 3 to 14, the five inputs, the five rules, three of them in two sorts.
-const SORTS: usize = 25;
+/// The sorts of journal calls: refusals 3 to 15, the five inputs, the five rules, three of them in
+/// two sorts.
+pub(super) const JOURNAL_SORTS: usize = 26;
+/// The sorts of a display's calls of either kind: refusals 3, 4, 5, 16, 17, and three accepted.
+pub(super) const DISPLAY_SORTS: usize = 8;
 
 /// How many cases there are of each sort.
 #[derive(Clone, Debug, Default)]
@@ -23,10 +26,10 @@ impl Tally {
         self.total += 1;
     }
 
-    /// Notes a case, unless its sort has its share of so many cases already. The share grows while
-    /// cases are passed over, since some sorts are rare and some never come.
-    pub(super) fn takes(&mut self, sort: &'static str, cases: usize) -> bool {
-        let share = cases.div_ceil(SORTS) + self.passed_over / (20 * cases);
+    /// Notes a case, unless its sort, one of so many, has its share of so many cases already. The
+    /// share grows while cases are passed over, since some sorts are rare and some never come.
+    pub(super) fn takes(&mut self, sort: &'static str, cases: usize, sorts: usize) -> bool {
+        let share = cases.div_ceil(sorts) + self.passed_over / (20 * cases);
         let takes = self.counts.get(sort).is_none_or(|&count| count < share);
         if takes {
             self.note(sort);
@@ -48,7 +51,7 @@ impl fmt::Display for Tally {
     }
 }
 
-const REFUSALS: [&str; 15] = [
+const REFUSALS: [&str; 18] = [
     "accepted",
     "refused 1",
     "refused 2",
@@ -64,6 +67,9 @@ const REFUSALS: [&str; 15] = [
     "refused 12",
     "refused 13",
     "refused 14",
+    "refused 15",
+    "refused 16",
+    "refused 17",
 ];
 
 /// The sort of an answer that is no accepted call's.
@@ -88,6 +94,26 @@ pub(super) fn sort_of_call(
         UNDO => "U",
         DONE => "R",
         _ => sort_of_step(state, store, call.now),
+    }
+}
+
+/// The sort of a display's accepted call, with the state before and after it and its records: whether
+/// an acknowledgement is of the same id, and whether it gives anything up; how much a fetch gives.
+pub(super) fn sort_of_display_call(
+    before: &State,
+    after: &State,
+    call: DisplayCall,
+    records: usize,
+) -> &'static str {
+    match call.wish {
+        Wish::Acknowledge if before == after => "same id",
+        Wish::Acknowledge if before.least_acknowledged() == after.least_acknowledged() => {
+            "none given up"
+        }
+        Wish::Acknowledge => "given up",
+        Wish::Fetch if records == 0 => "fetched none",
+        Wish::Fetch if records as u64 == FETCH_LIMIT => "fetched 64",
+        Wish::Fetch => "fetched fewer",
     }
 }
 

@@ -5,6 +5,9 @@ use crate::generate::{any_call, spoil_text, Random};
 use crate::refusal::answer;
 use crate::text::{has_form, read_settings, spell_call, write_settings, Settings};
 
+/// The bytes that a text has at most; reading more takes antt long.
+const TEXT_BYTES: usize = 6_000;
+
 /// Settings texts, so many of them.
 pub(super) fn settings_texts(random: &mut Random, count: usize, tally: &mut Tally) -> Vec<Vec<u8>> {
     let texts: Vec<Vec<u8>> = (0..count).map(|_| settings_text(random)).collect();
@@ -32,6 +35,7 @@ pub(super) fn settings_text(random: &mut Random) -> Vec<u8> {
         hold: random.pick(&[0, 864_000, 864_001]),
         low: random.signed_word(),
         high: random.signed_word(),
+        displays: random.pick(&[0, 1, 4, 5, u32::MAX]),
     };
     let usual = Settings {
         lines: random.pick(&[1, 2, 3, 8]),
@@ -40,6 +44,7 @@ pub(super) fn settings_text(random: &mut Random) -> Vec<u8> {
         hold: random.pick(&[0, 50, 864_000]),
         low: random.pick(&[-1_000, 0, i32::MIN]),
         high: random.pick(&[0, 1_000, i32::MAX]),
+        displays: random.pick(&[1, 2, 4]),
     };
     let mut text = write_settings(&random.pick(&[usual, usual, usual, wide]));
     if random.once_in(4) {
@@ -52,7 +57,10 @@ pub(super) fn settings_text(random: &mut Random) -> Vec<u8> {
 fn call_text(random: &mut Random) -> Vec<u8> {
     let mut text = spell_call(&any_call(random));
     while random.once_in(2) {
-        text = spoil_text(random, &text);
+        let spoilt = spoil_text(random, &text);
+        if spoilt.len() <= TEXT_BYTES {
+            text = spoilt;
+        }
     }
     text
 }

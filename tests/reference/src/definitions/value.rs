@@ -1,6 +1,6 @@
 //! States, nodes, calls and records in antt's writing.
 
-use super::literal::{integer, list};
+use super::literal::{integer, list, spelled_list};
 use crate::node::{Head, Operator, Reading, State, Word, SHARE};
 use crate::record::Record;
 use crate::text::{Call, Settings};
@@ -15,13 +15,14 @@ fn phase(word: Word) -> &'static str {
 
 pub(super) fn settings(settings: &Settings) -> String {
     format!(
-        "record {{ lines = {}; bucket = {}; window = {}; hold = {}; low = {}; high = {} }}",
+        "record {{ lines = {}; bucket = {}; window = {}; hold = {}; low = {}; high = {}; displays = {} }}",
         settings.lines,
         settings.bucket,
         settings.window,
         settings.hold,
         integer(i64::from(settings.low)),
         integer(i64::from(settings.high)),
+        settings.displays,
     )
 }
 
@@ -67,8 +68,9 @@ fn common(state: &State) -> String {
 
 pub(super) fn state(state: &State) -> String {
     format!(
-        "record {{ {}; heads = {}; settings = {} }}",
+        "record {{ {}; acknowledged = {}; heads = {}; settings = {} }}",
         common(state),
+        spelled_list(&state.acknowledged),
         heads(&state.heads),
         settings(&state.settings)
     )
@@ -107,7 +109,11 @@ pub(super) fn node(state: &State, store: &[Reading]) -> String {
             readings(&store[start..start + head.kept as usize]),
         ));
     }
-    format!("record {{ {}; lines = {lines}[] }}", common(state))
+    format!(
+        "record {{ {}; acknowledged = {}; lines = {lines}[] }}",
+        common(state),
+        spelled_list(state.displays()),
+    )
 }
 
 pub(super) fn call(call: &Call) -> String {

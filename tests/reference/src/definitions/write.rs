@@ -7,20 +7,24 @@ use std::path::Path;
 use super::counts::counts;
 use super::heat_statement::{of_box, of_paid};
 use super::heats;
+use super::host_statement::{of_call, of_opening};
 use super::means::means;
 use super::pick;
 use super::statement;
 use super::tally::Tally;
 use super::texts;
 use crate::generate::{Host, Random};
+use crate::text::Wish;
 
 /// The equations that one file holds.
 const FILE_CASES: usize = 100;
 
 /// The hand-written files: names and texts.
-const LAWS: [(&str, &str); 6] = [
+const LAWS: [(&str, &str); 8] = [
     ("Packed", include_str!("laws/Packed.antt.txt")),
     ("Rows", include_str!("laws/Rows.antt.txt")),
+    ("Ring", include_str!("laws/Ring.antt.txt")),
+    ("Stores", include_str!("laws/Stores.antt.txt")),
     ("Quick", include_str!("laws/Quick.antt.txt")),
     ("Compared", include_str!("laws/Compared.antt.txt")),
     ("Cases", include_str!("laws/Cases.antt.txt")),
@@ -67,7 +71,7 @@ pub fn write_crate(folder: &Path, seed: u64, count: usize) -> io::Result<Vec<(St
 fn sets(seed: u64, count: usize) -> Vec<Set> {
     let mut random = Random::new(seed ^ 0x616E_7474_0000_0000);
     let random = &mut random;
-    let (host, call, node) = (count - count / 3, statement::of_call, statement::of_node);
+    let (host, call, node) = (count - count / 3, of_call, statement::of_node);
     vec![
         set(("host-made calls", "Host"), call, |tally| {
             pick::host_calls(random, host, tally)
@@ -75,10 +79,16 @@ fn sets(seed: u64, count: usize) -> Vec<Set> {
         set(("journal calls", "Journal"), call, |tally| {
             pick::journal_calls(random, count / 3, tally)
         }),
+        set(("acknowledgements", "Acknowledge"), call, |tally| {
+            pick::display_calls(random, Wish::Acknowledge, count / 5, tally)
+        }),
+        set(("fetches", "Fetch"), call, |tally| {
+            pick::display_calls(random, Wish::Fetch, count / 5, tally)
+        }),
         set(("calls on nodes", "Node"), node, |tally| {
             pick::node_calls(random, 4 * count, tally)
         }),
-        set(("openings", "Opening"), statement::of_opening, |tally| {
+        set(("openings", "Opening"), of_opening, |tally| {
             pick::openings(random, count / 5, tally)
         }),
         set(

@@ -3,57 +3,41 @@
 use std::collections::BTreeMap;
 use std::fmt;
 
+use super::groups::{cannot_come, DISPLAY_CALL, GROUPS, REFUSED_FOR_PLACES, SEND_BACK};
 use super::lines_of;
-use crate::node::{call_in_shape, is_half, open, refusal_of_sender, rule};
-use crate::node::{Reading, Rule, State, LINES, SHARE};
+use crate::node::{free_places, is_half, make, open, refusal_of_sender, rule};
+use crate::node::{Input, Lent, Reading, Rule, State, FETCH_LIMIT, HELD, LINES, SHARE};
+use crate::playback::{acknowledge_all, Mode};
 use crate::record::{decode, Record, AREA_BYTES, AREA_RECORDS, RECORD_BYTES};
 use crate::refusal::answer;
-use crate::text::{next_line, read_call, Call, STEP};
+use crate::text::{next_line, read_call, Call, DisplayCall, Wish, BOUNDARY, STEP};
 
-const KINDS: &[&str] = &["S", "T", "B", "U", "R", "P"];
-
-/// All that is counted, by group.
-const GROUPS: [(&str, &[&str]); 9] = [
-    (
-        "answer",
-        &[
-            "0", "1", "2", "3", "4", "5", "6", "7", "8", "9", "10", "11", "12", "13", "14",
-        ],
-    ),
-    ("record", &["S", "T", "U", "B", "R"]),
-    (
-        "mean of a half",
-        &["up above 0", "down above 0", "up below 0", "down below 0"],
-    ),
-    ("state", &["stable", "failure", "correcting", "none"]),
-    ("rule", &["1", "2", "3", "4", "5"]),
-    ("accepted while stable", KINDS),
-    ("accepted while failure", KINDS),
-    ("accepted while correcting", KINDS),
-    (
-        "edge",
-        &["eight lines", "window 16", "256 kept", "65 records"],
-    ),
-];
-
-/// Store, state and area of a host that plays a journal keep these answers from coming.
-const CANNOT_COME: [(&str, &str); 3] = [("answer", "3"), ("answer", "4"), ("answer", "5")];
-
-/// How often each thing came.
-#[derive(Clone, Debug, Default)]
+/// How often each thing came in a program.
+#[derive(Clone, Debug)]
 pub struct Coverage {
+    mode: Mode,
     inputs: u64,
     calls: u64,
     counts: BTreeMap<(&'static str, String), u64>,
 }
 
 impl Coverage {
+    /// Nothing yet.
+    pub fn new(mode: Mode) -> Self {
+        Coverage {
+            mode,
+            inputs: 0,
+            calls: 0,
+            counts: BTreeMap::new(),
+        }
+    }
+
     /// Plays an input on the reference's node and counts what it reaches.
     pub fn note(&mut self, input: &[u8]) {
         self.inputs += 1;
         let settings = next_line(input);
-        let mut store = vec![Reading::ZERO; LINES * SHARE];
-        let opened = open(settings, &mut store);
+        let mut lent = Lent::zeroed();
+        let opened = open(settings, &mut lent);
         self.count("answer", answer(&opened));
         let word = opened.as_ref().map_or("none", |state| state.word.name());
         self.count("state", word);
@@ -68,26 +52,48 @@ impl Coverage {
         }
         let mut area = [0; AREA_BYTES];
         for line in lines_of(&input[settings.len()..]) {
-            self.note_line(&mut state, &mut store, line, &mut area);
+            self.note_line(&mut state, &mut lent, line, &mut area);
+            if self.mode == Mode::Replay {
+                acknowledge_all(&mut state, &mut lent);
+            }
         }
     }
 
-    fn note_line(
-        &mut self,
-        state: &mut State,
-        store: &mut [Reading],
-        line: &[u8],
-        area: &mut [u8],
-    ) {
+    fn note_line(&mut self, state: &mut State, lent: &mut Lent, line: &[u8], area: &mut [u8]) {
         self.calls += 1;
-        if let Some(call) = read_call(line) {
-            if refusal_of_sender(state, store, &call).is_none() {
-                self.note_accepted(state, store, &call);
+        let input = match self.mode {
+            Mode::Merge | Mode::Replay => Input::Journal(line),
+            Mode::Console => Input::of_line(line),
+        };
+        let call = read_call(line);
+        if let Some(call) = call {
+            if refusal_of_sender(state, &lent.store, &call).is_none() {
+                self.note_accepted(state, &lent.store, &call);
             }
         }
-        let (answer, records) = call_in_shape(state, store, line, area);
+        let before = state.clone();
+        let (answer, records) = make(state, lent, input, area);
+        match input {
+            Input::Journal(_) => {
+                self.note_records(area, records);
+                if free_places(&before) == 0 && records == 1 && area[0] == BOUNDARY {
+                    self.count(SEND_BACK, "512 and a window without results");
+                }
+                if answer == 15 {
+                    self.note_refused_for_places(state);
+                }
+            }
+            Input::Display(call) => self.note_display(&before, state, &call, (answer, records)),
+        }
+        self.note_held(state);
         self.count("answer", answer);
         self.count("state", state.word.name());
+        if state.lines().iter().any(|head| head.kept == SHARE as u32) {
+            self.count("edge", "256 kept");
+        }
+    }
+
+    fn note_records(&mut self, area: &[u8], records: usize) {
         for bytes in area.chunks_exact(RECORD_BYTES).take(records) {
             let record = decode(bytes).expect("a record just laid down");
             self.count("record", char::from(record.kind));
@@ -96,8 +102,66 @@ impl Coverage {
         if records == AREA_RECORDS {
             self.count("edge", "65 records");
         }
-        if state.lines().iter().any(|head| head.kept == SHARE as u32) {
-            self.count("edge", "256 kept");
+    }
+
+    /// Counts how full the send-back store is.
+    fn note_held(&mut self, state: &State) {
+        let name = match free_places(state) {
+            0 => "512 held",
+            HELD => "none held",
+            _ => "some held",
+        };
+        self.count(SEND_BACK, name);
+    }
+
+    fn note_refused_for_places(&mut self, state: &State) {
+        self.count(REFUSED_FOR_PLACES, state.word.name());
+        let free = free_places(state) > 0;
+        let name = if free { "some free" } else { "none free" };
+        self.count(REFUSED_FOR_PLACES, name);
+    }
+
+    /// Counts the call of a display by what it gave and left.
+    fn note_display(
+        &mut self,
+        before: &State,
+        after: &State,
+        call: &DisplayCall,
+        (answer, records): (u32, usize),
+    ) {
+        if answer != 0 {
+            if before.word.name() == "failure" {
+                self.count(DISPLAY_CALL, "refused while failure");
+            }
+            return;
+        }
+        let last = before.displays()[call.display as usize - 1];
+        let given_up = after.least_acknowledged() - before.least_acknowledged();
+        if call.wish == Wish::Fetch {
+            self.count(
+                DISPLAY_CALL,
+                match records as u64 {
+                    0 => "fetch from the next",
+                    FETCH_LIMIT => "fetch of 64",
+                    _ => "fetch of fewer",
+                },
+            );
+            if call.id <= last {
+                self.count(DISPLAY_CALL, "fetch of what it has acknowledged");
+            }
+            return;
+        }
+        self.count(
+            DISPLAY_CALL,
+            match call.id {
+                id if id == last => "ack of the last again",
+                _ if given_up == 0 => "ack that frees none",
+                _ if free_places(after) == HELD => "ack of all",
+                _ => "ack that frees some",
+            },
+        );
+        if given_up > 0 && after.least_acknowledged() < call.id {
+            self.count(DISPLAY_CALL, "ack while others are behind");
         }
     }
 
@@ -152,7 +216,7 @@ impl Coverage {
         let all = GROUPS
             .iter()
             .flat_map(|&(group, names)| names.iter().map(move |&name| (group, name)));
-        all.filter(|thing| !CANNOT_COME.contains(thing))
+        all.filter(|&thing| !cannot_come(self.mode, thing))
             .filter(|&(group, name)| self.of(group, name) == 0)
             .map(|(group, name)| format!("{group} {name}"))
             .collect()
@@ -163,11 +227,15 @@ impl fmt::Display for Coverage {
     fn fmt(&self, out: &mut fmt::Formatter) -> fmt::Result {
         write!(out, "{} inputs, {} calls", self.inputs, self.calls)?;
         for (group, names) in GROUPS {
-            let counts: Vec<String> = names
+            let due = names
                 .iter()
+                .filter(|&&name| !cannot_come(self.mode, (group, name)));
+            let counts: Vec<String> = due
                 .map(|name| format!("{name}: {}", self.of(group, name)))
                 .collect();
-            write!(out, "\n  {group}  {}", counts.join(", "))?;
+            if !counts.is_empty() {
+                write!(out, "\n  {group}  {}", counts.join(", "))?;
+            }
         }
         Ok(())
     }

@@ -7,10 +7,11 @@ use super::journal::Journal;
 use super::nasty::{catch_up, steps};
 use super::random::Random;
 use crate::node::{METERS, SHARE};
+use crate::playback::Mode;
 use crate::text::{write_settings, Settings, STABLE, STEP, TENTATIVE};
 
 /// Writes a crowded journal.
-pub(super) fn write(seed: u64, lines: u64, output: &mut dyn Write) -> io::Result<()> {
+pub(super) fn write(mode: Mode, seed: u64, lines: u64, output: &mut dyn Write) -> io::Result<()> {
     let mut random = Random::new(seed ^ 0x6372_6F77_6400_0000);
     let settings = Settings {
         lines: random.pick(&[7, 8, 8, 8]),
@@ -19,9 +20,10 @@ pub(super) fn write(seed: u64, lines: u64, output: &mut dyn Write) -> io::Result
         hold: random.pick(&[0, 50, 5_000]),
         low: random.pick(&[i32::MIN, -1_000_000, 0]),
         high: random.pick(&[i32::MAX, 1_000_000]),
+        displays: random.pick(&[1, 2, 4]),
     };
     let text = write_settings(&settings);
-    let Some(mut journal) = Journal::open(&text, lines, random, output)? else {
+    let Some(mut journal) = Journal::open(mode, &text, lines, random, output)? else {
         return Ok(());
     };
     while !journal.is_full() {
@@ -47,10 +49,10 @@ fn crowd(journal: &mut Journal, line: usize) -> io::Result<()> {
         let Journal {
             random,
             state,
-            store,
+            lent,
             ..
         } = journal;
-        let mut call = aimed_call(random, state, store, line, kind);
+        let mut call = aimed_call(random, state, &lent.store, line, kind);
         call.meter = (number % METERS as u64) as u8;
         journal.put(&call)?;
     }
@@ -62,10 +64,10 @@ fn wait(journal: &mut Journal) -> io::Result<()> {
     let Journal {
         random,
         state,
-        store,
+        lent,
         ..
     } = journal;
-    let mut call = aimed_call(random, state, store, 0, STEP);
+    let mut call = aimed_call(random, state, &lent.store, 0, STEP);
     call.now = state.clock.saturating_add(state.settings.hold);
     journal.put(&call)?;
     let count = journal.random.between(0, 20);

@@ -5,6 +5,7 @@ use std::io::{self, Write};
 
 use super::journal::Journal;
 use super::random::Random;
+use crate::playback::Mode;
 use crate::text::{write_settings, Call, Settings, BOUNDARY, DONE, STABLE, STEP, TENTATIVE, UNDO};
 
 /// The most readings that a sender keeps back.
@@ -30,7 +31,7 @@ struct Sender {
 }
 
 /// Writes a day's journal.
-pub(super) fn write(seed: u64, lines: u64, output: &mut dyn Write) -> io::Result<()> {
+pub(super) fn write(mode: Mode, seed: u64, lines: u64, output: &mut dyn Write) -> io::Result<()> {
     let mut random = Random::new(seed ^ 0x6461_7900_0000_0000);
     let length = random.pick(&[100, 300, 600, 600, 1_200]);
     let settings = Settings {
@@ -40,9 +41,10 @@ pub(super) fn write(seed: u64, lines: u64, output: &mut dyn Write) -> io::Result
         hold: random.pick(&[50, length, 2 * length, 2 * length, 3 * length]),
         low: -1_000,
         high: 100_000,
+        displays: random.pick(&[1, 1, 2, 4]),
     };
     let text = write_settings(&settings);
-    let Some(mut journal) = Journal::open(&text, lines, random, output)? else {
+    let Some(mut journal) = Journal::open(mode, &text, lines, random, output)? else {
         return Ok(());
     };
     let mut senders: Vec<Sender> = (0..settings.lines).map(|_| Sender::new()).collect();

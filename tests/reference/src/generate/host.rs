@@ -1,34 +1,31 @@
 //! Host-made states and stores: in shape, at the limits of refusal 4, and reachable by no list.
 
 use super::aim::{fitting_call, spoil_call};
+use super::display::aimed_display_call;
 use super::host_fault::break_shape;
+use super::host_sent::fill_sent;
 use super::malformed::spoil_text;
 use super::nasty;
 use super::random::Random;
-use crate::node::{call, Head, Meter, Operator, Reading, State, Word};
+use crate::node::{call, Head, Input, Lent, Meter, Operator, Reading, State, Word};
 use crate::node::{GREATEST_BUCKET, LINES, METERS, SHARE};
 use crate::record::AREA_BYTES;
 use crate::refusal::Refusal;
-use crate::text::{spell_call, Call, STABLE, TENTATIVE};
+use crate::text::{spell_call, Call, DisplayCall, STABLE, TENTATIVE};
 
 /// What a host hands over from call to call.
 #[derive(Clone, Debug, PartialEq, Eq)]
 pub struct Host {
     pub state: State,
-    pub store: Vec<Reading>,
+    pub lent: Lent,
 }
 
 impl Host {
     /// A step at the state's own clock, over an area of the least length; gives the answer.
     pub fn step(&mut self) -> u32 {
         let text = spell_call(&Call::step(self.state.clock));
-        call(
-            &mut self.state,
-            &mut self.store,
-            &text,
-            &mut [0; AREA_BYTES],
-        )
-        .0
+        let area = &mut [0; AREA_BYTES];
+        call(&mut self.state, &mut self.lent, &text, area).0
     }
 }
 
@@ -37,18 +34,31 @@ impl Host {
 pub struct HostCase {
     pub host: Host,
     pub text: Vec<u8>,
+    /// The call of a display in the place of the text's.
+    pub display: Option<DisplayCall>,
     pub area: Vec<u8>,
     /// 3 or 4 where the state or store was broken on purpose; without it neither fits.
     pub fault: Option<Refusal>,
 }
 
+impl HostCase {
+    /// What is called with.
+    pub fn input(&self) -> Input<'_> {
+        self.display
+            .map_or(Input::Journal(&self.text), Input::Display)
+    }
+}
+
 /// A host-made call; about every third state or store is broken in one place.
 pub fn host_case(random: &mut Random) -> HostCase {
     let mut host = host_state(random);
-    let mut call = fitting_call(random, &host.state, &host.store);
+    let mut call = fitting_call(random, &host.state, &host.lent.store);
     for _ in 0..random.pick(&[0, 0, 0, 0, 1, 2]) {
-        spoil_call(random, &host.state, &host.store, &mut call);
+        spoil_call(random, &host.state, &host.lent.store, &mut call);
     }
+    let display = random
+        .once_in(4)
+        .then(|| aimed_display_call(random, &host.state));
     let mut text = spell_call(&call);
     if random.once_in(24) {
         text = spoil_text(random, &text);
@@ -66,6 +76,7 @@ pub fn host_case(random: &mut Random) -> HostCase {
     HostCase {
         host,
         text,
+        display,
         area,
         fault,
     }
@@ -99,7 +110,9 @@ pub fn host_state(random: &mut Random) -> Host {
     let places = settings.lines as usize * SHARE + random.pick(&[0, 0, 1, 300]);
     let mut store = vec![Reading::ZERO; places];
     fill_lines(random, &mut state, &mut store);
-    Host { state, store }
+    let sent = fill_sent(random, &mut state);
+    let lent = Lent { store, sent };
+    Host { state, lent }
 }
 
 /// A state and store in shape whose boundaries lie some buckets past c, or short of it: few steps

@@ -2,15 +2,17 @@
 
 use super::host::Host;
 use super::random::Random;
-use crate::node::{Meter, Reading, State, Word, GREATEST_BUCKET, SHARE};
+use crate::node::{held, place_of, Meter, Reading, State, Word};
+use crate::node::{GREATEST_BUCKET, HELD, SENT_BYTES, SHARE};
 use crate::refusal::Refusal;
 
 /// One way to break a state and store in shape; none where it cannot be done to this one.
 type Fault = fn(&mut Random, &mut Host) -> Option<Refusal>;
 
 /// All ways, each most often one past the limit.
-pub const FAULTS: [Fault; 20] = [
+pub const FAULTS: [Fault; 26] = [
     short_store,
+    short_sent,
     many_lines_short,
     many_lines,
     no_lines,
@@ -18,6 +20,7 @@ pub const FAULTS: [Fault; 20] = [
     window_limit,
     hold_limit,
     low_above_high,
+    displays_limit,
     over_full,
     wrong_kind,
     wrong_meter,
@@ -30,6 +33,10 @@ pub const FAULTS: [Fault; 20] = [
     newest_numbering,
     meter_count,
     meter_sum,
+    acknowledged_above,
+    acknowledged_below,
+    held_kind,
+    held_id,
 ];
 
 /// Breaks a state and store in one place and says which refusal then fits.
@@ -47,7 +54,14 @@ const SHAPE: Option<Refusal> = Some(Refusal::OutOfShape);
 fn short_store(random: &mut Random, host: &mut Host) -> Option<Refusal> {
     let due = host.state.settings.lines as usize * SHARE;
     let length = random.pick(&[0, due - 1, due - 1, due - SHARE]);
-    host.store.truncate(length);
+    host.lent.store.truncate(length);
+    Some(Refusal::StoreShort)
+}
+
+fn short_sent(random: &mut Random, host: &mut Host) -> Option<Refusal> {
+    let most = SENT_BYTES - 1;
+    let length = random.pick(&[0, most, most, SENT_BYTES - 32]);
+    host.lent.sent.truncate(length);
     Some(Refusal::StoreShort)
 }
 
@@ -58,15 +72,15 @@ fn many_lines_short(random: &mut Random, host: &mut Host) -> Option<Refusal> {
 
 fn many_lines(random: &mut Random, host: &mut Host) -> Option<Refusal> {
     host.state.settings.lines = random.pick(&[9, 9, 16, 20]);
-    host.store
-        .resize(host.state.settings.lines as usize * SHARE, Reading::ZERO);
+    let places = host.state.settings.lines as usize * SHARE;
+    host.lent.store.resize(places, Reading::ZERO);
     SHAPE
 }
 
 fn no_lines(random: &mut Random, host: &mut Host) -> Option<Refusal> {
     host.state.settings.lines = 0;
     if random.once_in(2) {
-        host.store.clear();
+        host.lent.store.clear();
     }
     SHAPE
 }
@@ -92,6 +106,11 @@ fn low_above_high(random: &mut Random, host: &mut Host) -> Option<Refusal> {
     SHAPE
 }
 
+fn displays_limit(random: &mut Random, host: &mut Host) -> Option<Refusal> {
+    host.state.settings.displays = random.pick(&[0, 5, 5, u32::MAX]);
+    SHAPE
+}
+
 fn some_line(random: &mut Random, state: &State) -> usize {
     random.below(u64::from(state.settings.lines)) as usize
 }
@@ -113,13 +132,13 @@ fn some_kept(random: &mut Random, state: &State) -> Option<(usize, usize)> {
 
 fn wrong_kind(random: &mut Random, host: &mut Host) -> Option<Refusal> {
     let (place, _) = some_kept(random, &host.state)?;
-    host.store[place].kind = random.pick(&[0, 1, b'B', b'U', b's', b't', b'R', 255]);
+    host.lent.store[place].kind = random.pick(&[0, 1, b'B', b'U', b's', b't', b'R', 255]);
     SHAPE
 }
 
 fn wrong_meter(random: &mut Random, host: &mut Host) -> Option<Refusal> {
     let (place, _) = some_kept(random, &host.state)?;
-    host.store[place].meter = random.pick(&[64, 64, 65, 128, 255]);
+    host.lent.store[place].meter = random.pick(&[64, 64, 65, 128, 255]);
     SHAPE
 }
 
@@ -128,8 +147,8 @@ fn id_not_rising(random: &mut Random, host: &mut Host) -> Option<Refusal> {
     if in_share == 0 {
         return None;
     }
-    let before = host.store[place - 1].id;
-    host.store[place].id = random.pick(&[before, before, before.saturating_sub(1), 0]);
+    let before = host.lent.store[place - 1].id;
+    host.lent.store[place].id = random.pick(&[before, before, before.saturating_sub(1), 0]);
     SHAPE
 }
 
@@ -209,4 +228,55 @@ fn meter_sum(random: &mut Random, host: &mut Host) -> Option<Refusal> {
     let greatest = i64::from(i32::MAX) * i64::from(meter.count);
     meter.sum = random.pick(&[least - 1, greatest + 1, i64::MIN, i64::MAX]);
     SHAPE
+}
+
+/// What some display has acknowledged.
+fn some_display<'a>(random: &mut Random, host: &'a mut Host) -> &'a mut u64 {
+    let number = random.below(u64::from(host.state.settings.displays));
+    &mut host.state.acknowledged[number as usize]
+}
+
+fn acknowledged_above(random: &mut Random, host: &mut Host) -> Option<Refusal> {
+    let newest = host.state.newest_stable();
+    let far = random.pick(&[newest + 1, newest + 1, newest + 513, 1 << 40, u64::MAX]);
+    *some_display(random, host) = far;
+    SHAPE
+}
+
+fn acknowledged_below(random: &mut Random, host: &mut Host) -> Option<Refusal> {
+    let far = host.state.newest_stable().checked_sub(HELD as u64 + 1)?;
+    *some_display(random, host) = random.pick(&[far, far, far / 2, 0]);
+    SHAPE
+}
+
+/// The place of some held result, at either end of those held or between.
+fn some_held<'a>(random: &mut Random, host: &'a mut Host) -> Option<(u64, &'a mut [u8])> {
+    let ids = held(&host.state);
+    let (first, last) = (*ids.start(), *ids.end());
+    if first > last {
+        return None;
+    }
+    let any = first + random.below(last - first + 1);
+    let id = random.pick(&[first, last, any]);
+    Some((id, &mut host.lent.sent[place_of(id)]))
+}
+
+fn held_kind(random: &mut Random, host: &mut Host) -> Option<Refusal> {
+    let (_, place) = some_held(random, host)?;
+    place[0] = random.pick(&[0, 1, b'T', b'U', b'B', b'R', b'D', b's', 255]);
+    SHAPE
+}
+
+fn held_id(random: &mut Random, host: &mut Host) -> Option<Refusal> {
+    let (id, place) = some_held(random, host)?;
+    let own = id as u32;
+    let other = random.pick(&[
+        own.wrapping_sub(1),
+        own.wrapping_add(1),
+        own.wrapping_add(HELD as u32),
+        own.swap_bytes(),
+        0,
+    ]);
+    place[4..8].copy_from_slice(&other.to_le_bytes());
+    (other != own).then_some(Refusal::OutOfShape)
 }

@@ -1,43 +1,56 @@
-//! A journal under way, with a node beside it so that calls can be aimed at its state.
+//! An input under way, with a node beside it so that calls can be aimed at its state.
 
 use std::io::{self, Write};
 
+use super::display::aimed_display_call;
+use super::malformed::spoil_text;
 use super::random::Random;
-use crate::node::{call, open, Reading, State, LINES, SHARE};
+use crate::node::{make, open, Input, Lent, State};
+use crate::playback::{acknowledge_all, Mode};
 use crate::record::AREA_BYTES;
-use crate::text::{next_line, read_call, spell_call, Call, LINE_END};
+use crate::text::{next_line, read_call, spell_call, spell_display_call, Call, Wish, LINE_END};
 
-/// The journal written so far, and what a node has become by it.
+/// The input written so far, and what a node has become by it.
 pub(super) struct Journal<'a> {
     output: &'a mut dyn Write,
+    mode: Mode,
     left: u64,
     rare: u64,
+    /// Between two calls of displays at a console about so many journal lines stand.
+    pause: u64,
+    /// Whether display 1 hardly ever acknowledges anything.
+    lazy: bool,
     unended: Vec<u8>,
     pub(super) random: Random,
     pub(super) state: State,
-    pub(super) store: Vec<Reading>,
+    pub(super) lent: Lent,
     area: [u8; AREA_BYTES],
 }
 
 impl<'a> Journal<'a> {
     /// Writes the settings line; none where a node refuses it.
     pub(super) fn open(
+        mode: Mode,
         settings: &[u8],
         lines: u64,
-        random: Random,
+        mut random: Random,
         output: &'a mut dyn Write,
     ) -> io::Result<Option<Self>> {
         output.write_all(settings)?;
-        let mut store = vec![Reading::ZERO; LINES * SHARE];
-        let opened = open(settings, &mut store);
+        let mut lent = Lent::zeroed();
+        let opened = open(settings, &mut lent);
+        let (pause, lazy) = (random.pick(&[5, 20, 50, 50, 200]), random.once_in(2));
         Ok(opened.ok().map(|state| Journal {
             output,
+            mode,
             left: lines,
             rare: (lines / 2).max(400),
+            pause,
+            lazy,
             unended: Vec::new(),
             random,
             state,
-            store,
+            lent,
             area: [0; AREA_BYTES],
         }))
     }
@@ -63,13 +76,51 @@ impl<'a> Journal<'a> {
             self.output.write_all(stretch)?;
             self.unended.extend_from_slice(stretch);
             if stretch.last() == Some(&LINE_END) {
-                let Journal { state, store, .. } = self;
-                answer = call(state, store, &self.unended, &mut self.area).0;
-                self.unended.clear();
-                self.left -= 1;
+                answer = self.play();
+                self.displays_call()?;
             }
         }
         Ok(answer)
+    }
+
+    /// Plays the line that has just ended, as the program would.
+    fn play(&mut self) -> u32 {
+        let input = match self.mode {
+            Mode::Merge | Mode::Replay => Input::Journal(&self.unended),
+            Mode::Console => Input::of_line(&self.unended),
+        };
+        let answer = make(&mut self.state, &mut self.lent, input, &mut self.area).0;
+        if self.mode == Mode::Replay {
+            acknowledge_all(&mut self.state, &mut self.lent);
+        }
+        self.unended.clear();
+        self.left -= 1;
+        answer
+    }
+
+    /// At a console, now and then, the call of a display or several; once in a while a broken one.
+    fn displays_call(&mut self) -> io::Result<()> {
+        if self.mode != Mode::Console || !self.random.once_in(self.pause) {
+            return Ok(());
+        }
+        let count = self.random.pick(&[1, 1, 1, 2, 5]);
+        for _ in 0..self.left.min(count) {
+            let call = aimed_display_call(&mut self.random, &self.state);
+            let rests = self.lazy && call.wish == Wish::Acknowledge && call.display == 1;
+            if rests && !self.random.once_in(40) {
+                continue;
+            }
+            let mut text = spell_display_call(&call);
+            if self.random.once_in(16) {
+                text = spoil_text(&mut self.random, &text);
+            }
+            if text.last() == Some(&LINE_END) && next_line(&text) == text {
+                self.output.write_all(&text)?;
+                self.unended = text;
+                self.play();
+            }
+        }
+        Ok(())
     }
 
     /// Whether something is due that happens but a few times in a journal.

@@ -6,6 +6,7 @@ use super::aim::fitting_call;
 use super::journal::Journal;
 use super::nasty;
 use super::random::Random;
+use crate::playback::Mode;
 use crate::text::{spell_call, write_settings, LINE_END};
 
 /// Texts to put in the place of a number.
@@ -40,17 +41,17 @@ const NUMBERS: [&str; 24] = [
 const BYTES: &[u8] = b"0123456789-+ =\t\r\n\0.,STBURPstlinekd\xFF\x80";
 
 /// Writes a journal with broken lines; some seeds have a broken settings line.
-pub(super) fn write(seed: u64, lines: u64, output: &mut dyn Write) -> io::Result<()> {
+pub(super) fn write(mode: Mode, seed: u64, lines: u64, output: &mut dyn Write) -> io::Result<()> {
     let mut random = Random::new(seed ^ 0x6D61_6C66_0000_0000);
     let mut settings = write_settings(&nasty::settings(&mut random, false));
     if random.once_in(6) {
         settings = spoil_text(&mut random, &settings);
     }
-    let Some(mut journal) = Journal::open(&settings, lines, random, output)? else {
+    let Some(mut journal) = Journal::open(mode, &settings, lines, random, output)? else {
         return Ok(());
     };
     while !journal.is_full() {
-        let call = fitting_call(&mut journal.random, &journal.state, &journal.store);
+        let call = fitting_call(&mut journal.random, &journal.state, &journal.lent.store);
         let mut text = spell_call(&call);
         while journal.random.once_in(2) {
             text = spoil_text(&mut journal.random, &text);
@@ -124,7 +125,9 @@ fn repeat_part(random: &mut Random, text: &mut Vec<u8>, place: usize) {
 
 /// A line of one byte over and over, of some length about those that matter.
 fn stuff(random: &mut Random) -> Vec<u8> {
-    let length = random.pick(&[0, 1, 88, 89, 90, 101, 102, 103, 127, 128, 129, 5_000]);
+    let length = random.pick(&[
+        0, 1, 88, 89, 90, 101, 102, 103, 121, 122, 123, 127, 128, 129, 5_000,
+    ]);
     let mut text = vec![random.pick(BYTES); length];
     text.push(LINE_END);
     text

@@ -7,6 +7,7 @@ use super::journal::Journal;
 use super::malformed::spoil_text;
 use super::random::Random;
 use crate::node::SHARE;
+use crate::playback::Mode;
 use crate::text::{spell_call, write_settings, Call, Settings};
 use crate::text::{BOUNDARY, STABLE, STEP, TENTATIVE, UNDO};
 
@@ -14,7 +15,7 @@ use crate::text::{BOUNDARY, STABLE, STEP, TENTATIVE, UNDO};
 const LONG: u64 = 10_000;
 
 /// Writes a nasty journal; a few seeds have settings outside the limits.
-pub(super) fn write(seed: u64, lines: u64, output: &mut dyn Write) -> io::Result<()> {
+pub(super) fn write(mode: Mode, seed: u64, lines: u64, output: &mut dyn Write) -> io::Result<()> {
     let mut random = Random::new(seed ^ 0x6E61_7374_7900_0000);
     let far = random.once_in(16);
     let mut settings = settings(&mut random, far);
@@ -23,10 +24,10 @@ pub(super) fn write(seed: u64, lines: u64, output: &mut dyn Write) -> io::Result
     }
     let late = random.once_in(8);
     let mut text = write_settings(&settings);
-    if random.once_in(64) {
+    if random.once_in(32) {
         text = spoil_text(&mut random, &text);
     }
-    let Some(mut journal) = Journal::open(&text, lines, random, output)? else {
+    let Some(mut journal) = Journal::open(mode, &text, lines, random, output)? else {
         return Ok(());
     };
     if late {
@@ -61,6 +62,7 @@ pub(super) fn settings(random: &mut Random, far: bool) -> Settings {
         hold: random.pick(&[0, 0, 1, 50, 50, 864_000, hold]),
         low,
         high,
+        displays: random.pick(&[1, 1, 2, 3, 4]),
     };
     if far {
         settings.bucket = 36_000;
@@ -72,11 +74,12 @@ pub(super) fn settings(random: &mut Random, far: bool) -> Settings {
 }
 
 fn break_limit(random: &mut Random, settings: &mut Settings) {
-    match random.below(5) {
+    match random.below(6) {
         0 => settings.lines = random.pick(&[0, 9, u32::MAX]),
         1 => settings.bucket = random.pick(&[0, 99, 36_001, u32::MAX]),
         2 => settings.window = random.pick(&[0, 17, u32::MAX]),
         3 => settings.hold = random.pick(&[864_001, u32::MAX]),
+        4 => settings.displays = random.pick(&[0, 5, u32::MAX]),
         _ => (settings.low, settings.high) = (1, 0),
     }
 }
@@ -85,7 +88,7 @@ fn break_limit(random: &mut Random, settings: &mut Settings) {
 fn jump_clock(journal: &mut Journal) -> io::Result<()> {
     let hold = journal.state.settings.hold;
     let before = journal.random.pick(&[0, 1, 1_000, hold, 2 * hold]);
-    let mut call = aimed_call(&mut journal.random, &journal.state, &journal.store, 0, STEP);
+    let mut call = aim(journal, 0, STEP);
     call.now = u32::MAX - before;
     journal.put(&call).map(|_| ())
 }
@@ -104,14 +107,14 @@ fn aim(journal: &mut Journal, line: usize, kind: u8) -> Call {
     aimed_call(
         &mut journal.random,
         &journal.state,
-        &journal.store,
+        &journal.lent.store,
         line,
         kind,
     )
 }
 
 /// One stretch of calls of a kind.
-fn phase(journal: &mut Journal) -> io::Result<()> {
+pub(super) fn phase(journal: &mut Journal) -> io::Result<()> {
     let count = journal.random.between(1, 40);
     match journal.random.below(40) {
         0 => fill(journal),
@@ -125,16 +128,16 @@ fn phase(journal: &mut Journal) -> io::Result<()> {
 /// Fitting calls with spoilt ones among them.
 fn mixed(journal: &mut Journal, count: i64) -> io::Result<()> {
     for _ in 0..count {
-        let mut call = fitting_call(&mut journal.random, &journal.state, &journal.store);
+        let mut call = fitting_call(&mut journal.random, &journal.state, &journal.lent.store);
         let faults = journal.random.pick(&[0, 0, 0, 0, 0, 1, 1, 2, 3]);
         for _ in 0..faults {
             let Journal {
                 random,
                 state,
-                store,
+                lent,
                 ..
             } = journal;
-            spoil_call(random, state, store, &mut call);
+            spoil_call(random, state, &lent.store, &mut call);
         }
         if call.is_reading() && journal.rarely() {
             call.time = u32::MAX;

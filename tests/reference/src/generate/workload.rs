@@ -1,4 +1,5 @@
-//! Journals to measure a merge box with: each keeps it at one kind of work.
+//! Journals to measure a merge box with: each keeps it at one kind of work. They are for `replay`, in
+//! which displays acknowledge all results, since most have more than the send-back store holds.
 
 use std::io::{self, Write};
 
@@ -6,8 +7,9 @@ use super::aim::{fitting_call, spoil_call};
 use super::journal::Journal;
 use super::malformed::spoil_text;
 use super::random::Random;
-use super::{write_journal, Kind};
+use super::{write_input, Kind};
 use crate::node::{METERS, SHARE};
+use crate::playback::Mode;
 use crate::text::{spell_call, write_settings, Call, Settings};
 use crate::text::{BOUNDARY, STABLE, STEP};
 
@@ -49,7 +51,7 @@ pub fn write_workload(
     output: &mut dyn Write,
 ) -> io::Result<()> {
     match workload {
-        Workload::Day => write_journal(Kind::Day, seed, lines, output),
+        Workload::Day => write_input(Mode::Replay, Kind::Day, seed, lines, output),
         Workload::FullStore => {
             let site = Site::open(settings(8, 100, 30_000), seed, lines, output)?;
             site.full_store()
@@ -101,6 +103,7 @@ fn settings(lines: u32, bucket: u32, hold: u32) -> Settings {
         hold,
         low: -1_000,
         high: 1_000,
+        displays: 1,
     }
 }
 
@@ -119,7 +122,7 @@ impl<'a> Site<'a> {
         output: &'a mut dyn Write,
     ) -> io::Result<Self> {
         let text = write_settings(&settings);
-        let journal = Journal::open(&text, lines, Random::new(seed), output)?;
+        let journal = Journal::open(Mode::Replay, &text, lines, Random::new(seed), output)?;
         Ok(Site {
             journal: journal.expect("settings within their limits"),
             settings,
@@ -218,13 +221,13 @@ impl<'a> Site<'a> {
             let Journal {
                 random,
                 state,
-                store,
+                lent,
                 ..
             } = &mut self.journal;
-            let mut call = fitting_call(random, state, store);
+            let mut call = fitting_call(random, state, &lent.store);
             let fault = random.below(8);
             if (2..5).contains(&fault) {
-                spoil_call(random, state, store, &mut call);
+                spoil_call(random, state, &lent.store, &mut call);
             }
             let mut text = spell_call(&call);
             if fault >= 5 {

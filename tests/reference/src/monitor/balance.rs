@@ -74,7 +74,7 @@ impl Balance {
             sent: sent_heat(&watch.settings, &watch.stable, meter),
             paid: paid_heat(watch.output.records(), meter),
             open: open_heat(state, meter),
-            kept: kept_heat(state, &run.store, meter),
+            kept: kept_heat(state, &run.lent.store, meter),
         }
     }
 
@@ -163,7 +163,7 @@ pub fn balance_text(run: &Run) -> String {
 mod tests {
     use super::*;
 
-    const SETTINGS: &str = "lines=1 bucket=100 window=2 hold=0 low=-5 high=9\n";
+    const SETTINGS: &str = "lines=1 bucket=100 window=2 hold=0 low=-5 high=9 displays=1\n";
     const CALLS: [&str; 9] = [
         "now=0 line=1 kind=S id=1 time=0 meter=63 value=9\n",
         "now=0 line=1 kind=S id=2 time=0 meter=63 value=10\n",

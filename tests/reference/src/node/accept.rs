@@ -1,22 +1,19 @@
-//! What an accepted call does to the state, the store and the area.
+//! What an accepted journal call does to the state, the stores and the area.
 
 use super::state::State;
 use super::step::step;
 use super::store::{close_up, Reading, SHARE};
+use super::Lent;
 use crate::text::{Call, BOUNDARY, STABLE, STEP, TENTATIVE, UNDO};
 
 /// Does an accepted call and gives the number of records laid down.
-pub(super) fn accept(
-    state: &mut State,
-    store: &mut [Reading],
-    call: &Call,
-    area: &mut [u8],
-) -> usize {
+pub(super) fn accept(state: &mut State, lent: &mut Lent, call: &Call, area: &mut [u8]) -> usize {
     state.clock = call.now;
     if call.kind == STEP {
-        return step(state, store, area);
+        return step(state, lent, area);
     }
     let line = usize::from(call.line) - 1;
+    let store = &mut lent.store;
     match call.kind {
         STABLE | TENTATIVE => keep(state, store, line, call),
         BOUNDARY => state.heads[line].boundary = call.time,

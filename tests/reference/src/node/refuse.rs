@@ -1,12 +1,14 @@
-//! Refusals 7 to 14 of a journal line that has the form, the first that fits.
+//! Refusals 7 to 15 of a journal line that has the form, the first that fits.
 
 use super::operator::METERS;
+use super::sent::free_places;
 use super::state::{Head, State};
+use super::step::results_ahead;
 use super::store::{kept, Reading, SHARE};
 use crate::refusal::Refusal;
 use crate::text::{Call, BOUNDARY, DONE, STABLE, STEP, TENTATIVE, UNDO};
 
-/// The first of refusals 7 to 14 that fits a call on a state and store in shape.
+/// The first of refusals 7 to 15 that fits a call on a state and stores in shape.
 pub fn refusal_of_sender(state: &State, store: &[Reading], call: &Call) -> Option<Refusal> {
     if call.now < state.clock {
         return Some(Refusal::ClockBack);
@@ -15,7 +17,11 @@ pub fn refusal_of_sender(state: &State, store: &[Reading], call: &Call) -> Optio
         if call.line != 0 {
             return Some(Refusal::WrongLine);
         }
-        return unused_fields_set(call).then_some(Refusal::UnusedField);
+        if unused_fields_set(call) {
+            return Some(Refusal::UnusedField);
+        }
+        let lacking = results_ahead(state, store) > free_places(state);
+        return lacking.then_some(Refusal::PlacesTaken);
     }
     if call.line == 0 || u32::from(call.line) > state.settings.lines {
         return Some(Refusal::WrongLine);

@@ -1,8 +1,10 @@
-//! Refusal 4: whether a state and a store long enough for it are in shape.
+//! Refusal 4: whether a state and stores long enough for it are in shape.
 
 use super::operator::{Meter, Operator, METERS};
+use super::sent::sent_in_shape;
 use super::state::{State, Word};
 use super::store::{kept, Reading, SHARE};
+use super::Lent;
 use crate::text::{STABLE, TENTATIVE};
 
 /// The greatest number that c and p can have.
@@ -10,15 +12,16 @@ pub const GREATEST_BUCKET: u32 = 42_949_673;
 /// The greatest count of a meter in shape.
 const GREATEST_COUNT: u32 = 32_768;
 
-/// Whether refusal 4 does not fit; the store is not short.
-pub fn in_shape(state: &State, store: &[Reading]) -> bool {
+/// Whether refusal 4 does not fit; neither store is short.
+pub fn in_shape(state: &State, lent: &Lent) -> bool {
     state.settings.within_limits()
         && heads_in_shape(state)
-        && kept_in_shape(state, store)
+        && kept_in_shape(state, &lent.store)
         && buckets_in_shape(state)
         && numbering_in_shape(state)
         && meters_in_shape(&state.operator)
         && meters_in_shape(&state.checkpoint)
+        && sent_in_shape(state, &lent.sent)
 }
 
 fn heads_in_shape(state: &State) -> bool {

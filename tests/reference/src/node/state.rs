@@ -5,6 +5,8 @@ use crate::text::Settings;
 
 /// The lines that a state has room for.
 pub const LINES: usize = 8;
+/// The displays that a state has room for.
+pub const DISPLAYS: usize = 4;
 
 /// The state's word, as printed.
 #[derive(Clone, Copy, Debug, PartialEq, Eq)]
@@ -34,7 +36,8 @@ pub struct Head {
     pub kept: u32,
 }
 
-/// A node between two calls; line n has the head n - 1.
+/// A node between two calls; line n has the head n - 1, and display n the entry n - 1 of the ids up
+/// to which stable results are acknowledged.
 #[derive(Clone, Debug, PartialEq, Eq)]
 pub struct State {
     pub settings: Settings,
@@ -45,6 +48,7 @@ pub struct State {
     pub heads: [Head; LINES],
     pub operator: Operator,
     pub checkpoint: Operator,
+    pub acknowledged: [u64; DISPLAYS],
 }
 
 impl State {
@@ -59,11 +63,30 @@ impl State {
             heads: [Head::default(); LINES],
             operator: Operator::CLEAR,
             checkpoint: Operator::CLEAR,
+            acknowledged: [0; DISPLAYS],
         }
     }
 
     /// The heads of the lines that the settings have; call only with lines within the limits.
     pub fn lines(&self) -> &[Head] {
         &self.heads[..self.settings.lines as usize]
+    }
+
+    /// What each display that the settings have has acknowledged; call only with displays within the
+    /// limits.
+    pub fn displays(&self) -> &[u64] {
+        &self.acknowledged[..self.settings.displays as usize]
+    }
+
+    /// The id up to which all displays have acknowledged, likewise.
+    pub fn least_acknowledged(&self) -> u64 {
+        self.displays()
+            .iter()
+            .fold(u64::MAX, |least, &id| least.min(id))
+    }
+
+    /// The id of the newest stable result; tentative ones are numbered from there on.
+    pub fn newest_stable(&self) -> u64 {
+        self.checkpoint.newest
     }
 }

@@ -3,8 +3,10 @@
 use std::ops::Range;
 
 use super::operator::{Operator, METERS};
+use super::sent::hold;
 use super::state::{State, Word};
 use super::store::{close_up, kept, Reading};
+use super::Lent;
 use crate::record::{encode, Record, RECORD_BYTES};
 use crate::text::{Settings, STABLE, TENTATIVE};
 
@@ -54,12 +56,32 @@ pub fn rule(state: &State, store: &[Reading]) -> Rule {
     }
 }
 
+/// How many stable results a step would give by rule 2, from the operator as it stands; none where
+/// another rule applies or no window closes.
+pub fn results_ahead(state: &State, store: &[Reading]) -> usize {
+    let worked = state.c;
+    if state.p > worked || !is_stable(state, worked) || !closes_window(&state.settings, worked) {
+        return 0;
+    }
+    let times = times_of(worked, state.settings.bucket);
+    let mut counts = state.operator.meters.map(|meter| meter.count > 0);
+    for line in 0..state.lines().len() {
+        for reading in kept(state, store, line) {
+            if times.contains(&u64::from(reading.time)) && is_inside(&state.settings, reading) {
+                counts[usize::from(reading.meter)] = true;
+            }
+        }
+    }
+    counts.iter().filter(|&&counts| counts).count()
+}
+
 /// Does a step and gives the number of records laid down.
-pub(super) fn step(state: &mut State, store: &mut [Reading], area: &mut [u8]) -> usize {
+pub(super) fn step(state: &mut State, lent: &mut Lent, area: &mut [u8]) -> usize {
     let mut output = Output { area, records: 0 };
+    let Lent { store, sent } = lent;
     match rule(state, store) {
         Rule::Withdraw => withdraw(state, &mut output),
-        Rule::WorkStable => work_stable(state, store, &mut output),
+        Rule::WorkStable => work_stable(state, store, sent, &mut output),
         Rule::CloseCorrection => {
             output.put(&Record::done());
             state.word = Word::Stable;
@@ -105,11 +127,15 @@ fn withdraw(state: &mut State, output: &mut Output) {
     state.word = Word::Correcting;
 }
 
-fn work_stable(state: &mut State, store: &mut [Reading], output: &mut Output) {
+/// Works bucket c; stable results also go to their places in the send-back store.
+fn work_stable(state: &mut State, store: &mut [Reading], sent: &mut [u8], output: &mut Output) {
     let (worked, length) = (state.c, state.settings.bucket);
     work(state, store, worked);
     if closes_window(&state.settings, worked) {
-        close_window(state, worked, STABLE, output);
+        close_window(state, worked, STABLE, |result| {
+            output.put(result);
+            hold(sent, result);
+        });
         output.put(&Record::boundary((worked + 1) * length));
     }
     let times = times_of(worked, length);
@@ -127,7 +153,7 @@ fn work_tentative(state: &mut State, store: &[Reading], output: &mut Output) {
     let worked = state.p;
     work(state, store, worked);
     if closes_window(&state.settings, worked) {
-        close_window(state, worked, TENTATIVE, output);
+        close_window(state, worked, TENTATIVE, |result| output.put(result));
     }
     state.p += 1;
     state.word = Word::Failure;
@@ -137,11 +163,9 @@ fn closes_window(settings: &Settings, bucket: u32) -> bool {
     (bucket + 1).is_multiple_of(settings.window)
 }
 
-fn close_window(state: &mut State, bucket: u32, kind: u8, output: &mut Output) {
+fn close_window(state: &mut State, bucket: u32, kind: u8, put: impl FnMut(&Record)) {
     let time = (bucket + 1 - state.settings.window) * state.settings.bucket;
-    state
-        .operator
-        .close(kind, time, |record| output.put(record));
+    state.operator.close(kind, time, put);
 }
 
 /// Adds a bucket's kept readings to the operator in one pass over the lines in order. A later
@@ -160,6 +184,10 @@ fn work(state: &mut State, store: &[Reading], bucket: u32) {
     }
 }
 
+fn is_inside(settings: &Settings, reading: &Reading) -> bool {
+    settings.low <= reading.value && reading.value <= settings.high
+}
+
 /// Adds one reading, unless its value is outside the limits.
 fn add(
     operator: &mut Operator,
@@ -167,7 +195,7 @@ fn add(
     reading: &Reading,
     newest: &mut [u32; METERS],
 ) {
-    if reading.value < settings.low || settings.high < reading.value {
+    if !is_inside(settings, reading) {
         return;
     }
     let number = usize::from(reading.meter);

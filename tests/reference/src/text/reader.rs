@@ -31,6 +31,11 @@ impl<'a> Reader<'a> {
         u32::try_from(magnitude).ok()
     }
 
+    /// A decimal that fits 64 bits, without sign or leading zero.
+    pub(crate) fn wide(&mut self) -> Option<u64> {
+        self.magnitude(u64::MAX)
+    }
+
     /// A decimal that fits 32 bits signed; nothing negative is zero.
     pub(crate) fn signed(&mut self) -> Option<i32> {
         if self.word(b"-").is_none() {
@@ -47,14 +52,14 @@ impl<'a> Reader<'a> {
         (self.rest == [LINE_END]).then_some(())
     }
 
-    /// Digits up to the first other byte; gives up before the number can outgrow 64 bits.
+    /// Digits up to the first other byte; gives up where the number outgrows the greatest.
     fn magnitude(&mut self, greatest: u64) -> Option<u64> {
         let mut value = self.digit()?;
         while let Some(digit) = self.digit() {
             if value == 0 {
                 return None;
             }
-            value = value * 10 + digit;
+            value = value.checked_mul(10)?.checked_add(digit)?;
             if value > greatest {
                 return None;
             }
@@ -94,6 +99,20 @@ mod tests {
         assert_eq!(unsigned(&[b'9'; 4000], u32::MAX), None);
         for bad in [&b"00"[..], b"01", b"-0", b"-1", b"+1", b"", b" 1", b"x"] {
             assert_eq!(unsigned(bad, u32::MAX), None, "{bad:?}");
+        }
+    }
+
+    #[test]
+    fn wide_keeps_to_the_range() {
+        let wide = |text: &[u8]| Reader::new(text).wide();
+        assert_eq!(wide(b"0"), Some(0));
+        assert_eq!(wide(b"18446744073709551615"), Some(u64::MAX));
+        assert_eq!(wide(b"18446744073709551616"), None);
+        assert_eq!(wide(b"18446744073709551620"), None);
+        assert_eq!(wide(b"184467440737095516150"), None);
+        assert_eq!(wide(&[b'1'; 4000]), None);
+        for bad in [&b"00"[..], b"01", b"-1", b"+1", b"", b" 1"] {
+            assert_eq!(wide(bad), None, "{bad:?}");
         }
     }
 

@@ -1,4 +1,4 @@
-//! The settings line (document 01, section 'Clocks, lines and readings').
+//! The settings line (document 01, section 'Clocks, lines and readings'; document 02, W2).
 
 use super::pen::Pen;
 use super::reader::Reader;
@@ -6,7 +6,7 @@ use super::LINE_END;
 use crate::refusal::Refusal;
 
 /// The length of the longest settings line.
-pub const SETTINGS_LONGEST: usize = 102;
+pub const SETTINGS_LONGEST: usize = 122;
 
 /// What an installer sets, whether within the limits or not.
 #[derive(Clone, Copy, Debug, PartialEq, Eq)]
@@ -17,6 +17,7 @@ pub struct Settings {
     pub hold: u32,
     pub low: i32,
     pub high: i32,
+    pub displays: u32,
 }
 
 impl Settings {
@@ -27,6 +28,7 @@ impl Settings {
             && (1..=16).contains(&self.window)
             && self.hold <= 864_000
             && self.low <= self.high
+            && (1..=4).contains(&self.displays)
     }
 }
 
@@ -50,6 +52,7 @@ pub fn write_settings(settings: &Settings) -> Vec<u8> {
         (b" hold=", i64::from(settings.hold)),
         (b" low=", i64::from(settings.low)),
         (b" high=", i64::from(settings.high)),
+        (b" displays=", i64::from(settings.displays)),
     ] {
         pen.word(word);
         pen.signed(number);
@@ -72,6 +75,8 @@ fn read_form(text: &[u8]) -> Option<Settings> {
     let low = reader.signed()?;
     reader.word(b" high=")?;
     let high = reader.signed()?;
+    reader.word(b" displays=")?;
+    let displays = reader.unsigned(u32::MAX)?;
     reader.end()?;
     Some(Settings {
         lines,
@@ -80,5 +85,6 @@ fn read_form(text: &[u8]) -> Option<Settings> {
         hold,
         low,
         high,
+        displays,
     })
 }

@@ -74,7 +74,7 @@ fn is_ahead(run: &Run, meter: u8) -> bool {
 fn keeps_tentative(run: &Run, meter: u8) -> bool {
     (0..run.state.settings.lines as usize).any(|line| {
         let start = line * SHARE;
-        let kept = &run.store[start..start + run.state.heads[line].kept as usize];
+        let kept = &run.lent.store[start..start + run.state.heads[line].kept as usize];
         kept.iter().any(|reading| {
             reading.kind == TENTATIVE && reading.meter == meter && is_inside(run, reading.value)
         })

@@ -1,43 +1,66 @@
 //! The call once more, slowly: over lists, sorted, and with numbers that cannot overflow.
 
-use reference::node::{Meter, Reading, State, Word};
+use reference::node::{Input, Lent, Meter, Reading, State, Word};
 use reference::text::Call;
 
+use super::literal_display::{accept_display, lacks_places, refused_display, shape_of_displays};
 use super::literal_step::accept;
 
 /// What a call leaves and returns.
 #[derive(Clone, Debug, PartialEq, Eq)]
 pub struct Outcome {
     pub state: State,
-    pub store: Vec<Reading>,
+    pub lent: Lent,
     pub area: Vec<u8>,
     pub answer: u32,
     pub records: usize,
 }
 
 /// One call on copies of everything.
-pub fn literal_call(state: &State, store: &[Reading], text: &[u8], area: &[u8]) -> Outcome {
+pub fn literal_call(state: &State, lent: &Lent, input: Input, area: &[u8]) -> Outcome {
     let mut outcome = Outcome {
         state: state.clone(),
-        store: store.to_vec(),
+        lent: lent.clone(),
         area: area.to_vec(),
         answer: 0,
         records: 0,
     };
-    let call = parse(text);
-    outcome.answer = if (store.len() as i128) < 256 * i128::from(state.settings.lines) {
+    let places = 256 * i128::from(state.settings.lines);
+    outcome.answer = if (lent.store.len() as i128) < places || lent.sent.len() < 16_384 {
         3
-    } else if !shape(state, store) {
+    } else if !shape(state, lent) {
         4
     } else if area.len() < 2_080 {
         5
     } else {
-        call.as_ref().map_or(6, |call| refused(state, store, call))
+        0
     };
-    if let Some(call) = call.filter(|_| outcome.answer == 0) {
-        accept(&mut outcome, &call);
+    if outcome.answer == 0 {
+        match input {
+            Input::Journal(text) => journal_call(&mut outcome, text),
+            Input::Display(call) => {
+                outcome.answer = refused_display(state, &call);
+                if outcome.answer == 0 {
+                    accept_display(&mut outcome, &call);
+                }
+            }
+        }
     }
     outcome
+}
+
+fn journal_call(outcome: &mut Outcome, text: &[u8]) {
+    let Some(call) = parse(text) else {
+        outcome.answer = 6;
+        return;
+    };
+    outcome.answer = refused(&outcome.state, &outcome.lent.store, &call);
+    if outcome.answer == 0 && lacks_places(outcome, &call) {
+        outcome.answer = 15;
+    }
+    if outcome.answer == 0 {
+        accept(outcome, &call);
+    }
 }
 
 /// Reads loosely, writes what was read, and asks for the very same text.
@@ -69,7 +92,7 @@ pub fn kept(state: &State, store: &[Reading], line: usize) -> Vec<Reading> {
     store[256 * line..256 * line + count].to_vec()
 }
 
-fn shape(state: &State, store: &[Reading]) -> bool {
+fn shape(state: &State, lent: &Lent) -> bool {
     let settings = &state.settings;
     let limits = settings.lines >= 1
         && settings.lines <= 8
@@ -78,10 +101,13 @@ fn shape(state: &State, store: &[Reading]) -> bool {
         && settings.window >= 1
         && settings.window <= 16
         && settings.hold <= 864_000
-        && settings.low <= settings.high;
+        && settings.low <= settings.high
+        && settings.displays >= 1
+        && settings.displays <= 4;
     limits
-        && (0..settings.lines as usize).all(|line| shape_of_line(state, store, line))
+        && (0..settings.lines as usize).all(|line| shape_of_line(state, &lent.store, line))
         && shape_of_buckets(state)
+        && shape_of_displays(state, &lent.sent)
         && state.operator.meters.iter().all(shape_of_meter)
         && state.checkpoint.meters.iter().all(shape_of_meter)
 }

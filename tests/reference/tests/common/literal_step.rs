@@ -7,11 +7,12 @@ use reference::record::{encode, Record};
 use reference::text::Call;
 
 use super::literal::{kept, Outcome};
+use super::literal_display::hold;
 
 /// Makes a line keep these readings.
 fn keep(outcome: &mut Outcome, line: usize, readings: &[Reading]) {
     let before = outcome.state.heads[line].kept as usize;
-    let share = &mut outcome.store[256 * line..256 * line + 256];
+    let share = &mut outcome.lent.store[256 * line..256 * line + 256];
     for (place, slot) in share.iter_mut().enumerate() {
         if place < readings.len() {
             *slot = readings[place];
@@ -29,7 +30,7 @@ pub fn accept(outcome: &mut Outcome, call: &Call) {
         return step(outcome);
     }
     let line = usize::from(call.line) - 1;
-    let mut readings = kept(&outcome.state, &outcome.store, line);
+    let mut readings = kept(&outcome.state, &outcome.lent.store, line);
     match call.kind {
         b'B' => outcome.state.heads[line].boundary = call.time,
         b'U' => {
@@ -92,7 +93,7 @@ fn step(outcome: &mut Outcome) {
 fn in_order(outcome: &Outcome) -> Vec<Reading> {
     let mut all = Vec::new();
     for line in 0..outcome.state.settings.lines as usize {
-        for reading in kept(&outcome.state, &outcome.store, line) {
+        for reading in kept(&outcome.state, &outcome.lent.store, line) {
             all.push((reading.time, line, reading.id, reading));
         }
     }
@@ -109,13 +110,14 @@ fn step_stable(outcome: &mut Outcome, readings: &[Reading]) {
         put(outcome, &bare(b'B', 0, time));
     }
     for line in 0..settings.lines as usize {
-        let mut own = kept(&outcome.state, &outcome.store, line);
+        let mut own = kept(&outcome.state, &outcome.lent.store, line);
         own.retain(|reading| reading.time / settings.bucket != c);
         keep(outcome, line, &own);
     }
     outcome.state.c = c + 1;
     outcome.state.p = c + 1;
     outcome.state.checkpoint = outcome.state.operator.clone();
+    hold(outcome);
 }
 
 /// Adds a bucket's readings, already in order, and closes the window if it is due.

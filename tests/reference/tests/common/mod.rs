@@ -3,17 +3,22 @@
 
 pub mod balance;
 pub mod literal;
+mod literal_display;
 mod literal_step;
 pub mod replica;
 
-use reference::node::{call, open, Meter, Reading, State, LINES, SHARE};
+use reference::node::{call, make, open, Input, Lent, Meter, Reading, State, SHARE};
 use reference::record::{decode, Record, AREA_BYTES, RECORD_BYTES};
-use reference::text::{write_call, Call, JOURNAL_LONGEST};
+use reference::text::{write_call, Call, DisplayCall, Wish, JOURNAL_LONGEST};
 
 /// The settings of document 01's example.
-pub const USUAL: &str = "lines=2 bucket=100 window=1 hold=50 low=-1000 high=1000\n";
+pub const USUAL: &str = "lines=2 bucket=100 window=1 hold=50 low=-1000 high=1000 displays=1\n";
 /// The same with one line.
-pub const SINGLE: &str = "lines=1 bucket=100 window=1 hold=50 low=-1000 high=1000\n";
+pub const SINGLE: &str = "lines=1 bucket=100 window=1 hold=50 low=-1000 high=1000 displays=1\n";
+
+/// The same with two displays.
+pub const TWO_DISPLAYS: &str =
+    "lines=1 bucket=100 window=1 hold=50 low=-1000 high=1000 displays=2\n";
 
 /// A byte that no call writes by chance.
 pub const UNTOUCHED: u8 = 0xA5;
@@ -22,25 +27,25 @@ pub const UNTOUCHED: u8 = 0xA5;
 #[derive(Clone, Debug, PartialEq, Eq)]
 pub struct Bench {
     pub state: State,
-    pub store: Vec<Reading>,
+    pub lent: Lent,
     pub area: Vec<u8>,
 }
 
 impl Bench {
-    /// A fresh opening over a store of eight lines.
+    /// A fresh opening over a store of eight lines and a send-back store.
     pub fn open(settings: &str) -> Self {
-        let mut store = vec![Reading::ZERO; LINES * SHARE];
-        let state = open(settings.as_bytes(), &mut store).expect("settings");
+        let mut lent = Lent::zeroed();
+        let state = open(settings.as_bytes(), &mut lent).expect("settings");
         Bench {
             state,
-            store,
+            lent,
             area: vec![UNTOUCHED; AREA_BYTES],
         }
     }
 
     /// Calls with any text.
     pub fn text(&mut self, text: &[u8]) -> (u32, usize) {
-        call(&mut self.state, &mut self.store, text, &mut self.area)
+        call(&mut self.state, &mut self.lent, text, &mut self.area)
     }
 
     /// Calls and gives the answer; a refused call must change nothing.
@@ -57,10 +62,50 @@ impl Bench {
     pub fn step(&mut self, now: u32) -> Vec<Record> {
         let (answer, records) = self.text(&spell(&plain(now, 0, 'P')));
         assert_eq!(answer, 0);
-        let written = self.area.chunks_exact(RECORD_BYTES).take(records);
+        self.records(records)
+    }
+
+    /// The first records in the area.
+    fn records(&self, count: usize) -> Vec<Record> {
+        let written = self.area.chunks_exact(RECORD_BYTES).take(count);
         written
             .map(|bytes| decode(bytes).expect("record"))
             .collect()
+    }
+
+    /// Makes a display's call; a refused one, and a fetch, must change nothing but the area.
+    fn display(&mut self, wish: Wish, display: u32, id: u64) -> (u32, usize) {
+        let before = self.clone();
+        let input = Input::Display(DisplayCall { wish, display, id });
+        let (answer, records) = make(&mut self.state, &mut self.lent, input, &mut self.area);
+        if answer != 0 {
+            assert_eq!(*self, before, "refusal {answer} changed something");
+        }
+        if wish == Wish::Fetch {
+            assert_eq!((&self.state, &self.lent), (&before.state, &before.lent));
+        } else {
+            assert_eq!(self.area, before.area);
+        }
+        (answer, records)
+    }
+
+    /// The answer to an acknowledgement.
+    pub fn acknowledge(&mut self, display: u32, id: u64) -> u32 {
+        let (answer, records) = self.display(Wish::Acknowledge, display, id);
+        assert_eq!(records, 0);
+        answer
+    }
+
+    /// The answer to a fetch.
+    pub fn try_fetch(&mut self, display: u32, id: u64) -> u32 {
+        self.display(Wish::Fetch, display, id).0
+    }
+
+    /// What a fetch gives that must be accepted.
+    pub fn fetch(&mut self, display: u32, id: u64) -> Vec<Record> {
+        let (answer, records) = self.display(Wish::Fetch, display, id);
+        assert_eq!(answer, 0);
+        self.records(records)
     }
 
     /// The answer to a step, whatever it is.
@@ -71,14 +116,50 @@ impl Bench {
     /// Puts a reading into the line's first free place without any call, as a host may.
     pub fn place(&mut self, line: usize, reading: Reading) {
         let head = &mut self.state.heads[line - 1];
-        self.store[(line - 1) * SHARE + head.kept as usize] = reading;
+        self.lent.store[(line - 1) * SHARE + head.kept as usize] = reading;
         head.kept += 1;
+    }
+
+    /// Works windows of one bucket, each with a reading of so many meters, and gives the results.
+    pub fn windows(&mut self, counts: &[u8]) -> Vec<Record> {
+        let mut results = Vec::new();
+        for &count in counts {
+            self.window(count);
+            let mut records = self.step(self.state.clock);
+            assert_eq!(records.pop().map(|record| record.kind), Some(b'B'));
+            assert_eq!(records.len(), usize::from(count));
+            results.extend(records);
+        }
+        results
+    }
+
+    /// Puts a reading of so many meters into bucket c, as a host may, and makes it stable.
+    pub fn window(&mut self, count: u8) {
+        let start = self.state.c * self.state.settings.bucket;
+        for meter in 0..count {
+            let id = u32::from(meter) + 1;
+            let value = i32::from(meter) - 9;
+            self.place(
+                1,
+                Reading {
+                    meter,
+                    ..placed('S', id, start, value)
+                },
+            );
+        }
+        self.boundaries(start + self.state.settings.bucket);
+    }
+
+    /// The bytes of a result's place in the send-back store.
+    pub fn held(&mut self, id: u64) -> &mut [u8] {
+        let start = (id as usize - 1) % 512 * RECORD_BYTES;
+        &mut self.lent.sent[start..start + RECORD_BYTES]
     }
 
     /// The kept readings of a line.
     pub fn kept(&self, line: usize) -> &[Reading] {
         let start = (line - 1) * SHARE;
-        &self.store[start..start + self.state.heads[line - 1].kept as usize]
+        &self.lent.store[start..start + self.state.heads[line - 1].kept as usize]
     }
 
     /// Sets every line's boundary, as a host may.

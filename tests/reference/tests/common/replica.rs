@@ -1,9 +1,11 @@
-//! A replica's list: the same stable input on each line, all else made anew.
+//! A replica's list: the same stable input on each line, all else made anew, its displays' calls too.
 
 use std::collections::VecDeque;
 
-use reference::generate::Random;
+use reference::generate::{aimed_display_call, Random};
 use reference::monitor::Run;
+use reference::node::{free_places, METERS};
+use reference::record::AREA_BYTES;
 use reference::text::{write_settings, Call};
 
 use super::{plain, reading, undo};
@@ -55,6 +57,7 @@ impl Replica<'_> {
 
     /// One more call or a few; whether some line's input went on.
     fn turn(&mut self) -> bool {
+        self.displays();
         let line = self.random.below(self.waiting.len() as u64) as usize;
         let now = self.now();
         match self.random.below(6) {
@@ -71,6 +74,18 @@ impl Replica<'_> {
                 false
             }
             _ => self.input(line, now),
+        }
+    }
+
+    /// The call of a display now and then; where places may be wanting, all acknowledge in the end.
+    fn displays(&mut self) {
+        if self.random.once_in(20) {
+            let call = aimed_display_call(self.random, &self.run.state);
+            let area = &mut [0; AREA_BYTES];
+            self.run.feed_display(&call, area).expect("a sound reply");
+        }
+        if free_places(&self.run.state) < METERS && self.random.once_in(50) {
+            self.run.acknowledge_all().expect("sound replies");
         }
     }
 

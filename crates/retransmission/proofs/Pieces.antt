@@ -1,4 +1,4 @@
--- The records read from an area that they were laid into are their bytes, one record's after the other's. Assumes nothing.
+-- The records read from an area that they were laid into are their bytes, one record's after the other's.
 use Prim.Native.Nat.{ℕ}
 use mathlib.Core.Path.{_≡_, refl, _∙_, ap, ap₂}
 use mathlib.Core.List.{List, [], _∷_, _++_, map, append-assoc}
@@ -9,10 +9,10 @@ use Rattle.record.specs.declared.Record.{Record}
 use Rattle.record.specs.Sizes.{recordBytes}
 use Rattle.record.specs.Layout.{bytesOf, allBytes}
 use Rattle.record.proofs.BytesOf.{length-bytesOf}
-use Rattle.consistency.specs.Runs.{pieces}
+use Rattle.retransmission.specs.Places.{pieces}
 
 -- whatever stands behind them
-pieces-allBytes : (rs : List Record) (rest : List ℕ) → pieces (length rs) (allBytes rs ++ rest) ≡ map bytesOf rs
+pub pieces-allBytes : (rs : List Record) (rest : List ℕ) → pieces (length rs) (allBytes rs ++ rest) ≡ map bytesOf rs
 unfolding pieces allBytes
 pieces-allBytes [] rest = refl
 pieces-allBytes (r ∷ rs) rest =

@@ -13,7 +13,6 @@ use Rattle.settings.specs.declared.Settings.{Settings}
 use Rattle.journal.specs.declared.Call.{Call}
 use Rattle.journal.specs.Kinds.{letterS, letterT, letterB}
 use Rattle.record.specs.Sizes.{recordBytes}
-use Rattle.store.specs.Columns.{Columns}
 use Rattle.store.specs.Order.{inBucket}
 use Rattle.operator.specs.Meters.{meterCount}
 use Rattle.operator.specs.Results.{plain}
@@ -24,12 +23,12 @@ use Rattle.protocol.specs.declared.Rule.the-variants as Rule
 use Rattle.protocol.specs.Rules.{ruleOf, boundaryAt, worked, act}
 use Rattle.protocol.specs.Refusals.{answerTo}
 use Rattle.protocol.specs.Calls.{input, done, accepted, outcomeOf}
 use Rattle.node.specs.declared.State.{State}
 use Rattle.node.specs.Sizes.{recordsPerCall}
-use Rattle.node.specs.View.{view}
+use Rattle.node.specs.View.{Lent, view}
 use Rattle.node.specs.Calls.{Called, calledOn}
 use Rattle.node.proofs.Results.{length-work}
 use Rattle.node.proofs.Calls.{Untouched, AcceptedOn, either-way}
 
 boundary-few : (s : Settings) (j : ℕ) → length (boundaryAt s j) ≤ 1
 unfolding boundaryAt
@@ -41,11 +40,11 @@ boundary-few s j =
     ]
 
 module _ (s : Settings) (n : Node) (meters : length (n .operator .meters) ≡ meterCount) where
-  worked-few : (kind j : ℕ) → length (worked s kind j n .records) ≤ meterCount
+  pub worked-few : (kind j : ℕ) → length (worked s kind j n .records) ≤ meterCount
   unfolding worked
   worked-few kind j = length-work s kind j (inBucket (s .bucket) j (keptOf (n .lines))) (n .operator) meters
 
-  act-few : (rule : Rule) → length (act s n rule .records) ≤ recordsPerCall
+  pub act-few : (rule : Rule) → length (act s n rule .records) ≤ recordsPerCall
   unfolding act
   act-few Rule.Withdraw = omega arith
   act-few Rule.WorkStable =
@@ -77,10 +76,10 @@ module _ (s : Settings) (n : Node) (meters : length (n .operator .meters) ≡ me
 abbrev pub Fewest : List ℕ → Called → Type 0
 Fewest area q = (q .records ≤ recordsPerCall) × (q .records * recordBytes ≤ length area)
 
-module _ (st : State) (x : Columns) (text area : List ℕ) (meters : length (st .operator .meters) ≡ meterCount) where
-  view-few : (k : Call) → length (outcomeOf (st .settings) (view st x) k .records) ≤ recordsPerCall
+module _ (st : State) (x : Lent) (text area : List ℕ) (meters : length (st .operator .meters) ≡ meterCount) where
+  view-few : (k : Call) → length (outcomeOf (st .settings) (view st (x .readings)) k .records) ≤ recordsPerCall
   unfolding view
-  view-few k = outcome-few (st .settings) (view st x) meters k
+  view-few k = outcome-few (st .settings) (view st (x .readings)) meters k
 
   pub called-few : (calledOn st x text area .records ≤ recordsPerCall) × (calledOn st x text area .records * recordBytes ≤ length area)
   called-few =

@@ -1,0 +1,3 @@
+-- Laws on what the displays have acknowledged.
+pub mod Lowest
+pub mod Near

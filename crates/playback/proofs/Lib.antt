@@ -1,3 +1,0 @@
--- Laws on the playback of a journal.
-pub mod Few
-pub mod Replies

@@ -1,0 +1,2 @@
+-- What a text that is played leaves.
+pub mod Replied
