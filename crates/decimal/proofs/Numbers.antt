@@ -7,9 +7,10 @@ use native.Mathlib.Omega.{arith}
 use lib.Dec.{ltb, eqb}
 use lib.ListN.{getD, drop}
 use borrow.Author.Tests.{eq-eqb, ne-eqb, lt-ltb, le-ltb, eqb-true, eqb-false, ltb-false}
-use Rattle.decimal.specs.Spelled.{runLength, runValue, misspelled, numberAt}
+use Rattle.decimal.specs.Spelled.{runLength, runValue, misspelled, numberAt, widened}
 use Rattle.decimal.specs.declared.Number.{Number}
 use Rattle.decimal.specs.declared.Number.the-variants as Number
+use Rattle.decimal.specs.declared.WideNumber.the-variants as WideNumber
 
 either-false : (x y : Bool) → (x || y) ≡ false → (x ≡ false) × (y ≡ false)
 either-false true y e = let z : _≡_ {A = ℕ} 0 1 = cc in absurd (omega arith)
@@ -67,3 +68,14 @@ module _ (most : ℕ) (s : List ℕ) (at : ℕ) where
 
   pub number-most : (v e : ℕ) → numberAt most s at ≡ Number.Value v e → v ≤ most
   number-most v e q = let r = number-run v e q in omega arith
+
+-- what was read where 64 bits are read
+pub widened-value : (n : Number) (v e : ℕ) → widened n ≡ WideNumber.Value v e → n ≡ Number.Value v e
+unfolding widened
+widened-value (Number.Value w f) v e q = cc
+widened-value Number.Malformed v e q = let z : _≡_ {A = ℕ} 0 1 = cc in absurd (omega arith)
+
+pub widened-none : (n : Number) → widened n ≡ WideNumber.Malformed → n ≡ Number.Malformed
+unfolding widened
+widened-none (Number.Value v e) q = let z : _≡_ {A = ℕ} 0 1 = cc in absurd (omega arith)
+widened-none Number.Malformed q = refl

@@ -9,6 +9,10 @@ use lib.IntN.{pos, negℤ}
 use lib.ListN.{getD, drop}
 use Rattle.decimal.specs.declared.Number.{Number}
 use Rattle.decimal.specs.declared.Number.the-variants as Number
+use Rattle.decimal.specs.declared.WideNumber.{WideNumber}
+use Rattle.decimal.specs.declared.WideNumber.the-variants as WideNumber
+use Rattle.decimal.specs.declared.Run.{Run}
+use Rattle.decimal.specs.declared.Run.the-variants as Run
 use Rattle.decimal.specs.declared.Integer.{Integer}
 use Rattle.decimal.specs.declared.Integer.the-variants as Integer
 
@@ -30,6 +34,12 @@ unfoldable pub runValue : ℕ → List ℕ → ℕ
 runValue v [] = v
 runValue v (b ∷ s) = cond (isDigit b) (runValue (v * 10 + (b - 48)) s) v
 
+-- the digits that the text s has from `at` on
+unfoldable pub runAt : List ℕ → ℕ → Run
+runAt s at =
+    let t = drop at s in
+    cond (ltb (runValue 0 t) (2 ^ 64)) (Run.Digits (runValue 0 t) (at + runLength t)) Run.Past
+
 -- no digit at all, or a zero before another digit
 unfoldable pub misspelled : List ℕ → Bool
 misspelled t = eqb (runLength t) 0 || (eqb (getD t 0 0) 48 && ltb 1 (runLength t))
@@ -39,6 +49,11 @@ unfoldable pub numberAt : ℕ → List ℕ → ℕ → Number
 numberAt most s at =
     let t = drop at s in
     cond (misspelled t || ltb most (runValue 0 t)) Number.Malformed (Number.Value (runValue 0 t) (at + runLength t))
+
+-- the same number where 64 bits are read
+unfoldable pub widened : Number → WideNumber
+widened (Number.Value v e) = WideNumber.Value v e
+widened Number.Malformed = WideNumber.Malformed
 
 -- the negative number whose magnitude was read: not zero, which has no minus
 unfoldable pub negated : Number → Integer

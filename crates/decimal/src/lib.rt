@@ -1,14 +1,20 @@
 // Decimal numbers in text: read from a place on, and written into a lent area.
 ghost use mathlib.Core.Path.{_≡_};
-ghost use Prim.Native.Nat.{_+_, _≤_, _^_, min};
-ghost use lib.ListN.{length, drop};
+ghost use Prim.Native.Nat.{_+_, _≤_, _^_};
+ghost use lib.ListN.{length};
 ghost use Rattle.area.specs.Laid.{laid};
 ghost use Rattle.decimal.specs.Decimal.{digits, decimal};
-ghost use Rattle.decimal.specs.Spelled.{runLength, runValue, numberAt, negated, integerAt};
+ghost use Rattle.decimal.specs.Spelled.{runAt, numberAt, widened, negated, integerAt};
 
 // An unsigned number that a text spells from a place on, with the place behind it.
 pub enum Number {
     Value(u32, usize),
+    Malformed,
+}
+
+// One of 64 bits.
+pub enum WideNumber {
+    Value(u64, usize),
     Malformed,
 }
 
@@ -18,11 +24,16 @@ pub enum Integer {
     Malformed,
 }
 
-// The digits that stand in a text from a place on: their value, exact below 2^32, and the place behind them.
-struct Run {
-    value: u64,
-    end: usize,
+// The digits that stand in a text from a place on: their value and the place behind them, or that 64 bits do not hold the value.
+enum Run {
+    Digits(u64, usize),
+    Past,
 }
+
+// The widest number of 64 bits without its last digit, and that digit.
+const TENTH: u64 = 1_844_674_407_370_955_161;
+
+const LAST_DIGIT: u64 = 5;
 
 // A byte as a number of 64 bits.
 fn wide(b: u8) -> u64
@@ -31,58 +42,64 @@ fn wide(b: u8) -> u64
     b as u64
 }
 
-// The run of digits from `at` on; past 2^32 the value is left as it is, so that it never wraps.
+// The run of digits from `at` on.
 fn scan(s: &[u8], at: usize) -> Run
-    ensures { λ r. ⌜ r .end ≡ at + runLength (drop at (now (s .entry))) ⌝ }
-    ensures { λ r. ⌜ min (r .value) (2 ^ 32) ≡ min (runValue 0 (drop at (now (s .entry)))) (2 ^ 32) ⌝ }
+    ensures { λ r. ⌜ r ≡ runAt (now (s .entry)) at ⌝ }
 {
     let mut value: u64 = 0;
     let mut i = at;
     while i < s.len() {
         let b = s[i];
         if b < 48 {
-            return Run {
-                value: value,
-                end: i,
-            };
+            return Run::Digits(value, i);
         }
         if 57 < b {
-            return Run {
-                value: value,
-                end: i,
-            };
+            return Run::Digits(value, i);
         }
-        if value < 4294967296 {
-            value = value * 10 + wide(b - 48);
+        let digit = wide(b - 48);
+        if TENTH <= value {
+            if TENTH < value {
+                return Run::Past;
+            }
+            if LAST_DIGIT < digit {
+                return Run::Past;
+            }
         }
+        value = value * 10 + digit;
         i += 1;
     }
-    Run {
-        value: value,
-        end: i,
+    Run::Digits(value, i)
+}
+
+// The unsigned number of 64 bits, of at most `most`, that the text spells from `at` on.
+pub fn read_wide(s: &[u8], at: usize, most: u64) -> WideNumber
+    ensures { λ r. ⌜ r ≡ widened (numberAt most (now (s .entry)) at) ⌝ }
+{
+    let Run::Digits(value, end) = scan(s, at) else {
+        return WideNumber::Malformed;
+    };
+    let count = end - at;
+    if count == 0 {
+        return WideNumber::Malformed;
     }
+    if s[at] == 48 {
+        if 1 < count {
+            return WideNumber::Malformed;
+        }
+    }
+    if most < value {
+        return WideNumber::Malformed;
+    }
+    WideNumber::Value(value, end)
 }
 
 // The unsigned number, of at most `most`, that the text spells from `at` on.
 pub fn read_number(s: &[u8], at: usize, most: u32) -> Number
     ensures { λ r. ⌜ r ≡ numberAt most (now (s .entry)) at ⌝ }
 {
-    let run = scan(s, at);
-    let end = run.end;
-    let value = run.value;
-    let count = end - at;
-    if count == 0 {
+    let WideNumber::Value(value, end) = read_wide(s, at, most as u64) else {
         return Number::Malformed;
-    }
-    if s[at] == 48 {
-        if 1 < count {
-            return Number::Malformed;
-        }
-    }
-    let limit = most as u64 + 1;
-    if limit <= value {
-        return Number::Malformed;
-    }
+    };
     Number::Value(value as u32, end)
 }
 

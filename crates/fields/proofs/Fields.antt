@@ -58,7 +58,7 @@ no-integer v e q = let z : _≡_ {A = ℕ} 0 1 = cc in omega arith
 behind : (key t : List ℕ) (at : ℕ) → at + length key + length t ≡ at + length (key ++ t)
 behind key t at = omega (arith, length-append key t)
 
-module _ (key s : List ℕ) (most at v : ℕ) (h : most < 2 ^ 32) where
+module _ (key s : List ℕ) (most at v : ℕ) (h : most < 2 ^ 64) where
   pub number-field-sound : (e : ℕ) → numberField key most s at ≡ Number.Value v e → Spells s at (key ++ digits v) e × (v ≤ most)
   unfolding numberField
   number-field-sound e q =

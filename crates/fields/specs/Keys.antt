@@ -1,4 +1,4 @@
--- The keys of the settings line, the journal line and the text of a record, in ASCII. Assumes nothing.
+-- The keys of the settings line, the journal line, the lines of commands and the text of a record, in ASCII.
 use Prim.Native.Nat.{ℕ}
 use mathlib.Core.List.{List, [], _∷_}
 
@@ -22,6 +22,9 @@ highKey = 104 ∷ 105 ∷ 103 ∷ 104 ∷ []
 
 abbrev pub displaysKey : List ℕ
 displaysKey = 100 ∷ 105 ∷ 115 ∷ 112 ∷ 108 ∷ 97 ∷ 121 ∷ 115 ∷ []
+
+abbrev pub displayKey : List ℕ
+displayKey = 100 ∷ 105 ∷ 115 ∷ 112 ∷ 108 ∷ 97 ∷ 121 ∷ []
 
 abbrev pub nowKey : List ℕ
 nowKey = 110 ∷ 111 ∷ 119 ∷ []

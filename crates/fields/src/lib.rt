@@ -6,10 +6,12 @@ ghost use lib.IntN.{pos};
 ghost use lib.ListN.{length, drop};
 ghost use Rattle.area.specs.Laid.{laid};
 ghost use Rattle.decimal.specs.Decimal.{decimal};
+ghost use Rattle.decimal.specs.Spelled.{widened};
 ghost use Rattle.fields.specs.Line.{nextLine};
 ghost use Rattle.fields.specs.Field.{startsWith, endsLine, numberField, integerField};
 use decimal::Integer;
 use decimal::Number;
+use decimal::WideNumber;
 
 // What a writer of text into a lent area answers: the text's length, or why nothing was written.
 pub enum Written {
@@ -67,6 +69,17 @@ pub fn number_field(s: &[u8], at: usize, key: &[u8], most: u32) -> Number
         decimal::read_number(s, at + key.len(), most)
     } else {
         Number::Malformed
+    }
+}
+
+// The unsigned number of 64 bits, of at most `most`, of the field that the text has from `at` on.
+pub fn wide_field(s: &[u8], at: usize, key: &[u8], most: u64) -> WideNumber
+    ensures { λ r. ⌜ r ≡ widened (numberField (now (key .entry)) most (now (s .entry)) at) ⌝ }
+{
+    if has_key(s, at, key) {
+        decimal::read_wide(s, at + key.len(), most)
+    } else {
+        WideNumber::Malformed
     }
 }
 

@@ -93,8 +93,8 @@ call-sound s at f c q =
 pub call-complete : (s r : List ℕ) (at : ℕ) (c : Call) → CallFits c → drop at s ≡ lineText c ++ r → callAt s at ≡ CallAt.Line c (at + length (lineText c))
 unfolding callAt callHead callTail decimal withNumber withInteger isDigit
 call-complete s r at c fit p =
-    let most : 2 ^ 32 - 1 < 2 ^ 32 = omega arith in
-    let byte : 255 < 2 ^ 32 = omega arith in
+    let most : 2 ^ 32 - 1 < 2 ^ 64 = omega arith in
+    let byte : 255 < 2 ^ 64 = omega arith in
     let tail = callTail c ++ r in
     let p0 : drop at s ≡ callHead c ++ tail = p ∙ ap (λ (t : List ℕ). t ++ r) (text-parts c) ∙ append-assoc (callHead c) (callTail c) r in
     number-field-complete (first nowKey) s (2 ^ 32 - 1) at (c .now .0) most _ (omega (arith, fit .now)) refl (p0 ∙ append-assoc (first nowKey ++ digits (c .now .0)) _ tail) λ e1 n1 q1 p1.

@@ -86,7 +86,7 @@ settings-sound s at f x q =
 pub settings-complete : (s r : List ℕ) (at : ℕ) (x : Settings) → SettingsFit x → drop at s ≡ settingsText x ++ r → settingsAt s at ≡ SettingsAt.Line x (at + length (settingsText x))
 unfolding settingsAt stretches withNumber withInteger isDigit
 settings-complete s r at x fit p =
-    let most : 2 ^ 32 - 1 < 2 ^ 32 = omega arith in
+    let most : 2 ^ 32 - 1 < 2 ^ 64 = omega arith in
     let p0 : drop at s ≡ stretches x ++ r = p ∙ ap (λ (t : List ℕ). t ++ r) (text-stretches x) in
     number-field-complete (first linesKey) s (2 ^ 32 - 1) at (x .lines) most _ (omega (arith, fit .lines)) refl (p0 ∙ append-assoc (first linesKey ++ digits (x .lines)) _ r) λ e1 n1 q1 p1.
     number-field-complete (later bucketKey) s (2 ^ 32 - 1) e1 (x .bucket) most _ (omega (arith, fit .bucket)) refl (p1 ∙ append-assoc (later bucketKey ++ digits (x .bucket)) _ r) λ e2 n2 q2 p2.

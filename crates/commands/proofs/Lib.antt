@@ -1,0 +1,3 @@
+-- Laws on the lines of commands.
+pub mod CommandLines
+pub mod Exact

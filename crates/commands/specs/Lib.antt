@@ -1,0 +1,3 @@
+-- Definitions on the lines of commands.
+pub mod CommandLine
+pub mod ReadLine

@@ -1,0 +1,39 @@
+-- `fields::wide_field` meets its contract: the key is there and the number is read behind it, or nothing is read. Assumes nothing.
+use native.Mathlib.Omega.{arith}
+use mathlib.Core.Path.{_≡_, sym, _∙_}
+use mathlib.Core.Bool.{true, false}
+use lib.ListN.{drop, length-drop}
+use Rattle.decimal.specs.Spelled.{widened}
+use Rattle.fields.specs.Field.{startsWith, numberField}
+use Rattle.fields.proofs.Keys.{starts-room}
+use Rattle.fields.proofs.wide_field.Statement.{statement}
+use Rattle.fields.proofs.wide_field.Tie as tie
+
+has-key-requires : tie.Need-has-key-requires
+has-key-requires c κs = tt
+
+add-read-wide : tie.Need-add-read-wide
+add-read-wide c =
+    let a = c .before .before .before .before .args in
+    let stands : startsWith (a .key .now) (drop (a .at) (a .s .now)) ≡ true = sym (c .before .has-key .ensures) ∙ c .if1 .taken in
+    omega (arith, starts-room (a .key .now) (drop (a .at) (a .s .now)) stands, length-drop (a .at) (a .s .now))
+
+read-wide-requires : tie.Need-read-wide-requires
+read-wide-requires c κs = tt
+
+returns : tie.Need-returns
+unfolding numberField widened
+returns c =
+    let a = c .before .before .before .before .before .args in
+    let stands : startsWith (a .key .now) (drop (a .at) (a .s .now)) ≡ true = sym (c .before .before .has-key .ensures) ∙ c .before .if1 .taken in
+    rw stands (c .read-wide .ensures)
+
+returns-2 : tie.Need-returns-2
+unfolding numberField widened
+returns-2 c =
+    let a = c .before .before .before .before .args in
+    let fails : startsWith (a .key .now) (drop (a .at) (a .s .now)) ≡ false = sym (c .before .has-key .ensures) ∙ c .if1 .left in
+    rw fails
+
+pub wide-field-spec : {M : Type 1} → statement M
+wide-field-spec = tie.close (tie.spec has-key-requires add-read-wide read-wide-requires returns returns-2)
