@@ -1,70 +1,65 @@
--- Ids tested one after the other: all pass, or one that fails is found. Assumes nothing.
-use Prim.Native.Nat.{ℕ, zero, suc, _+_, _-_, _≤_, _<_}
-use mathlib.Core.Path.{_≡_, refl, sym, _∙_, ap, ap₂}
-use mathlib.Core.Bool.{Bool, true, false, _&&_, and-false}
-use mathlib.Core.List.{List, [], _∷_, _++_}
+-- Ids near the newest stable one: all of them, exactly if the greatest is not above it and the least not more than 512 below it.
+use Prim.Native.Nat.{ℕ, _+_, _-_, _≤_, _<_, min}
+use mathlib.Core.Path.{_≡_, refl, sym, _∙_, ap}
+use mathlib.Core.Bool.{Bool, true, false, _&&_, and-true, and-false}
+use mathlib.Core.List.{List, [], _∷_}
 use native.Mathlib.Omega.{arith}
 use borrow.Author.Tests.{le-leb, lt-leb}
 use lib.Dec.{leb}
-use lib.ListN.{length, take, getD}
-use lib.Seq.{take-suc, length-take-le, getD-take}
+use lib.ListN.{length}
 use Rattle.store.specs.Lists.{allOf}
 use Rattle.store.proofs.Choices.{and-parts}
 use Rattle.retransmission.specs.Sizes.{heldResults}
 use Rattle.protocol.specs.Displays.{leastOf}
+use Rattle.protocol.proofs.Tests.{leb-min}
 use Rattle.node.specs.Shape.{displayOk}
 use Rattle.node.proofs.Shape.{DisplayShape, display-shape}
+use Rattle.displays.specs.SpanOf.{greatestOf}
+use Rattle.displays.proofs.Highest.{all-at-most}
 
-all-fails :
-    {A : Type 0} (test : A → Bool) (xs : List A) (i : ℕ) (d : A) → i < length xs → test (getD xs i d) ≡ false → allOf test xs ≡ false
-unfolding allOf
-all-fails test [] i d l e = absurd (omega arith)
-all-fails test (x ∷ xs) zero d l e = rw e
-all-fails test (x ∷ xs) (suc i) d l e = ap (λ (b : Bool). test x && b) (all-fails test xs i d (omega arith) e) ∙ and-false (test x)
+and-crossed : (a b c d : Bool) → (a && b) && (c && d) ≡ (a && c) && (b && d)
+and-crossed true true c d = refl
+and-crossed true false c d = sym (and-false c)
+and-crossed false b c d = refl
 
-all-more : {A : Type 0} (test : A → Bool) (xs : List A) (a : A) → allOf test xs ≡ true → test a ≡ true → allOf test (xs ++ a ∷ []) ≡ true
-unfolding allOf
-all-more test [] a h e = rw e
-all-more test (x ∷ xs) a h e =
-    (elim (test x) as (λ b. b && allOf test xs ≡ true → b && allOf test (xs ++ a ∷ []) ≡ true) [
-      | true ↦ λ h. all-more test xs a h e
-      | false ↦ λ h. h
-    ])
-    h
+-- the two sides of the test, each for all ids at once
+near-sides :
+    (newest : ℕ) (ids : List ℕ) → 0 < length ids →
+    allOf (displayOk newest) ids ≡ allOf (λ (id : ℕ). leb id newest) ids && leb newest (leastOf ids + heldResults)
+unfolding allOf leastOf displayOk
+near-sides newest [] l = absurd (omega arith)
+near-sides newest (a ∷ []) l =
+    and-true (leb a newest && leb newest (a + heldResults)) ∙
+    ap (λ (b : Bool). b && leb newest (a + heldResults)) (sym (and-true (leb a newest)))
+near-sides newest (a ∷ b ∷ ids) l =
+    let rest = leastOf (b ∷ ids) in
+    let own = leb a newest && leb newest (a + heldResults) in
+    let lower : min (a + heldResults) (rest + heldResults) ≡ min a rest + heldResults = omega arith in
+    ap (_&&_ own) (near-sides newest (b ∷ ids) (omega arith)) ∙
+    and-crossed (leb a newest) (leb newest (a + heldResults)) (allOf (λ (id : ℕ). leb id newest) (b ∷ ids))
+    (leb newest (rest + heldResults)) ∙
+    ap (_&&_ (leb a newest && allOf (λ (id : ℕ). leb id newest) (b ∷ ids)))
+    (sym (leb-min newest (a + heldResults) (rest + heldResults)) ∙ ap (leb newest) lower)
 
--- the ids so far are near
-abbrev pub NearSoFar : ℕ → List ℕ → ℕ → Type 0
-NearSoFar newest ids i = allOf (displayOk newest) (take i ids) ≡ true
+-- the same by the least and the greatest id
+module _ (newest : ℕ) (ids : List ℕ) (some : 0 < length ids) where
+  sides : allOf (displayOk newest) ids ≡ leb (greatestOf ids) newest && leb newest (leastOf ids + heldResults)
+  sides = near-sides newest ids some ∙ ap (λ (b : Bool). b && leb newest (leastOf ids + heldResults)) (all-at-most newest ids)
 
-pub near-start : (newest : ℕ) (ids : List ℕ) → NearSoFar newest ids 0
-unfolding allOf
-near-start newest ids = refl
+  pub ahead-fails : newest < greatestOf ids → allOf (displayOk newest) ids ≡ false
+  ahead-fails h = sides ∙ rw (lt-leb (greatestOf ids) newest h)
 
-pub near-turn :
-    (newest : ℕ) (ids : List ℕ) (i : ℕ) → i < length ids → NearSoFar newest ids i → getD ids i 0 ≤ newest →
-    newest - getD ids i 0 ≤ heldResults → NearSoFar newest ids (i + 1)
-unfolding displayOk
-near-turn newest ids i l v known near =
-    let id = getD ids i 0 in
-    let one : suc i ≡ i + 1 = omega arith in
-    let passes : leb id newest && leb newest (id + heldResults) ≡ true =
-    ap₂ (λ (a b : Bool). a && b) (le-leb id newest known) (le-leb newest (id + heldResults) (omega arith)) in
-    ap (λ (m : ℕ). allOf (displayOk newest) (take m ids)) (sym one) ∙ ap (allOf (displayOk newest)) (take-suc ids i 0 l) ∙
-    all-more (displayOk newest) (take i ids) id v passes
+  pub far-fails : greatestOf ids ≤ newest → heldResults < newest - leastOf ids → allOf (displayOk newest) ids ≡ false
+  far-fails known h = sides ∙ rw (le-leb (greatestOf ids) newest known, lt-leb newest (leastOf ids + heldResults) (omega arith))
 
-module _ (newest : ℕ) (ids : List ℕ) (displays i : ℕ) (below : i < displays) (within : displays ≤ length ids) where
-  fails : displayOk newest (getD ids i 0) ≡ false → allOf (displayOk newest) (take displays ids) ≡ false
-  fails e =
-      all-fails (displayOk newest) (take displays ids) i 0 (omega (arith, length-take-le displays ids within))
-      (ap (displayOk newest) (getD-take displays ids i 0 below) ∙ e)
+  pub near-passes : greatestOf ids ≤ newest → newest - leastOf ids ≤ heldResults → allOf (displayOk newest) ids ≡ true
+  near-passes known near = sides ∙ rw (le-leb (greatestOf ids) newest known, le-leb newest (leastOf ids + heldResults) (omega arith))
 
-  pub ahead-fails : newest < getD ids i 0 → false ≡ allOf (displayOk newest) (take displays ids)
-  unfolding displayOk
-  ahead-fails h = sym (fails (rw (lt-leb (getD ids i 0) newest h)))
-
-  pub far-fails : getD ids i 0 ≤ newest → heldResults < newest - getD ids i 0 → false ≡ allOf (displayOk newest) (take displays ids)
-  unfolding displayOk
-  far-fails known h = sym (fails (rw (le-leb (getD ids i 0) newest known, lt-leb newest (getD ids i 0 + heldResults) (omega arith))))
+pub least-below-greatest : (ids : List ℕ) → 0 < length ids → leastOf ids ≤ greatestOf ids
+unfolding leastOf greatestOf
+least-below-greatest [] l = absurd (omega arith)
+least-below-greatest (a ∷ []) l = omega arith
+least-below-greatest (a ∷ b ∷ ids) l = omega arith
 
 -- where all are near, so is the least of them
 pub least-near : (newest : ℕ) (ids : List ℕ) → 0 < length ids → allOf (displayOk newest) ids ≡ true → DisplayShape newest (leastOf ids)

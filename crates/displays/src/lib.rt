@@ -2,42 +2,44 @@
 ghost use mathlib.Core.Path.{_≡_};
 ghost use Prim.Native.Nat.{_≤_};
 ghost use lib.ListN.{take};
-ghost use Rattle.store.specs.Lists.{allOf};
 ghost use Rattle.protocol.specs.Displays.{leastOf};
-ghost use Rattle.node.specs.Shape.{displayOk};
+ghost use Rattle.displays.specs.SpanOf.{spanOf};
+
+// The least and the greatest of some ids.
+pub struct Span {
+    pub least: u64,
+    pub greatest: u64,
+}
+
+// The least and the greatest of the first ids, so many of them.
+pub fn span_of(ids: [u64; node::DISPLAYS], displays: usize) -> Span
+    requires { ⌜ (1 ≤ displays) × (displays ≤ 4) ⌝ }
+    ensures { λ r. ⌜ r ≡ spanOf (take displays ids) ⌝ }
+{
+    let mut least = ids[0];
+    let mut greatest = ids[0];
+    let mut i = 1;
+    while i < displays {
+        let id = ids[i];
+        if id < least {
+            least = id;
+        }
+        if greatest < id {
+            greatest = id;
+        }
+        i += 1;
+    }
+    Span {
+        least: least,
+        greatest: greatest,
+    }
+}
 
 // The least of the first ids, so many of them.
 pub fn least(ids: [u64; node::DISPLAYS], displays: usize) -> u64
     requires { ⌜ (1 ≤ displays) × (displays ≤ 4) ⌝ }
     ensures { λ r. ⌜ r ≡ leastOf (take displays ids) ⌝ }
 {
-    let mut lowest = ids[0];
-    let mut i = 1;
-    while i < displays {
-        let id = ids[i];
-        if id < lowest {
-            lowest = id;
-        }
-        i += 1;
-    }
-    lowest
-}
-
-// Whether each of the first ids is not above the newest stable id, and not more than 512 below it.
-pub fn are_near(ids: [u64; node::DISPLAYS], displays: usize, newest: u64) -> bool
-    requires { ⌜ displays ≤ 4 ⌝ }
-    ensures { λ r. ⌜ r ≡ allOf (displayOk newest) (take displays ids) ⌝ }
-{
-    let mut i = 0;
-    while i < displays {
-        let id = ids[i];
-        if newest < id {
-            return false;
-        }
-        if retransmission::HELD_RESULTS < newest - id {
-            return false;
-        }
-        i += 1;
-    }
-    true
+    let span = span_of(ids, displays);
+    span.least
 }

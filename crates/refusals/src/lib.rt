@@ -1,9 +1,9 @@
 // Refusals 7 to 14: what is wrong with a call that was read, whatever rule applies; and the number of 15, which asks for the rule.
 ghost use mathlib.Core.Path.{_≡_};
 ghost use mathlib.Core.List.{_++_};
-ghost use Prim.Native.Nat.{_+_, _*_, _≤_};
+ghost use Prim.Native.Nat.{_+_, _-_, _*_, _≤_};
 ghost use lib.Dec.{eqb};
-ghost use lib.ListN.{length, take};
+ghost use lib.ListN.{length, take, getD};
 ghost use Rattle.journal.specs.Kinds.{letterT};
 ghost use Rattle.store.specs.Lists.{Every, someOf};
 ghost use Rattle.store.specs.Sizes.{readingsPerLine};
@@ -11,11 +11,11 @@ ghost use Rattle.store.specs.Columns.{Columns, storeLength};
 ghost use Rattle.store.specs.Parts.{share};
 ghost use Rattle.columns.specs.Shape.{isReadingKind};
 ghost use Rattle.protocol.specs.Kinds.{Kind, kindOf, isStep};
-ghost use Rattle.protocol.specs.Node.{Line, keepsTentative};
+ghost use Rattle.protocol.specs.Node.{Line, noLine, keepsTentative};
 ghost use Rattle.protocol.specs.Refusals.{firstFailed, lineOf, wrongLine, unusedField, wrongMeter, wrongId, tooEarly, isHeldBack, isFull};
 ghost use Rattle.protocol.specs.Refusals.{callTests, lineTests};
 ghost use Rattle.node.specs.declared.State.{State as Whole};
-ghost use Rattle.node.specs.View.{view};
+ghost use Rattle.node.specs.View.{headOf, view};
 ghost use Rattle.refusals.specs.Tests.{StandsIn};
 use clock::ArrivalTick;
 use journal::Call;
@@ -168,6 +168,21 @@ fn line_refusal(head: LineHead, kinds: &[u8], base: usize, k: Call) -> u32
     0
 }
 
+// The first of refusals 11 to 14 for the line that a call names. A function of its own, so that the heads are copied only where they are
+// looked at.
+fn named_line_refusal(heads: [LineHead; node::HEADS], kinds: &[u8], k: Call) -> u32
+    requires { let i = k .line - 1 in
+        ⌜ (1 ≤ k .line) × (k .line ≤ 8) × (i * readingsPerLine + getD heads i (headOf noLine) .kept ≤ length (now kinds)) ⌝ }
+    ensures { λ r.
+        let i = k .line - 1 in
+        ⌜ ((l : Line) → StandsIn (getD heads i (headOf noLine)) (now (kinds .entry)) (i * readingsPerLine) l →
+        r ≡ firstFailed (lineTests l k (kindOf (k .kind)))) ⌝ }
+{
+    let i = k.line as usize - 1;
+    let head = heads[i];
+    line_refusal(head, kinds, i * store::READINGS_PER_LINE, k)
+}
+
 // The number of the first of refusals 7 to 14 that fits a call, 0 if none does.
 pub fn refusal(
     s: Settings,
@@ -191,7 +206,5 @@ pub fn refusal(
     if is_step(k.kind) {
         return 0;
     }
-    let i = k.line as usize - 1;
-    let head = heads[i];
-    line_refusal(head, kinds, i * store::READINGS_PER_LINE, k)
+    named_line_refusal(heads, kinds, k)
 }

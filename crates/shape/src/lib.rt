@@ -174,10 +174,14 @@ fn are_displays_ok(ids: [u64; node::DISPLAYS], displays: usize, newest: u64, sen
         let least = leastOf own in
         ⌜ r ≡ (allOf (displayOk newest) own && placesOk (placesOf (now (sent .entry))) least (newest - least)) ⌝ }
 {
-    if !displays::are_near(ids, displays, newest) {
+    let acknowledged = displays::span_of(ids, displays);
+    if newest < acknowledged.greatest {
         return false;
     }
-    retransmission::are_held(sent, displays::least(ids, displays), newest)
+    if retransmission::HELD_RESULTS < newest - acknowledged.least {
+        return false;
+    }
+    retransmission::are_held(sent, acknowledged.least, newest)
 }
 
 // The number of the refusal that is the host's to mend, 0 if there is none; `room` is the length of the output area.

@@ -8,9 +8,8 @@ use lib.ListN.{length}
 use Rattle.settings.specs.declared.Settings.{Settings}
 use Rattle.operator.proofs.FromPlace.{length-mapped}
 use Rattle.protocol.specs.Kinds.{kindOf}
-use Rattle.protocol.specs.Node.{noLine}
 use Rattle.protocol.specs.Refusals.{lineOf}
-use Rattle.node.specs.View.{view, headOf}
+use Rattle.node.specs.View.{view}
 use Rattle.node.proofs.Lines.{small-at}
 use Rattle.refusals.proofs.Halves.{names-line, step-passes, answer-early, answer-late}
 use Rattle.refusals.proofs.Lines.{viewed-line-stands}
@@ -41,54 +40,31 @@ returns-2 c =
     let line = lineOf (view st x) (a .k) in
     sym (step-passes line (a .k) (kindOf (a .k .kind)) step) ∙ answer-late (a .s) (a .clock) line (a .k) (kindOf (a .k .kind)) none
 
-cast-i : tie.Need-cast-i
-cast-i c = search needs
-
-sub-i : tie.Need-sub-i
-sub-i c =
-    let a = c .before .before .before .before .before .before .args in
-    let none = sym (c .before .before .before .before .call-refusal .ensures) ∙ c .before .before .before .if1 .left in
-    let other = sym (c .before .before .is-step .ensures) ∙ c .before .if2 .left in
-    names-line (a .s) (a .clock) (a .k) (kindOf (a .k .kind)) none other .0
-
-mul-head : tie.Need-mul-head
-mul-head c = search needs
-
-array-copy-out-head : tie.Need-array-copy-out-head
-array-copy-out-head c =
-    let a = c .before .before .before .before .before .before .args in
-    let none = sym (c .before .before .before .before .call-refusal .ensures) ∙ c .before .before .before .if1 .left in
-    let other = sym (c .before .before .is-step .ensures) ∙ c .before .if2 .left in
-    omega (arith, names-line (a .s) (a .clock) (a .k) (kindOf (a .k .kind)) none other)
-
-mul-line-refusal : tie.Need-mul-line-refusal
-mul-line-refusal c = search needs
-
-line-refusal-requires : tie.Need-line-refusal-requires
-unfolding headOf noLine
-line-refusal-requires c κs =
-    let a = c .before .before .before .before .before .before .before .args in
-    let pre = c .before .before .before .before .before .before .before .pre in
-    let none = sym (c .before .before .before .before .before .call-refusal .ensures) ∙ c .before .before .before .before .if1 .left in
-    let other = sym (c .before .before .before .is-step .ensures) ∙ c .before .before .if2 .left in
+named-line-refusal-requires : tie.Need-named-line-refusal-requires
+named-line-refusal-requires c κs =
+    let a = c .before .before .before .before .before .args in
+    let pre = c .before .before .before .before .before .pre in
+    let none = sym (c .before .before .before .call-refusal .ensures) ∙ c .before .before .if1 .left in
+    let other = sym (c .before .is-step .ensures) ∙ c .if2 .left in
     let (first, last) = names-line (a .s) (a .clock) (a .k) (kindOf (a .k .kind)) none other in
-    let long : length (a .t3) ≡ 8 = search (needs, length-mapped) in
+    let long : length (a .heads) ≡ 8 = search (needs, length-mapped) in
     let below : a .k .line - 1 < a .s .lines = omega arith in
-    omega (arith, small-at (a .s .lines) (a .t3) (a .k .line - 1) (pre .2) below (omega arith))
+    (first, omega (arith, pre .0), omega (arith, small-at (a .s .lines) (a .heads) (a .k .line - 1) (pre .2) below (omega arith), pre .1))
 
 returns-3 : tie.Need-returns-3
-unfolding headOf noLine view lineOf
+unfolding view lineOf
 returns-3 c =
     λ st x e g h room.
-    let a = c .before .before .before .before .before .before .before .before .args in
-    let pre = c .before .before .before .before .before .before .before .before .pre in
-    let none = sym (c .before .before .before .before .before .before .call-refusal .ensures) ∙ c .before .before .before .before .before .if1 .left in
-    let other = sym (c .before .before .before .before .is-step .ensures) ∙ c .before .before .before .if2 .left in
+    let a = c .before .before .before .before .before .before .args in
+    let pre = c .before .before .before .before .before .before .pre in
+    let none = sym (c .before .before .before .before .call-refusal .ensures) ∙ c .before .before .before .if1 .left in
+    let other = sym (c .before .before .is-step .ensures) ∙ c .before .if2 .left in
     let (first, last) = names-line (a .s) (a .clock) (a .k) (kindOf (a .k .kind)) none other in
-    let long : length (a .t3) ≡ 8 = search (needs, length-mapped) in
+    let long : length (a .heads) ≡ 8 = search (needs, length-mapped) in
     let below : a .k .line - 1 < a .s .lines = omega arith in
-    c .line-refusal .ensures (lineOf (view st x) (a .k))
-    (viewed-line-stands x (a .s .lines) (a .t3) (a .k .line - 1) (pre .2) below (omega arith) room st (ap (λ (s : Settings). s .lines) e) g h) ∙
+    c .named-line-refusal .ensures (lineOf (view st x) (a .k))
+    (viewed-line-stands x (a .s .lines) (a .heads) (a .k .line - 1) (pre .2) below (omega arith) room st
+    (ap (λ (s : Settings). s .lines) e) g h) ∙
     answer-late (a .s) (a .clock) (lineOf (view st x) (a .k)) (a .k) (kindOf (a .k .kind)) none
 
 pub refusal-spec : {M : Type 1} → statement M
@@ -99,10 +75,5 @@ refusal-spec =
     returns
     is-step-requires
     returns-2
-    cast-i
-    sub-i
-    mul-head
-    array-copy-out-head
-    mul-line-refusal
-    line-refusal-requires
+    named-line-refusal-requires
     returns-3)

@@ -1,0 +1,2 @@
+-- What the displays have acknowledged, at a glance.
+pub mod SpanOf
