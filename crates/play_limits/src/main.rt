@@ -2,5 +2,7 @@
 // taken (one more is refused until a bucket is worked), and windows of 16 buckets. The first gives the most records that a step can, of
 // all 64 meters; the second comes tentatively, is withdrawn and comes again.
 fn main() {
-    playback::run();
+    let mixed = false;
+    let acknowledging = false;
+    playback::run(mixed, acknowledging);
 }

@@ -1,11 +1,12 @@
-// A journal played back: settings line and journal lines in, answer lines and records out.
+// An input played: settings line, journal lines and, in a mixed input, displays' lines in, answer lines and records out.
 ghost use Prim.Native.Nat.{_<_, _≤_};
 ghost use lib.ListN.{length};
 ghost use Rattle.store.specs.Columns.{columnsOf};
 ghost use Rattle.node.specs.View.{Lent, lentOf};
-ghost use Rattle.node.specs.Calls.{calledOn};
+ghost use Rattle.node.specs.Calls.{Called};
 ghost use Rattle.reply.specs.Reply.{longestReply};
 ghost use Rattle.cursor.specs.Cut.{Lies};
+ghost use Rattle.dispatch.specs.Dispatch.{dispatched};
 ghost use Rattle.playback.specs.Replied.{Replied};
 use cursor::Cursor;
 use node::State;
@@ -13,6 +14,8 @@ use setup::Played;
 
 // Makes the call of this text and writes what is printed for it from the first place of `out` on.
 fn play_line(
+    mixed: bool,
+    acknowledging: bool,
     state: State,
     ids: &mut [u32],
     times: &mut [u32],
@@ -26,13 +29,23 @@ fn play_line(
     out: &mut [u8],
 ) -> Played
     requires { ⌜ longestReply ≤ length (now out) ⌝ }
-    ensures { λ r. ⌜ (let x : Lent = lentOf (columnsOf (now (ids .entry)) (now (times .entry)) (now (values .entry)) (now (arrivals .entry))
-        (now (kinds .entry)) (now (meters .entry))) (now (sent .entry)) in
-        let x′ : Lent = lentOf (columnsOf (now (ids .exit)) (now (times .exit)) (now (values .exit)) (now (arrivals .exit))
-        (now (kinds .exit)) (now (meters .exit))) (now (sent .exit)) in
-        Replied (calledOn state x (now (text .entry)) (now (area .entry))) (now (out .entry)) r x′ (now (area .exit)) (now (out .exit))) ⌝ }
+    ensures { λ r.
+        let before : Lent =
+        lentOf
+        (columnsOf (now (ids .entry)) (now (times .entry)) (now (values .entry)) (now (arrivals .entry)) (now (kinds .entry))
+        (now (meters .entry)))
+        (now (sent .entry)) in
+        let after : Lent =
+        lentOf
+        (columnsOf (now (ids .exit)) (now (times .exit)) (now (values .exit)) (now (arrivals .exit)) (now (kinds .exit))
+        (now (meters .exit)))
+        (now (sent .exit)) in
+        let call : Called = dispatched mixed acknowledging state before (now (text .entry)) (now (area .entry)) in
+        ⌜ Replied call (now (out .entry)) r after (now (area .exit)) (now (out .exit)) ⌝ }
 {
-    let done = calls::call(
+    let done = dispatch::make_call(
+        mixed,
+        acknowledging,
         state,
         ids,
         times,
@@ -62,8 +75,10 @@ fn turns_left(plays: bool, turns: u64) -> u64
     if plays { turns - 1 } else { 0 }
 }
 
-// Plays the journal's lines to the end of the input, from the text at the cursor on.
+// Plays the lines to the end of the input, from the text at the cursor on.
 fn play_lines(
+    mixed: bool,
+    acknowledging: bool,
     mut state: State,
     ids: &mut [u32],
     times: &mut [u32],
@@ -85,6 +100,8 @@ fn play_lines(
         let end = cursor.end;
         let used = cursor.used;
         let played = play_line(
+            mixed,
+            acknowledging,
             state,
             ids,
             times,
@@ -103,8 +120,9 @@ fn play_lines(
     }
 }
 
-// Plays a journal from standard input to standard output: first the settings line, then journal lines, to the end.
-pub fn run() {
+// Plays standard input to standard output: first the settings line, then the lines after it, to the end. `mixed` says whether displays'
+// lines may stand among the journal lines, `acknowledging` whether the displays acknowledge what is new after each journal line.
+pub fn run(mixed: bool, acknowledging: bool) {
     let mut ids = [0u32; store::MOST_PLACES];
     let mut times = [0u32; store::MOST_PLACES];
     let mut values = [0i32; store::MOST_PLACES];
@@ -127,6 +145,8 @@ pub fn run() {
         &mut out,
     );
     play_lines(
+        mixed,
+        acknowledging,
         started.state,
         &mut ids,
         &mut times,

@@ -8,8 +8,10 @@ use Rattle.operator.specs.Meters.{meterCount}
 use Rattle.operator.proofs.FromPlace.{length-mapped}
 use Rattle.store.specs.Columns.{columnsOf}
 use Rattle.node.specs.View.{Lent, lentOf}
-use Rattle.node.specs.Calls.{Called, calledOn}
-use Rattle.node.proofs.Few.{Fewest, called-few}
+use Rattle.node.specs.Calls.{Called}
+use Rattle.node.proofs.Few.{Fewest}
+use Rattle.dispatch.specs.Dispatch.{calledOf, dispatched}
+use Rattle.dispatch.proofs.Few.{dispatched-few}
 use Rattle.reply.specs.Reply.{replyText}
 use Rattle.playback.proofs.play_line.Statement.{statement}
 use Rattle.playback.proofs.play_line.Tie as tie
@@ -18,7 +20,7 @@ use Rattle.playback.proofs.play_line.Tie as tie
 
 -- an operator's array has its length
 long : (s : tie.Start) → length (s .args .state .operator .meters) ≡ meterCount
-long s = let owned = s .good .0 .1 .1 .0 .1 .1 .0 in search (needs, length-mapped)
+long s = let owned = s .good .1 .1 .0 .1 .1 .0 .1 .1 .0 in search (needs, length-mapped)
 
 abbrev lent : tie.Start → Lent
 lent s =
@@ -27,34 +29,29 @@ lent s =
 
 -- what the call is to leave, and its records are few
 abbrev due : tie.Start → Called
-due s = calledOn (s .args .state) (lent s) (s .args .text .now) (s .args .area .now)
+due s =
+    dispatched (s .args .mixed) (s .args .acknowledging) (s .args .state) (lent s) (s .args .text .now) (s .args .area .now)
 
 few : (s : tie.Start) → Fewest (s .args .area .now) (due s)
-few s = called-few (s .args .state) (lent s) (s .args .text .now) (s .args .area .now) (long s)
+few s = dispatched-few (s .args .state) (lent s) (s .args .area .now) (s .args .text .now) (s .args .acknowledging) (long s) (s .args .mixed)
 
 -- what it leaves
-abbrev entered : tie.After-call → tie.Start
+abbrev entered : tie.After-make-call → tie.Start
 entered d = d .before .before .before .before .before .before .before .before .before .before .before .before .before .before .before .before .before .before
 
-abbrev made : tie.After-call → Called
+abbrev made : tie.After-make-call → Called
 made d =
-    record {
-      answer = d .call .result .answer;
-      records = d .call .result .records;
-      state = d .call .result .state;
-      lent =
-          lentOf (columnsOf (d .call .last .1 .0) (d .call .last .1 .1 .0) (d .call .last .1 .1 .1 .0) (d .call .last .1 .1 .1 .1 .0)
-          (d .call .last .1 .1 .1 .1 .1 .0) (d .call .last .1 .1 .1 .1 .1 .1 .0)) (d .call .last .1 .1 .1 .1 .1 .1 .1 .0);
-      area = d .call .last .1 .1 .1 .1 .1 .1 .1 .1 .1 .0;
-    }
+    let l = d .make-call .last .1 .1 .1 in
+    calledOf (d .make-call .result) (lentOf (columnsOf (l .0) (l .1 .0) (l .1 .1 .0) (l .1 .1 .1 .0) (l .1 .1 .1 .1 .0)
+    (l .1 .1 .1 .1 .1 .0)) (l .1 .1 .1 .1 .1 .1 .0)) (l .1 .1 .1 .1 .1 .1 .1 .1 .0)
 
-left : (d : tie.After-call) → made d ≡ due (entered d)
-left d = d .call .ensures
+left : (d : tie.After-make-call) → made d ≡ due (entered d)
+left d = d .make-call .ensures
 
 -- ---- the needs
 
-call-requires : tie.Need-call-requires
-call-requires c κs = search needs
+make-call-requires : tie.Need-make-call-requires
+make-call-requires c κs = search needs
 
 put-reply-requires : tie.Need-put-reply-requires
 put-reply-requires c κs =
@@ -62,34 +59,34 @@ put-reply-requires c κs =
     let s = entered d in
     let few = few s in
     let same = ap (λ (q : Called). q .records) (left d) in
-    (s .pre, omega (arith, same, few .0), omega (arith, same, few .1, d .call .kept .1 .1 .1 .1 .1 .1 .1 .1 .1 .0))
+    (s .pre, omega (arith, same, few .0), omega (arith, same, few .1, d .make-call .kept .1 .1 .1 .1 .1 .1 .1 .1 .1 .1 .1 .0))
 
-abbrev called : tie.After-slice-known16 → tie.After-call
+abbrev called : tie.After-slice-known16 → tie.After-make-call
 called c = c .before .before .before .before .before .before .before .before .before .before .before .before .before .before .before .before .before .before .before .before .before .before
 
 same-length : tie.Need-same-length
-same-length c = called c .call .kept .1 .0
+same-length c = called c .make-call .kept .1 .1 .1 .0
 
 same-length-2 : tie.Need-same-length-2
-same-length-2 c = called c .call .kept .1 .1 .0
+same-length-2 c = called c .make-call .kept .1 .1 .1 .1 .0
 
 same-length-3 : tie.Need-same-length-3
-same-length-3 c = called c .call .kept .1 .1 .1 .0
+same-length-3 c = called c .make-call .kept .1 .1 .1 .1 .1 .0
 
 same-length-4 : tie.Need-same-length-4
-same-length-4 c = called c .call .kept .1 .1 .1 .1 .0
+same-length-4 c = called c .make-call .kept .1 .1 .1 .1 .1 .1 .0
 
 same-length-5 : tie.Need-same-length-5
-same-length-5 c = called c .call .kept .1 .1 .1 .1 .1 .0
+same-length-5 c = called c .make-call .kept .1 .1 .1 .1 .1 .1 .1 .0
 
 same-length-6 : tie.Need-same-length-6
-same-length-6 c = called c .call .kept .1 .1 .1 .1 .1 .1 .0
+same-length-6 c = called c .make-call .kept .1 .1 .1 .1 .1 .1 .1 .1 .0
 
 same-length-7 : tie.Need-same-length-7
-same-length-7 c = called c .call .kept .1 .1 .1 .1 .1 .1 .1 .0
+same-length-7 c = called c .make-call .kept .1 .1 .1 .1 .1 .1 .1 .1 .1 .0
 
 same-length-8 : tie.Need-same-length-8
-same-length-8 c = called c .call .kept .1 .1 .1 .1 .1 .1 .1 .1 .1 .0
+same-length-8 c = called c .make-call .kept .1 .1 .1 .1 .1 .1 .1 .1 .1 .1 .1 .0
 
 same-length-9 : tie.Need-same-length-9
 same-length-9 c = c .before .before .put-reply .kept .0
@@ -112,7 +109,7 @@ pub play-line-spec : {M : Type 1} → statement M
 play-line-spec =
     tie.close
     (tie.spec
-    call-requires
+    make-call-requires
     put-reply-requires
     same-length
     same-length-2

@@ -13,14 +13,14 @@ use Rattle.playback.proofs.play_lines.Statement.{statement}
 use Rattle.playback.proofs.play_lines.Tie as tie
 
 abbrev Inv-loop : tie.InvT-loop
-Inv-loop state₀ ids₀ times₀ values₀ arrivals₀ kinds₀ meters₀ sent₀ area₀ buf₀ out₀ cursor₀ turns₀ state ids times values arrivals kinds meters sent area buf out cursor turns =
+Inv-loop mixed acknowledging state₀ ids₀ times₀ values₀ arrivals₀ kinds₀ meters₀ sent₀ area₀ buf₀ out₀ cursor₀ turns₀ state ids times values arrivals kinds meters sent area buf out cursor turns =
     Lies (length buf) (length out) cursor × (length ids ≡ length ids₀) × (length times ≡ length times₀) ×
     (length values ≡ length values₀) × (length arrivals ≡ length arrivals₀) × (length kinds ≡ length kinds₀) ×
     (length meters ≡ length meters₀) × (length sent ≡ length sent₀) × (length area ≡ length area₀) × (length buf ≡ length buf₀) ×
     (length out ≡ length out₀)
 
 abbrev μ-loop : tie.MeasureT-loop
-μ-loop state₀ ids₀ times₀ values₀ arrivals₀ kinds₀ meters₀ sent₀ area₀ buf₀ out₀ cursor₀ turns₀ state ids times values arrivals kinds meters sent area buf out cursor turns =
+μ-loop mixed acknowledging state₀ ids₀ times₀ values₀ arrivals₀ kinds₀ meters₀ sent₀ area₀ buf₀ out₀ cursor₀ turns₀ state ids times values arrivals kinds meters sent area buf out cursor turns =
     turns
 
 -- ---- the places: the loop, the line that is played, the cursor that goes on
@@ -41,7 +41,7 @@ within :
 within p =
     let l = looped p .loop in
     part-used (l .out) (l .cursor .used) (p .play-line .result .used) (omega (arith, l .inv .0 .4))
-    (front-within _ _ (p .play-line .ensures .used, p .play-line .ensures .text) (p .play-line .kept .1 .1 .1 .1 .1 .1 .1 .1 .1 .1 .0))
+    (front-within _ _ (p .play-line .ensures .used, p .play-line .ensures .text) (p .play-line .kept .1 .1 .1 .1 .1 .1 .1 .1 .1 .1 .1 .1 .0))
 
 -- ---- the needs
 
@@ -79,7 +79,7 @@ onward-requires c κs =
     let i = l .inv .0 in
     let same =
     same-len-mid (l .cursor .used) (length (l .out) - l .cursor .used) (l .out)
-    (p .play-line .last .1 .1 .1 .1 .1 .1 .1 .1 .1 .1 .0) (p .play-line .kept .1 .1 .1 .1 .1 .1 .1 .1 .1 .1 .0) in
+    (p .play-line .last .1 .1 .1 .1 .1 .1 .1 .1 .1 .1 .1 .1 .0) (p .play-line .kept .1 .1 .1 .1 .1 .1 .1 .1 .1 .1 .1 .1 .0) in
     (i .2, i .3, omega (arith, same, within p), omega (arith, same, i .4))
 
 turns-left-requires-2 : tie.Need-turns-left-requires-2 Inv-loop μ-loop
@@ -98,17 +98,17 @@ loop-again c =
     let k = o .onward .kept .1 .1 .0 in
     let h = p .play-line .kept in (
       (e .0, omega (arith, e .1, k), e .2, omega (arith, e .3, k), omega (arith, e .4)),
-      h .1 .0 ∙ i .1,
-      h .1 .1 .0 ∙ i .2,
-      h .1 .1 .1 .0 ∙ i .3,
-      h .1 .1 .1 .1 .0 ∙ i .4,
-      h .1 .1 .1 .1 .1 .0 ∙ i .5,
-      h .1 .1 .1 .1 .1 .1 .0 ∙ i .6,
-      h .1 .1 .1 .1 .1 .1 .1 .0 ∙ i .7,
-      h .1 .1 .1 .1 .1 .1 .1 .1 .1 .0 ∙ i .8,
+      h .1 .1 .1 .0 ∙ i .1,
+      h .1 .1 .1 .1 .0 ∙ i .2,
+      h .1 .1 .1 .1 .1 .0 ∙ i .3,
+      h .1 .1 .1 .1 .1 .1 .0 ∙ i .4,
+      h .1 .1 .1 .1 .1 .1 .1 .0 ∙ i .5,
+      h .1 .1 .1 .1 .1 .1 .1 .1 .0 ∙ i .6,
+      h .1 .1 .1 .1 .1 .1 .1 .1 .1 .0 ∙ i .7,
+      h .1 .1 .1 .1 .1 .1 .1 .1 .1 .1 .1 .0 ∙ i .8,
       k ∙ i .9,
       same-len-mid (l .cursor .used) (length (l .out) - l .cursor .used) (l .out)
-          (p .play-line .last .1 .1 .1 .1 .1 .1 .1 .1 .1 .1 .0) (p .play-line .kept .1 .1 .1 .1 .1 .1 .1 .1 .1 .1 .0) ∙ i .10,
+          (p .play-line .last .1 .1 .1 .1 .1 .1 .1 .1 .1 .1 .1 .1 .0) (p .play-line .kept .1 .1 .1 .1 .1 .1 .1 .1 .1 .1 .1 .1 .0) ∙ i .10,
     )
 
 same-length : tie.Need-same-length Inv-loop μ-loop

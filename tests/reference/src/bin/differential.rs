@@ -107,13 +107,12 @@ struct Sources {
 }
 
 impl Sources {
-    /// How many inputs are generated for a program: `merge` gets all, what differs from it in little
+    /// How many inputs are generated for a program: `replay`, which differs from `merge` in little,
     /// gets fewer.
     fn count_for(&self, mode: Mode) -> u64 {
         match mode {
-            Mode::Merge => self.journals,
+            Mode::Merge | Mode::Console => self.journals,
             Mode::Replay => self.journals / 4,
-            Mode::Console => self.journals / 2,
         }
     }
 }
@@ -235,7 +234,7 @@ fn generated_inputs(
         };
         let own = sources.seed.wrapping_add(number);
         let mode = match program.mode {
-            Mode::Merge if number % 16 == 15 => Mode::Console,
+            Mode::Merge | Mode::Replay if number % 16 == 15 => Mode::Console,
             mode => mode,
         };
         let input = input_for(mode, kind, own, lines);

@@ -1,0 +1,4 @@
+-- Laws on the calls that texts make.
+pub mod CatchingUp
+pub mod Dispatching
+pub mod Few

@@ -1,0 +1,2 @@
+-- The calls that texts make.
+pub mod Dispatch
