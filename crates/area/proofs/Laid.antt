@@ -1,4 +1,4 @@
--- Laws on bytes laid over an area: runs join, lengths stay, and a run from the first place on is a new front. Assumes nothing.
+-- Laws on bytes laid over an area: runs join, lengths stay, and a run from the first place on is a new front.
 use mathlib.Core.Path.{_≡_, refl, sym, ap, _∙_}
 use mathlib.Core.List.{List, [], _∷_, _++_}
 use Prim.Native.Nat.{ℕ, suc, _+_, _<_, _≤_}

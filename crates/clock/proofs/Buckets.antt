@@ -1,5 +1,5 @@
 -- Laws on buckets: which times lie in a bucket, and which buckets a boundary finishes. Each is a bound on a product read as one on a
--- quotient. Assumes nothing.
+-- quotient.
 use mathlib.Core.Path.{_≡_, refl, sym}
 use mathlib.Core.Bool.{true, false}
 use mathlib.Core.Logic.{_↔_}

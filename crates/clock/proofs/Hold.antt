@@ -1,4 +1,4 @@
--- The hold's test as an order on numbers. Assumes nothing.
+-- The hold's test as an order on numbers.
 use mathlib.Core.Path.{_≡_}
 use mathlib.Core.Bool.{true, false}
 use mathlib.Core.Logic.{_↔_}

@@ -1,4 +1,4 @@
--- Laws on the start of a window: window × length before the end of the bucket that closes it, and never before time 0. Assumes nothing.
+-- Laws on the start of a window: window × length before the end of the bucket that closes it, and never before time 0.
 use mathlib.Core.Path.{_≡_, ap}
 use Prim.Native.Nat.{ℕ, _+_, _-_, _*_, _≤_}
 use native.Mathlib.Omega.{arith}

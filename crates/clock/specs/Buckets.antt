@@ -1,5 +1,4 @@
 -- Reading time cut into buckets (document 01, section 'Buckets and the operator'). Numbers have no width here, so nothing wraps.
--- Assumes nothing.
 use Prim.Native.Nat.{ℕ, _+_, _*_, _/_}
 use mathlib.Core.Bool.{Bool}
 use lib.Dec.{leb}

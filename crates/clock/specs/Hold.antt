@@ -1,4 +1,4 @@
--- The hold: how long the box waits for a silent line (document 01, section 'One step', rule 4). Assumes nothing.
+-- The hold: how long the box waits for a silent line (document 01, section 'One step', rule 4).
 use Prim.Native.Nat.{ℕ, _+_}
 use mathlib.Core.Bool.{Bool}
 use lib.Dec.{leb}

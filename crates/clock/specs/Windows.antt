@@ -1,4 +1,4 @@
--- Buckets joined to windows (document 01, section 'Buckets and the operator'). Assumes nothing.
+-- Buckets joined to windows (document 01, section 'Buckets and the operator').
 use Prim.Native.Nat.{ℕ, _+_, _-_, _*_, _%_}
 use mathlib.Core.Bool.{Bool}
 use lib.Dec.{eqb}

@@ -1,5 +1,5 @@
 -- Heat adds up, and is a measure of readings: what a meter holds grows by what a reading brings, and a result reports it. By it the
--- statement's words are those of the run on the meaning. Assumes nothing.
+-- statement's words are those of the run on the meaning.
 use Prim.Native.Nat.{ℕ}
 use mathlib.Core.Path.{_≡_, refl, _∙_, ap}
 use mathlib.Core.List.{List, map}

@@ -1,5 +1,5 @@
 -- From an accepted opening on: the box stands for the node as opened, and a list of calls has the account and, in bytes, the output of a
--- run on the meaning. Assumes nothing.
+-- run on the meaning.
 use Prim.Native.Nat.{_<_}
 use mathlib.Core.Path.{_≡_, refl, sym, _∙_, ap, subst}
 use mathlib.Core.List.{List, map}

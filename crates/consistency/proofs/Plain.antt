@@ -1,5 +1,5 @@
 -- The statement gives demand 3 in the plain words of specs/Plain.antt: by induction on the list a plain run leaves what the statement's
--- lists of calls leave, and the statement's conditions are met by the plain ones. Uses the statement and not its proof. Assumes nothing.
+-- lists of calls leave, and the statement's conditions are met by the plain ones. Uses the statement and not its proof.
 use Prim.Native.Nat.{ℕ, zero, suc, _+_, _≤_}
 use mathlib.Core.Path.{_≡_, refl, sym, _∙_, ap, ap₂, subst}
 use mathlib.Core.Bool.{Bool, true, false, cond, _&&_, false≢true}

@@ -1,6 +1,6 @@
 -- The balance and its second text are one statement: what is sent in line by line is what is sent in call by call, since an accepted
 -- reading is on one of the lines; every piece of an output is a record, so that its bytes alone tell what it pays; and an equation of
--- heats is one of counts and one of sums. Uses the statement and not its proof. Assumes nothing.
+-- heats is one of counts and one of sums. Uses the statement and not its proof.
 use Prim.Native.Nat.{ℕ, zero, suc, _+_, _-_, _≤_, _<_}
 use mathlib.Core.Path.{_≡_, refl, sym, _∙_, ap, ap₂, subst}
 use mathlib.Core.Bool.{Bool, true, false, cond, _&&_}

@@ -1,6 +1,6 @@
 -- The statement of document 02's W4 gives the plain table of specs/PlainExactly.antt, and the table gives the statement, so that neither
 -- can be weakened without the other. An accepted step has found the state in shape, where its word tells whether p is above c; where no
--- step is accepted it is enough that either count is 0 if the other is. Uses the two texts and no proof of either. Assumes nothing.
+-- step is accepted it is enough that either count is 0 if the other is. Uses the two texts and no proof of either.
 use Prim.Native.Nat.{ℕ, zero, suc, _≤_, _<_, min}
 use mathlib.Core.Path.{_≡_, refl, sym, _∙_, ap, subst}
 use mathlib.Core.Bool.{Bool, true, false}

@@ -1,5 +1,5 @@
 -- From an accepted opening on no call is refused for a short store or a state out of shape: the box has room and stands for a node in
--- shape, at the opening and after every call, and such a box passes the tests of refusals 3 and 4. Assumes nothing.
+-- shape, at the opening and after every call, and such a box passes the tests of refusals 3 and 4.
 use Prim.Native.Nat.{ℕ, _*_, _%_, _≤_, _<_}
 use mathlib.Core.Path.{_≡_, refl, sym, _∙_, ap}
 use mathlib.Core.Bool.{true, false, cond}

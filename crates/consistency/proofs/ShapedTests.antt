@@ -1,5 +1,5 @@
 -- A state and a store of which the facts of refusal 4 hold pass its test: the other direction of the node's law on shape. Each fact by
--- itself is turned into its test, then those of a list and the chain of all. Assumes nothing.
+-- itself is turned into its test, then those of a list and the chain of all.
 use Prim.Native.Nat.{ℕ, _+_, _*_}
 use mathlib.Core.Path.{_≡_, refl}
 use mathlib.Core.Logic.{⊎-elim}
@@ -23,7 +23,7 @@ use Rattle.store.specs.Sizes.{readingsPerLine}
 use Rattle.node.specs.Sizes.{resultsPerBucket, lastBucket}
 use Rattle.operator.specs.Bounds.{countLimit, sumOk, meterOk}
 use Rattle.operator.proofs.Meters.{Counted}
-use Rattle.columns.specs.Shape.{rises, isReadingKind}
+use Rattle.store_columns.specs.Shape.{rises, isReadingKind}
 use Rattle.node.specs.View.{Lent, view}
 use Rattle.retransmission.specs.Sizes.{heldResults}
 use Rattle.node.specs.Shape.{readingOk, idsRise, headOk, keptOk, phaseOk, bucketsOk, numbersOk, displayOk, displaysOk, sentOk, stateInShape, inShape}

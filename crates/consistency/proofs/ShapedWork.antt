@@ -1,5 +1,5 @@
 -- A bucket's work on an operator: its meters' counts stay below 2,048 for each bucket of the window so far, its number rises by at most
--- 64, and the buckets that can be worked are few, since their times fit 32 bits. Assumes nothing.
+-- 64, and the buckets that can be worked are few, since their times fit 32 bits.
 use Prim.Native.Nat.{ℕ, suc, _+_, _*_, _%_, _≤_, _<_, _^_}
 use mathlib.Core.Path.{_≡_, refl, _∙_, ap}
 use mathlib.Core.Bool.{true, false, cond}

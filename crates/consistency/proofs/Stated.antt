@@ -1,5 +1,5 @@
 -- The plain table of specs/Plain.antt gives the statement: with proofs/Plain.antt the two are one statement in two texts, and neither can
--- be weakened without the other. Assumes nothing.
+-- be weakened without the other.
 use Prim.Native.Nat.{ℕ, _+_, _≤_}
 use mathlib.Core.Path.{_≡_, refl, sym, _∙_, ap, ap₂, subst}
 use mathlib.Core.Bool.{true, false}

@@ -1,5 +1,5 @@
 -- Demand 3: the theorem. What holds of a run on the meaning, of its account and of its records, holds of a list of calls, of its account
--- and of the bytes of its records. Assumes nothing.
+-- and of the bytes of its records.
 use Prim.Native.Nat.{ℕ, _≤_}
 use mathlib.Core.Path.{_≡_, refl, sym, _∙_, ap, subst}
 use mathlib.Core.Bool.{true, false, cond}

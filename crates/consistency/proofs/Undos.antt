@@ -1,5 +1,5 @@
 -- Undos applied to records in bytes are undos applied to the records, where every record's bytes are read back as the record: every
--- test has the same value on both sides. Assumes nothing.
+-- test has the same value on both sides.
 use Prim.Native.Nat.{ℕ}
 use mathlib.Core.Path.{_≡_, refl, sym, _∙_, ap, ap₂}
 use mathlib.Core.Bool.{Bool, true, false, cond, not}

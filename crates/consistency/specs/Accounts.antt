@@ -1,6 +1,6 @@
 -- What a list of calls is measured against, from the texts' fields and whether each call was accepted, and from nothing else: the monitor,
 -- which is document 01's day book, the accepted stable readings (section 'From the opening on'), and what each display has acknowledged
--- (document 02, W2). Assumes nothing.
+-- (document 02, W2).
 use Prim.Native.Nat.{ℕ}
 use mathlib.Core.Bool.{Bool}
 use mathlib.Core.List.{List, [], _∷_, map}

@@ -1,5 +1,5 @@
 -- Document 02, W11: the heat balance, meter by meter. What was sent in is what was paid, what the window open at the checkpoint holds, and
--- what is still kept. The statement, over the lists of demand 3. Assumes nothing.
+-- what is still kept. The statement, over the lists of demand 3.
 use Prim.Native.Nat.{ℕ, _+_, _<_}
 use mathlib.Core.Path.{_≡_}
 use mathlib.Core.Bool.{Bool, _&&_}

@@ -1,4 +1,4 @@
--- Demand 3: the statement. It speaks of texts and areas, states and stores, and of bytes. Assumes nothing.
+-- Demand 3: the statement. It speaks of texts and areas, states and stores, and of bytes.
 use Prim.Native.Nat.{ℕ, zero, suc, _+_, _≤_}
 use mathlib.Core.Path.{_≡_}
 use mathlib.Core.Bool.{true, false}

@@ -1,6 +1,6 @@
 -- Demand 3 once more, in other words, to test the statement: states, stores, texts and areas as they are handed over, one record for all
 -- that a list of calls leaves, and every condition and conclusion written out, for each of the three calls by itself. Whatever weakens a
--- clause of Demand.antt, a condition more or a conclusion less, no longer gives this table. Assumes nothing.
+-- clause of Demand.antt, a condition more or a conclusion less, no longer gives this table.
 use Prim.Native.Nat.{ℕ, zero, suc, _+_, _-_, _/_, _≤_}
 use mathlib.Core.Path.{_≡_}
 use mathlib.Core.Bool.{Bool, true, false, cond, _&&_}

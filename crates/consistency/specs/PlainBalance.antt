@@ -1,6 +1,6 @@
 -- Document 02, W11 once more, in other words, to test the statement: the values that were sent in, call by call, and those kept, line by
 -- line; what was paid by the bytes at their places, whatever stands beside them; counts and sums each for themselves, over the runs of
--- Plain.antt. Whatever weakens Balance.antt no longer gives this table. Assumes nothing.
+-- Plain.antt. Whatever weakens Balance.antt no longer gives this table.
 use Prim.Native.Nat.{ℕ, _+_, _<_}
 use mathlib.Core.Path.{_≡_}
 use mathlib.Core.Bool.{Bool, cond, _&&_}

@@ -1,6 +1,6 @@
 -- Document 02, W4 once more, in other words, to test the statement: the count by the state's word, k by the heads' boundaries, and too few
 -- steps and enough of them each for itself, over the runs of Plain.antt. Whatever weakens a clause of Exactly.antt no longer gives this
--- table. Assumes nothing.
+-- table.
 use Prim.Native.Nat.{ℕ, zero, suc, _+_, _-_, _/_, _≤_, _<_, min}
 use mathlib.Core.Path.{_≡_}
 use mathlib.Core.Bool.{true}

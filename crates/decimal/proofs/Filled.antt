@@ -1,4 +1,4 @@
--- An area that is filled from the right: bytes laid behind a run, before the run itself is. Assumes nothing.
+-- An area that is filled from the right: bytes laid behind a run, before the run itself is.
 use mathlib.Core.Path.{_≡_, refl, sym, ap, _∙_}
 use mathlib.Core.List.{List, [], _∷_, _++_}
 use Prim.Native.Nat.{ℕ, suc, _+_, _-_, _/_, _%_, _<_, _≤_, _^_}

@@ -1,5 +1,5 @@
 -- What a text spells is what is written there. Soundness: digits behind a number a ≥ 1 are the digits of the number that they make of it, so
--- a run that does not begin with 0 is the text of its value. Completeness: the digits of v are a run of value v. Assumes nothing.
+-- a run that does not begin with 0 is the text of its value. Completeness: the digits of v are a run of value v.
 use mathlib.Core.Path.{_≡_, refl, sym, ap, _∙_}
 use mathlib.Core.Logic.{⊎-elim}
 use mathlib.Core.Bool.{true, false}

@@ -1,4 +1,4 @@
--- Laws on the number that a text spells from a place on, by the run of digits that stands there. Assumes nothing.
+-- Laws on the number that a text spells from a place on, by the run of digits that stands there.
 use mathlib.Core.Path.{_≡_, refl}
 use mathlib.Core.Bool.{Bool, true, false, cond, _&&_, _||_, or-true}
 use mathlib.Core.List.{List}

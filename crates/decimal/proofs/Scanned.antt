@@ -1,5 +1,5 @@
 -- The loop that scans a run of digits: what is left of the run from i on, behind the value so far, makes the whole run, and digits only add
--- to a value that is past 64 bits. Assumes nothing.
+-- to a value that is past 64 bits.
 use mathlib.Core.Path.{_≡_, refl, sym, ap, _∙_}
 use mathlib.Core.Bool.{Bool, true, false, cond}
 use mathlib.Core.List.{List, _∷_}

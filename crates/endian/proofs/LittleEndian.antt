@@ -1,5 +1,5 @@
 -- A number's bytes and the number of bytes are inverse, at every width; both split where the width is a sum.
--- Each law goes by the width or along the bytes: one byte more is a division by 256. Assumes nothing.
+-- Each law goes by the width or along the bytes: one byte more is a division by 256.
 use mathlib.Core.Path.{_≡_, refl, sym, ap}
 use mathlib.Core.List.{List, [], _∷_, _++_}
 use Prim.Native.Nat.{ℕ, zero, suc, _+_, _*_, _/_, _%_, _^_, _<_, _≤_}

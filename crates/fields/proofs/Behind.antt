@@ -1,4 +1,4 @@
--- One byte stored behind a run of bytes makes a longer run. Assumes nothing.
+-- One byte stored behind a run of bytes makes a longer run.
 use mathlib.Core.Path.{_≡_, sym, ap, _∙_}
 use mathlib.Core.List.{List, [], _∷_, _++_}
 use Prim.Native.Nat.{ℕ, _+_}

@@ -1,4 +1,4 @@
--- A field is read exactly if the text has it: the key, the number as it is written, and no further digit behind it. Assumes nothing.
+-- A field is read exactly if the text has it: the key, the number as it is written, and no further digit behind it.
 use mathlib.Core.Path.{_≡_, refl, sym, ap, _∙_}
 use mathlib.Core.Bool.{Bool, true, false, cond}
 use mathlib.Core.List.{List, [], _∷_, _++_, append-assoc}

@@ -1,4 +1,4 @@
--- Laws on a text that begins with given bytes: exactly if those bytes stand in front. Assumes nothing.
+-- Laws on a text that begins with given bytes: exactly if those bytes stand in front.
 use mathlib.Core.Path.{_≡_, refl, sym, ap, ap₂, _∙_}
 use mathlib.Core.Bool.{true, false, _&&_, and-eq-true-iff, and-false}
 use mathlib.Core.List.{List, [], _∷_, _++_}

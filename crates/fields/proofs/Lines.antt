@@ -1,4 +1,4 @@
--- Laws on the next line of a text: a turn of the search for its end, where it stops, and how long it is. Assumes nothing.
+-- Laws on the next line of a text: a turn of the search for its end, where it stops, and how long it is.
 use mathlib.Core.Path.{_≡_, sym}
 use mathlib.Core.Bool.{Bool, true, false, cond}
 use mathlib.Core.List.{List, [], _∷_, _++_, append-nil}

@@ -1,4 +1,4 @@
--- The reader is exact: a text is read as a call exactly if it is the call's line, whole. Assumes nothing.
+-- The reader is exact: a text is read as a call exactly if it is the call's line, whole.
 use mathlib.Core.Path.{_≡_, refl, sym, ap, subst, _∙_}
 use mathlib.Core.Bool.{true, false, cond}
 use mathlib.Core.List.{List, []}

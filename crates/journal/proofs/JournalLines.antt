@@ -1,5 +1,5 @@
 -- A journal line is read exactly if the text has it: field by field, each stretch of the text is the field's, and stretches join to the
--- line. Assumes nothing.
+-- line.
 use mathlib.Core.Path.{_≡_, refl, ap, subst, _∙_}
 use mathlib.Core.Bool.{true}
 use mathlib.Core.List.{List, [], _∷_, _++_, append-assoc}

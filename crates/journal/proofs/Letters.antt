@@ -1,4 +1,4 @@
--- A letter field is read exactly if the text has it. Assumes nothing.
+-- A letter field is read exactly if the text has it.
 use mathlib.Core.Path.{_≡_, refl, sym, ap, _∙_}
 use mathlib.Core.Bool.{true, false}
 use mathlib.Core.List.{List, [], _∷_, _++_}

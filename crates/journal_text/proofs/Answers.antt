@@ -1,4 +1,4 @@
--- What the writer of a journal line answers and leaves, case by case. Assumes nothing.
+-- What the writer of a journal line answers and leaves, case by case.
 use mathlib.Core.Path.{_≡_, refl}
 use mathlib.Core.Bool.{true, false}
 use mathlib.Core.List.{List}

@@ -1,4 +1,4 @@
--- The stretches that a journal line is written in, and how long its two parts are. Assumes nothing.
+-- The stretches that a journal line is written in, and how long its two parts are.
 use mathlib.Core.Path.{_≡_}
 use mathlib.Core.List.{List, [], _∷_, _++_}
 use Prim.Native.Nat.{ℕ, _+_}

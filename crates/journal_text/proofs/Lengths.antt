@@ -1,4 +1,4 @@
--- The longest journal line of the form, and that its length is reached. Assumes nothing.
+-- The longest journal line of the form, and that its length is reached.
 use mathlib.Core.Path.{_≡_, refl, ap}
 use mathlib.Core.List.{[], _∷_}
 use Prim.Native.Nat.{_-_, _≤_, _^_}

@@ -1,4 +1,4 @@
--- A call that is written is read back as written. Assumes nothing.
+-- A call that is written is read back as written.
 use mathlib.Core.Path.{_≡_, refl}
 use mathlib.Core.List.{List, _++_}
 use Prim.Native.Nat.{ℕ}

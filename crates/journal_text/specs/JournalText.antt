@@ -1,5 +1,4 @@
 -- What the writer of a journal line answers and writes (document 01, sections 'Clocks, lines and readings' and 'Refusal by whom').
--- Assumes nothing.
 use Prim.Native.Nat.{ℕ}
 use mathlib.Core.Bool.{cond}
 use mathlib.Core.List.{List, []}

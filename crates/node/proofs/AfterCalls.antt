@@ -1,5 +1,5 @@
 -- After a call: the node that state and store stand for is the outcome's, and they fit again, so that a next call may follow. By the laws
--- of view and put, and since an outcome has as many lines, none past its share. Assumes nothing.
+-- of view and put, and since an outcome has as many lines, none past its share.
 use Prim.Native.Nat.{ℕ, _≤_}
 use mathlib.Core.Path.{_≡_, _∙_, ap, ap₂}
 use mathlib.Core.Bool.{true}

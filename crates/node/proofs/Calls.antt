@@ -1,5 +1,5 @@
 -- A call: a refused one changes nothing; an accepted one passed every test, and leaves the outcome of the call that was read, laid into
--- state, store and area. By cases on the first test that fails and on what the text is read as. Assumes nothing.
+-- state, store and area. By cases on the first test that fails and on what the text is read as.
 use Prim.Native.Nat.{ℕ, _≤_}
 use mathlib.Core.Path.{_≡_, refl, _∙_, ap}
 use mathlib.Core.Bool.{Bool, true, false, cond}

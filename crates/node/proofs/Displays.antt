@@ -1,5 +1,5 @@
 -- A display's two calls: a refused one changes nothing; an accepted one passed every test. An acknowledgement leaves a state that stands for the
--- node with that display's last id. By cases on the host's tests and on the call's own. Assumes nothing.
+-- node with that display's last id. By cases on the host's tests and on the call's own.
 use Prim.Native.Nat.{ℕ, _-_, _<_}
 use mathlib.Core.Path.{_≡_, refl, ap}
 use mathlib.Core.Bool.{Bool, true, false, cond}

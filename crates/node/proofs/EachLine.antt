@@ -1,5 +1,5 @@
 -- Tests over the lines that are kept in one Bool, line by line: what is found so far, together with the test of the lines left, stays the
--- same. Line i is its head with the i-th share of the readings. Assumes nothing.
+-- same. Line i is its head with the i-th share of the readings.
 use Prim.Native.Nat.{ℕ, _+_, _*_, _<_, _≤_}
 use mathlib.Core.Path.{_≡_, refl, sym, ap, _∙_}
 use mathlib.Core.Bool.{Bool, true, false, _&&_, _||_, and-assoc, and-true, or-assoc, or-false}

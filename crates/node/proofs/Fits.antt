@@ -1,5 +1,5 @@
 -- The node's numbers fit the widths that a program holds them in: so the opening leaves it, and so does every call whose fields fit,
--- whatever it is answered. Assumes nothing.
+-- whatever it is answered.
 use Prim.Native.Nat.{ℕ, _-_, _<_, _^_}
 use mathlib.Core.Path.{_≡_, _∙_}
 use mathlib.Core.Bool.{true, false, cond, not}

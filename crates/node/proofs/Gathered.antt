@@ -1,5 +1,5 @@
 -- The readings of a bucket are kept readings: what holds of every kept reading holds of every one of them, and they are no more than are
--- kept. Line by line for what is gathered; sorting only permutes it. Assumes nothing.
+-- kept. Line by line for what is gathered; sorting only permutes it.
 use Prim.Native.Nat.{ℕ, suc, _*_, _≤_}
 use mathlib.Core.List.{List, [], _∷_, map}
 use native.Mathlib.Omega.{arith}

@@ -1,5 +1,5 @@
 -- The readings that state and store keep, line by line: each line's are the rows from the start of its share on, and where they are in shape,
--- every two of a line have rising ids. A share at each line, by induction on the lines; ids by induction on the readings. Assumes nothing.
+-- every two of a line have rising ids. A share at each line, by induction on the lines; ids by induction on the readings.
 use Prim.Native.Nat.{ℕ, zero, suc, _+_, _-_, _*_, _≤_, _<_}
 use mathlib.Core.Path.{_≡_, refl}
 use mathlib.Core.List.{List, [], _∷_, map}
@@ -12,7 +12,7 @@ use Rattle.store.specs.Sorted as sorted
 use Rattle.store.specs.Columns.{Columns, rows, rowsFrom}
 use Rattle.store.proofs.Pairs.{every-to, every-map}
 use Rattle.store.proofs.Columns.{take-rows, drop-rows}
-use Rattle.shares.proofs.Kept.{keptFrom}
+use Rattle.store_columns.proofs.Kept.{keptFrom}
 use Rattle.protocol.specs.Node.{Line, keptOf}
 use Rattle.node.specs.View.{viewLine, viewLines, places, view}
 use Rattle.node.specs.declared.LineHead.{LineHead}

@@ -1,5 +1,5 @@
 -- A viewed line in the columns: its kept readings are the first rows of its share. The share of the rows is the rows of the share; the
--- line is then the one that `line-at` finds. Assumes nothing.
+-- line is then the one that `line-at` finds.
 use Prim.Native.Nat.{ℕ, _+_, _*_, _≤_, _<_}
 use mathlib.Core.Path.{_≡_, _∙_, ap}
 use mathlib.Core.List.{List}

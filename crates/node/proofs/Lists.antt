@@ -1,4 +1,4 @@
--- What every element of a list of equals has, and of a list changed at one place: by induction on the list. Assumes nothing.
+-- What every element of a list of equals has, and of a list changed at one place: by induction on the list.
 use Prim.Native.Nat.{ℕ, zero, suc}
 use mathlib.Core.List.{List, [], _∷_}
 use lib.ListN.{getD, replicate}

@@ -1,5 +1,5 @@
 -- One line changed, carried to the whole state and store: only that line's head is set, and only its share is written. The heads and the
--- shares by induction on the lines, the store column by column. Assumes nothing.
+-- shares by induction on the lines, the store column by column.
 use Prim.Native.Nat.{ℕ, zero, suc, _+_, _*_, _-_, _≤_, _<_, max}
 use mathlib.Core.Path.{_≡_, refl, sym, _∙_, ap}
 use mathlib.Core.List.{List, [], _∷_, _++_, map, append-assoc}

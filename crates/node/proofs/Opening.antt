@@ -1,5 +1,5 @@
 -- The opening: an accepted one leaves the fresh state of settings that were read and are within their limits, and state and store then
--- stand for the opened node; a refused one leaves what it was handed. By cases on what the text is read as. Assumes nothing.
+-- stand for the opened node; a refused one leaves what it was handed. By cases on what the text is read as.
 use Prim.Native.Nat.{ℕ, zero, suc, _*_, _≤_}
 use mathlib.Core.Path.{_≡_, refl, sym, _∙_, ap, ap₂, subst}
 use mathlib.Core.Bool.{Bool, true, false, cond}

@@ -1,5 +1,5 @@
 -- The results of a window, and records without one, are within a record's widths and of a kind that records have; a window gives no more
--- results than there are meters. Assumes nothing.
+-- results than there are meters.
 use Prim.Native.Nat.{ℕ, suc, _+_, _≤_, _<_, _^_}
 use mathlib.Core.Path.{_≡_}
 use mathlib.Core.Bool.{true, false, cond}
@@ -19,7 +19,8 @@ use Rattle.store.specs.Lists.{Every}
 use Rattle.operator.specs.declared.Meter.{Meter}
 use Rattle.operator.specs.declared.Operator.{Operator}
 use Rattle.operator.specs.Meters.{meterCount, addAll}
-use Rattle.operator.specs.Results.{hasResult, result, results, plain}
+use Rattle.record.specs.Markers.{marker}
+use Rattle.operator.specs.Results.{hasResult, result, results}
 use Rattle.operator.specs.Work.{windowResults, close, work}
 use Rattle.store.proofs.Pairs.{every-both}
 use Rattle.operator.proofs.Adding.{addAll-number, addAll-length}
@@ -37,9 +38,9 @@ abbrev GoodMeter : ℕ → Meter → Type 0
 GoodMeter most m = Counted most m × LastFits m
 
 module _ (kind : ℕ) (byte : kind < 2 ^ 8) (known : isRecord kind ≡ true) where
-  pub plain-readable : (id : ℕ) (time : ReadingTime) → id < 2 ^ 32 → time .0 < 2 ^ 32 → Readable (plain kind id time)
-  unfolding plain
-  plain-readable id time f g = (
+  pub marker-readable : (id : ℕ) (time : ReadingTime) → id < 2 ^ 32 → time .0 < 2 ^ 32 → Readable (marker kind id time)
+  unfolding marker
+  marker-readable id time f g = (
     record {
       kind = byte;
       meter = omega arith;

@@ -1,5 +1,4 @@
 -- The records of a call laid into the send-back store: the stable ones of them, numbered one after the other, go behind those that are held.
--- Assumes nothing.
 use Prim.Native.Nat.{ℕ, suc, _%_}
 use mathlib.Core.Path.{_≡_, refl, _∙_, ap}
 use mathlib.Core.Bool.{Bool, true, false, cond}

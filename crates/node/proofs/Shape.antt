@@ -1,5 +1,5 @@
 -- A state and a store in shape, fact by fact: what the one test of refusal 4 says, taken apart. Each test by itself is turned into its
--- fact, then the tests of a list and the chain of all. Assumes nothing.
+-- fact, then the tests of a list and the chain of all.
 use Prim.Native.Nat.{ℕ, _+_, _*_, _≤_, _<_}
 use mathlib.Core.Path.{_≡_, refl}
 use mathlib.Core.Logic.{_⊎_, inl, inr, ⊎-elim}
@@ -24,7 +24,7 @@ use Rattle.node.specs.Sizes.{resultsPerBucket, lastBucket}
 use Rattle.operator.specs.Bounds.{countLimit, meterOk}
 use Rattle.operator.proofs.Meters.{Counted}
 use Rattle.operator.proofs.Bounds.{meters-ok}
-use Rattle.columns.specs.Shape.{rises, isReadingKind}
+use Rattle.store_columns.specs.Shape.{rises, isReadingKind}
 use Rattle.retransmission.specs.Sizes.{heldResults}
 use Rattle.store.specs.Columns.{Columns}
 use Rattle.node.specs.View.{Lent, view}

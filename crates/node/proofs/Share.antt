@@ -1,5 +1,5 @@
 -- One line's share of the store after readings are laid into it: they fill its first places, places given up are zeroed, every other place
--- is as it was; so the line is read back, and what was read changes nothing. By cases on the place. Assumes nothing.
+-- is as it was; so the line is read back, and what was read changes nothing. By cases on the place.
 use Prim.Native.Nat.{ℕ, _+_, _-_, _≤_, _<_, max}
 use mathlib.Core.Path.{_≡_, _∙_, ap}
 use mathlib.Core.List.{List, _++_}

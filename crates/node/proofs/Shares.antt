@@ -1,5 +1,5 @@
 -- The lines' shares of the store: lines laid down are read back, and lines that were read, laid down, change nothing. By induction on the
--- lines, a share of the store at each; a share keeps its places, whatever it kept before. Assumes nothing.
+-- lines, a share of the store at each; a share keeps its places, whatever it kept before.
 use Prim.Native.Nat.{ℕ, zero, suc, _+_, _*_, _≤_, _<_}
 use mathlib.Core.Path.{_≡_, refl, _∙_, ap, ap₂}
 use mathlib.Core.List.{List, [], _∷_}

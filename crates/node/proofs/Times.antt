@@ -1,5 +1,5 @@
 -- The times that records carry fit 32 bits: a stable bucket ends at or below a boundary, a bucket with a reading due in it or behind it
--- starts at or below that reading's time, and a window starts at or below the start of the bucket that closes it. Assumes nothing.
+-- starts at or below that reading's time, and a window starts at or below the start of the bucket that closes it.
 use Prim.Native.Nat.{ℕ, _+_, _-_, _*_, _/_, _≤_, _<_, _^_}
 use mathlib.Core.Path.{_≡_, refl, sym}
 use mathlib.Core.Bool.{Bool, true, false, _||_, true≢false}
@@ -19,7 +19,7 @@ use Rattle.store.specs.declared.Reading.{Reading}
 use Rattle.store.specs.Lists.{Every, someOf, allOf}
 use Rattle.store.proofs.Choices.{and-parts}
 use Rattle.store.proofs.Pairs.{every-to}
-use Rattle.protocol.specs.Node.{Line, isStable}
+use Rattle.protocol.specs.Node.{Line, isStableBucket}
 use Rattle.protocol.specs.Rules.{isOverdue, someOverdue}
 use Rattle.node.proofs.Fits.{ReadingFits, LineFits}
 
@@ -44,14 +44,14 @@ pub start-fits : (size window j : ℕ) → 1 ≤ window → j * size < 2 ^ 32 �
 start-fits size window j h f = omega (arith, start-le size window j h)
 
 -- a stable bucket
-pub stable-end-within : (s : Settings) (j : ℕ) (ls : List Line) → 0 < length ls → Every (λ (l : Line). l .boundary .0 < 2 ^ 32) ls → isStable s j ls ≡ true → bucketEnd (s .bucket) j < 2 ^ 32
-unfolding isStable allOf
+pub stable-end-within : (s : Settings) (j : ℕ) (ls : List Line) → 0 < length ls → Every (λ (l : Line). l .boundary .0 < 2 ^ 32) ls → isStableBucket s j ls ≡ true → bucketEnd (s .bucket) j < 2 ^ 32
+unfolding isStableBucket allOf
 stable-end-within s j [] some h e = absurd (omega arith)
 stable-end-within s j (l ∷ ls) some h e =
     finished-end-fits (s .bucket) (l .boundary) j (h .0)
     (and-parts (finishes (s .bucket) (l .boundary) j) (allOf (λ (l : Line). finishes (s .bucket) (l .boundary) j) ls) e .0)
 
-pub stable-end-fits : (s : Settings) (j : ℕ) (ls : List Line) → 0 < length ls → Every LineFits ls → isStable s j ls ≡ true → bucketEnd (s .bucket) j < 2 ^ 32
+pub stable-end-fits : (s : Settings) (j : ℕ) (ls : List Line) → 0 < length ls → Every LineFits ls → isStableBucket s j ls ≡ true → bucketEnd (s .bucket) j < 2 ^ 32
 stable-end-fits s j ls some h e = stable-end-within s j ls some (every-to ls (λ (l : Line) (g : LineFits l). g .boundary) h) e
 
 pub stable-start-fits : (size j : ℕ) → bucketEnd size j < 2 ^ 32 → j * size < 2 ^ 32

@@ -1,5 +1,5 @@
 -- View and put: a node laid into state and store is what they then stand for, and what they stand for, laid down, changes nothing. The
--- lines by the laws on shares, the store by the laws on columns. Assumes nothing.
+-- lines by the laws on shares, the store by the laws on columns.
 use Prim.Native.Nat.{ℕ, _*_, _≤_}
 use mathlib.Core.Path.{_≡_, refl, _∙_, ap, ap₂, subst}
 use mathlib.Core.List.{List, _++_}

@@ -1,5 +1,5 @@
 -- What laying a node down writes: nothing where every line keeps what it kept, one place where a line keeps one reading more. The first by
--- what the lines keep, the second by the law on one line. Assumes nothing.
+-- what the lines keep, the second by the law on one line.
 use Prim.Native.Nat.{ℕ, _+_, _*_, _-_, _≤_, _<_}
 use mathlib.Core.Path.{_≡_, refl, sym, _∙_, ap}
 use mathlib.Core.List.{List, [], _∷_, _++_}
@@ -12,7 +12,7 @@ use Rattle.store.specs.Sizes.{readingsPerLine}
 use Rattle.store.specs.Columns.{Columns, rowsFrom, rows, withRows}
 use Rattle.store.specs.Parts.{withRowsAt, withKept}
 use Rattle.store.proofs.Columns.{length-rowsFrom, take-rows}
-use Rattle.shares.proofs.Rows.{kept-more}
+use Rattle.store_columns.proofs.Rows.{kept-more}
 use Rattle.protocol.specs.Kinds.{Kind}
 use Rattle.protocol.specs.Node.{Line, Node, noLine, keptOf, readingOf, onLine}
 use Rattle.protocol.specs.Calls.{input}

@@ -1,10 +1,11 @@
 -- A journal call on state, stores, text and area: refusals 3 to 15 in order, and what it leaves (document 01, section 'Refusal by whom';
--- document 02, W2). Assumes nothing.
+-- document 02, W2).
 use Prim.Native.Nat.{ℕ}
 use mathlib.Core.Bool.{cond, not}
 use mathlib.Core.List.{List, [], _∷_}
 use lib.Dec.{ltb, eqb}
 use lib.ListN.{length}
+use Rattle.answer.specs.Numbers as Answer
 use Rattle.area.specs.Laid.{inFront}
 use Rattle.journal.specs.declared.CallRead.{CallRead}
 use Rattle.journal.specs.declared.CallRead.the-variants as CallRead
@@ -32,9 +33,9 @@ pub record Called : Type 0 where
 -- refusals 3, 4 and 5: what the host lends, whatever it asks
 unfoldable pub hostTests : State → Lent → List ℕ → List Test
 hostTests st x area =
-    record { fails = isShort (st .settings .lines) x; number = 3 } ∷
-    record { fails = not (inShape st x); number = 4 } ∷
-    record { fails = ltb (length area) areaBytes; number = 5 } ∷ []
+    record { fails = isShort (st .settings .lines) x; number = Answer.shortStore } ∷
+    record { fails = not (inShape st x); number = Answer.outOfShape } ∷
+    record { fails = ltb (length area) areaBytes; number = Answer.shortArea } ∷ []
 
 -- an outcome laid into the stores: the stable results go to their places
 unfoldable pub putLent : State → Lent → Outcome → Lent

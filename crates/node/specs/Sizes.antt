@@ -1,4 +1,4 @@
--- Sizes of the node. Assumes nothing.
+-- Sizes of the node.
 use Prim.Native.Nat.{ℕ, _+_, _*_}
 use Rattle.record.specs.Sizes.{recordBytes}
 

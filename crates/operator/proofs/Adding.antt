@@ -1,5 +1,5 @@
 -- Readings added: the numbering and the number of meters stay, runs of readings follow one another, and each meter takes the values of its
--- own readings and no others. A reading changes one place of the list, which is read at that place or at another. Assumes nothing.
+-- own readings and no others. A reading changes one place of the list, which is read at that place or at another.
 use Prim.Native.Nat.{ℕ, _<_}
 use mathlib.Core.Path.{_≡_, refl, sym, _∙_, ap}
 use mathlib.Core.Bool.{true, false, cond, _&&_}

@@ -1,5 +1,5 @@
 -- A meter within its bounds: what the test says of its count and sum, and the test as the code makes it, one way out after the other.
--- By the sum's sign. Assumes nothing.
+-- By the sum's sign.
 use Prim.Native.Nat.{ℕ, zero, suc, _-_, _*_, _^_, _<_, _≤_}
 use mathlib.Core.Path.{_≡_, sym, ap, _∙_}
 use mathlib.Core.Bool.{Bool, true, false, true≢false}

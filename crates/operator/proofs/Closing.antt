@@ -1,5 +1,4 @@
 -- A window closed, and a bucket worked: the numbering goes on by the number of records, the meters are cleared, and readings come first.
--- Assumes nothing.
 use Prim.Native.Nat.{ℕ, _+_, _<_}
 use mathlib.Core.Path.{_≡_, refl, sym, _∙_, ap}
 use mathlib.Core.Bool.{true, false, cond}

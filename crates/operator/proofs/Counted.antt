@@ -1,4 +1,4 @@
--- Which values the operator counts, as an order on numbers: from low to high, both among them. Assumes nothing.
+-- Which values the operator counts, as an order on numbers: from low to high, both among them.
 use mathlib.Core.Path.{_≡_, refl, sym, subst}
 use mathlib.Core.Bool.{Bool, true, false, _&&_}
 use mathlib.Core.Logic.{_↔_}

@@ -1,5 +1,5 @@
 -- The meters from a place on, as a loop works them: what they come to is what the meter at that place adds to what those behind it come
--- to, and behind the last there is nothing. Each law takes the list apart at the place. Assumes nothing.
+-- to, and behind the last there is nothing. Each law takes the list apart at the place.
 use Prim.Native.Nat.{ℕ, suc, _≤_, _<_}
 use mathlib.Core.Path.{_≡_, sym, _∙_}
 use mathlib.Core.Bool.{Bool, true, false}

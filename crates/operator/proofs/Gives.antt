@@ -1,5 +1,5 @@
 -- Which meters give the results of a window: each result is that of its own meter, whose count is above 0, and each such meter has one.
--- By the list of meters; the results of later meters have later numbers of meters. Assumes nothing.
+-- By the list of meters; the results of later meters have later numbers of meters.
 use Prim.Native.Nat.{ℕ, zero, suc, _+_, _<_}
 use mathlib.Core.Path.{_≡_, refl, sym, _∙_, ap}
 use mathlib.Core.Bool.{Bool, true, false, cond}

@@ -1,5 +1,5 @@
 -- A window's results laid down one by one: at each turn, what is laid down and what the meters from a place on still give are together all
--- of it, in numbers, in places and in bytes. Assumes nothing.
+-- of it, in numbers, in places and in bytes.
 use Prim.Native.Nat.{ℕ, suc, _+_, _*_, _≤_, _<_}
 use mathlib.Core.Path.{_≡_, refl, sym, _∙_, ap}
 use mathlib.Core.List.{List, [], _++_}

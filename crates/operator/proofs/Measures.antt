@@ -1,6 +1,6 @@
 -- Measures of readings: what a reading brings, a meter holds and a result reports. None of it is lost or made: what readings bring, their
 -- meter holds on top of what it held; a closing window's result reports what the meter holds, and the meter is left with nothing. Which
--- measure is left open, as long as it adds up. Assumes nothing.
+-- measure is left open, as long as it adds up.
 use Prim.Native.Nat.{ℕ, zero, suc, _+_, _<_}
 use mathlib.Core.Path.{_≡_, refl, sym, _∙_, ap, ap₂, subst}
 use mathlib.Core.Bool.{Bool, true, false, cond, _&&_}

@@ -1,5 +1,5 @@
 -- What holds of every meter while readings are added. A law on meters that may grow with each reading is carried along the list; two
--- instances: the last value fits 32 bits, and the sum stays in the range of a count that grows by at most one a reading. Assumes nothing.
+-- instances: the last value fits 32 bits, and the sum stays in the range of a count that grows by at most one a reading.
 use Prim.Native.Nat.{ℕ, suc, _+_, _≤_, _<_, _^_}
 use mathlib.Core.Path.{_≡_}
 use mathlib.Core.Bool.{true, false, cond}

@@ -1,5 +1,5 @@
 -- The next result is that of the first meter at or above a place that has one, and there is none exactly if no such meter has one; the
--- results of the meters from that place on begin with it. By the number of meters that are left. Assumes nothing.
+-- results of the meters from that place on begin with it. By the number of meters that are left.
 use Prim.Native.Nat.{ℕ, zero, suc, _+_, _-_, _≤_, _<_}
 use mathlib.Core.Path.{_≡_, refl, _∙_, ap, subst}
 use mathlib.Core.Bool.{Bool, true, false}

@@ -1,5 +1,5 @@
 -- The numbering of a window's results: the first has the number behind the newest, each next one the next, and their meters rise.
--- By the list of meters. Assumes nothing.
+-- By the list of meters.
 use Prim.Native.Nat.{ℕ, zero, suc, _+_, _≤_, _<_}
 use mathlib.Core.Path.{_≡_, _∙_}
 use mathlib.Core.Bool.{true, false, cond}

@@ -1,5 +1,4 @@
 -- The results of a closing window: as many as meters with a count above 0, and none from a cleared operator. By the list of meters.
--- Assumes nothing.
 use Prim.Native.Nat.{ℕ, zero, suc, _≤_, _<_}
 use mathlib.Core.Path.{_≡_, refl, ap}
 use mathlib.Core.Bool.{true, false, cond}

@@ -1,5 +1,4 @@
 -- Sums of values of 32 bits, by their signs: one value more keeps a sum in the range of its count, and so few values fit 64 bits.
--- Assumes nothing.
 use Prim.Native.Nat.{ℕ, suc, _+_, _-_, _*_, _≤_, _<_, _^_}
 use mathlib.Core.Path.{_≡_, refl}
 use mathlib.Core.Bool.{true, false, cond}

@@ -1,5 +1,5 @@
 -- What a meter holds after readings were added: the old count and the number of its values, the old sum and their sum, and the last of
--- them. The laws are those of a run of values, carried over by `addAll-meter`. Assumes nothing.
+-- them. The laws are those of a run of values, carried over by `addAll-meter`.
 use Prim.Native.Nat.{ℕ, _+_, _<_}
 use mathlib.Core.Path.{_≡_, refl, sym, _∙_, ap}
 use mathlib.Core.Bool.{true}

@@ -1,6 +1,6 @@
 -- The values that a run of readings brings to one meter, in order, with their number, sum and last: what a meter is to hold. A run of
 -- readings behind another brings its values behind the other's, and number and sum do not mind the order. Sums are amounts that add up;
--- the other laws go by the list. Assumes nothing.
+-- the other laws go by the list.
 use Prim.Native.Nat.{ℕ, _+_}
 use mathlib.Core.Path.{_≡_, refl, _∙_, ap}
 use mathlib.Core.Bool.{Bool, true, false, cond, _&&_}

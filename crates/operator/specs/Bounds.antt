@@ -1,4 +1,4 @@
--- A meter within its bounds (document 01, section 'Refusal by whom', refusal 4). Assumes nothing.
+-- A meter within its bounds (document 01, section 'Refusal by whom', refusal 4).
 use Prim.Native.Nat.{ℕ, suc, _*_, _-_, _^_}
 use mathlib.Core.Bool.{Bool, _&&_}
 use lib.Dec.{leb}

@@ -1,4 +1,4 @@
--- The operator's meters, and a reading added (document 01, section 'Buckets and the operator'). Assumes nothing.
+-- The operator's meters, and a reading added (document 01, section 'Buckets and the operator').
 use Prim.Native.Nat.{ℕ, _+_}
 use mathlib.Core.Bool.{Bool, cond, _&&_}
 use mathlib.Core.List.{List, [], _∷_}

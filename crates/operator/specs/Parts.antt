@@ -1,4 +1,4 @@
--- What single functions of the operator give. The contracts above them pin them down. Assumes nothing.
+-- What single functions of the operator give. The contracts above them pin them down.
 use Prim.Native.Nat.{ℕ, suc, _+_}
 use mathlib.Core.Bool.{cond}
 use mathlib.Core.List.{List, [], _∷_}

@@ -1,4 +1,4 @@
--- The results of a closing window (document 01, section 'Buckets and the operator'). Assumes nothing.
+-- The results of a closing window (document 01, section 'Buckets and the operator').
 use Prim.Native.Nat.{ℕ, suc}
 use mathlib.Core.Bool.{Bool, cond}
 use mathlib.Core.List.{List, [], _∷_}
@@ -34,8 +34,3 @@ results kind start i number (m ∷ ms) =
     cond (hasResult m)
     (result kind start i (suc number) m ∷ results kind start (suc i) (suc number) ms)
     (results kind start (suc i) number ms)
-
--- a record without a result: an undo has only an id, a boundary only a time, corrections done neither
-unfoldable pub plain : ℕ → ℕ → ReadingTime → Record
-plain kind id time =
-    record { sum = pos 0; id = id; time = time; count = 0; mean = pos 0; last = pos 0; kind = kind; meter = 0 }

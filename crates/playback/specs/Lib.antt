@@ -1,2 +1,3 @@
--- What a text that is played leaves.
+-- How a playback begins, and what a text that is played leaves.
+pub mod Start
 pub mod Replied

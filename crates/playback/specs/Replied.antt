@@ -6,8 +6,8 @@ use lib.ListN.{length}
 use Rattle.area.specs.Laid.{inFront}
 use Rattle.node.specs.View.{Lent}
 use Rattle.node.specs.Calls.{Called}
-use Rattle.reply.specs.Reply.{replyText}
-use Rattle.setup.specs.declared.Played.{Played}
+use Rattle.playback_reply.specs.Reply.{replyText}
+use Rattle.playback.specs.declared.Played.{Played}
 
 -- the call, the output before it, and what is left: stores, area and output
 pub record Replied (q : Called) (out : List ℕ) (r : Played) (x : Lent) (bytes out′ : List ℕ) : Type 0 where

@@ -1,5 +1,5 @@
 -- Results are numbered one after the other: a bucket's behind the operator's number, which goes on by as many; the failure-free run's from
--- 1 on. Assumes nothing.
+-- 1 on.
 use Prim.Native.Nat.{ℕ, zero, suc, _+_}
 use mathlib.Core.Path.{_≡_, refl, subst}
 use mathlib.Core.Bool.{true, false, cond}

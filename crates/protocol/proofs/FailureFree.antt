@@ -1,5 +1,5 @@
 -- The failure-free run depends only on the readings of the buckets that it works, and not on their arrivals; and an accepted call adds no
--- reading to a bucket that was worked as stable, since its time is at or above the boundary. Assumes nothing.
+-- reading to a bucket that was worked as stable, since its time is at or above the boundary.
 use Prim.Native.Nat.{ℕ, zero, suc, _*_, _-_, _≤_, _<_}
 use mathlib.Core.Path.{_≡_, refl, sym, ap}
 use mathlib.Core.Bool.{true, false, cond}

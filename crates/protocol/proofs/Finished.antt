@@ -1,6 +1,5 @@
 -- A line when bucket c is worked as stable: its readings of the bucket are exactly its accepted stable ones, and once they leave, the line
--- agrees for the next bucket. A tentative reading is not below the boundary, and so not in a bucket that the boundary finishes. Assumes
--- nothing.
+-- agrees for the next bucket. A tentative reading is not below the boundary, and so not in a bucket that the boundary finishes.
 use Prim.Native.Nat.{ℕ, suc, _*_, _/_, _≤_, _<_}
 use mathlib.Core.Path.{_≡_, sym, _∙_}
 use mathlib.Core.Bool.{true, false, not, _&&_}

@@ -1,6 +1,6 @@
 -- One line of the node against what the monitor has of it and its accepted stable readings. All three are parts of the readings that were
 -- accepted on the line and not undone: the node keeps those of bucket c or later, the monitor has an entry for each, and the accepted
--- stable ones are those that are not tentative. Refusals 11 to 13 keep it so. Assumes nothing.
+-- stable ones are those that are not tentative. Refusals 11 to 13 keep it so.
 use Prim.Native.Nat.{ℕ, _+_, _*_, _/_, _≤_, _<_}
 use mathlib.Core.Path.{_≡_, refl, sym, _∙_, ap}
 use mathlib.Core.Bool.{Bool, true, false, not}

@@ -1,5 +1,5 @@
 -- Laws on lists by tests on their elements: what is kept, what every element has, what some element passes. Each is by induction on the
--- list and by cases on one test. Assumes nothing.
+-- list and by cases on one test.
 use mathlib.Core.Path.{_≡_, refl, sym, _∙_}
 use mathlib.Core.Bool.{Bool, true, false, cond, _&&_, _||_, true≢false, and-comm}
 use mathlib.Core.List.{List, [], _∷_, _++_, append-nil}

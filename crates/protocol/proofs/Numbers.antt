@@ -1,5 +1,5 @@
 -- Results and their numbers: those of a bucket's work are of its kind and numbered above the operator's number before and up to the one
--- after; so are those of the failure-free run, from 1. Assumes nothing.
+-- after; so are those of the failure-free run, from 1.
 use Prim.Native.Nat.{ℕ, zero, suc, _+_, _≤_, _<_}
 use mathlib.Core.Path.{_≡_, refl}
 use mathlib.Core.Bool.{true, false, cond}

@@ -1,4 +1,4 @@
--- The invariant holds at the opening, and so after every list of calls. Assumes nothing.
+-- The invariant holds at the opening, and so after every list of calls.
 use Prim.Native.Nat.{ℕ, zero, suc, _<_}
 use mathlib.Core.Path.{refl}
 use mathlib.Core.List.{List, []}

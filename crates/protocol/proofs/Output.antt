@@ -1,6 +1,5 @@
 -- The output's invariant, and that each rule of a step keeps it: with its undos applied, the output is the failure-free results through the
 -- buckets worked as stable, then tentative ones numbered above the checkpoint's number, so that an undo at that number strikes only these.
--- Assumes nothing.
 use Prim.Native.Nat.{ℕ, suc, _≤_, _<_}
 use mathlib.Core.Path.{_≡_, refl, sym, _∙_, ap, ap₂}
 use mathlib.Core.Bool.{Bool, true, false, cond}
@@ -18,7 +17,7 @@ use Rattle.store.specs.Lists.{Every, keep}
 use Rattle.store.proofs.Pairs.{every-to, every-append}
 use Rattle.store.proofs.Keeping.{keep-append, keep-all, keep-none}
 use Rattle.operator.specs.declared.Operator.{Operator}
-use Rattle.operator.specs.Results.{plain}
+use Rattle.record.specs.Markers.{marker}
 use Rattle.operator.specs.Work.{Worked}
 use Rattle.protocol.specs.declared.Phase.{Phase}
 use Rattle.protocol.specs.declared.Phase.the-variants as Phase
@@ -66,12 +65,12 @@ pub none-stable : (rs : List Record) → Every (λ (r : Record). r .kind ≡ let
 unfolding stableRecords isStable
 none-stable rs h = keep-none (λ (r : Record). isStable (r .kind)) rs (every-to rs (λ r e. ap isStable e) h)
 
-pub undo-not-stable : (n : ℕ) (time : ReadingTime) → stableRecords itself (plain letterU n time ∷ []) ≡ []
-unfolding stableRecords isStable plain keep
+pub undo-not-stable : (n : ℕ) (time : ReadingTime) → stableRecords itself (marker letterU n time ∷ []) ≡ []
+unfolding stableRecords isStable marker keep
 undo-not-stable n time = refl
 
-pub done-not-stable : (n : ℕ) (time : ReadingTime) → stableRecords itself (plain letterR n time ∷ []) ≡ []
-unfolding stableRecords isStable plain keep
+pub done-not-stable : (n : ℕ) (time : ReadingTime) → stableRecords itself (marker letterR n time ∷ []) ≡ []
+unfolding stableRecords isStable marker keep
 done-not-stable n time = refl
 
 -- the boundary that follows a window says nothing of results
@@ -82,16 +81,16 @@ pub record Silent (results : List Record) (due : Bool) (rs : List Record) : Type
   pub stables : stableRecords itself rs ≡ []
 
 pub boundary-silent : (s : Settings) (j : ℕ) (results : List Record) (due : Bool) → Silent results due (boundaryAt s j)
-unfolding boundaryAt applied struck doneDue applyOne struckByOne isResult isStable isTentative plain keep stableRecords
+unfolding boundaryAt applied struck doneDue applyOne struckByOne isResult isStable isTentative marker keep stableRecords
 boundary-silent s j results due =
     elim (closesWindow (s .window) j) as
-    (λ b. Silent results due (cond b (plain letterB 0 (record { 0 = bucketEnd (s .bucket) j }) ∷ []) [])) [
+    (λ b. Silent results due (cond b (marker letterB 0 (record { 0 = bucketEnd (s .bucket) j }) ∷ []) [])) [
       | true ↦ record { applies = refl; strikes = refl; keepsDue = refl; stables = refl }
       | false ↦ record { applies = refl; strikes = refl; keepsDue = refl; stables = refl }
     ]
 
-undo-due : (due : Bool) (n : ℕ) (time : ReadingTime) → doneDue itself due (plain letterU n time ∷ []) ≡ true
-unfolding doneDue plain
+undo-due : (due : Bool) (n : ℕ) (time : ReadingTime) → doneDue itself due (marker letterU n time ∷ []) ≡ true
+unfolding doneDue marker
 undo-due due n time = refl
 
 module _ (c p : ℕ) (phase : Phase) (operator checkpoint : Operator) (past : Worked) (output : List Record) (v : Measured c p phase operator checkpoint past output) where
@@ -105,7 +104,7 @@ module _ (c p : ℕ) (phase : Phase) (operator checkpoint : Operator) (past : Wo
   no-more-stable : (xs : List Record) → stableRecords itself xs ≡ [] → stableRecords itself (output ++ xs) ≡ past .records
   no-more-stable xs e = stable-append output xs ∙ rw (v .asTheyCame, e) (append-nil _)
 
-  pub measured-withdraw : Every (Numbered letterS 0 (past .operator .number)) (past .records) → (time : ReadingTime) → Measured c c Phase.Correcting checkpoint checkpoint past (output ++ plain letterU (checkpoint .number) time ∷ [])
+  pub measured-withdraw : Every (Numbered letterS 0 (past .operator .number)) (past .records) → (time : ReadingTime) → Measured c c Phase.Correcting checkpoint checkpoint past (output ++ marker letterU (checkpoint .number) time ∷ [])
   unfolding isCorrecting
   measured-withdraw f time =
       record {
@@ -122,7 +121,7 @@ module _ (c p : ℕ) (phase : Phase) (operator checkpoint : Operator) (past : Wo
             (rw (v .undone, undo-struck (checkpoint .number) time (past .records) (v .tentative) low high)
             (every-to (v .tentative) (λ r b. b .kind) (v .numbers)));
         due =
-            doneDue-append false output (plain letterU (checkpoint .number) time ∷ []) ∙
+            doneDue-append false output (marker letterU (checkpoint .number) time ∷ []) ∙
             undo-due (doneDue itself false output) (checkpoint .number) time;
         asTheyCame = no-more-stable _ (undo-not-stable (checkpoint .number) time);
       }
@@ -173,8 +172,8 @@ module _ (c p : ℕ) (phase : Phase) (operator checkpoint : Operator) (past : Wo
       are : Every IsResult (w .records)
       are = every-to (w .records) stable-result kinds
 
-  pub measured-done : (time : ReadingTime) → Measured c p Phase.Stable operator checkpoint past (output ++ plain letterR 0 time ∷ [])
-  unfolding isCorrecting applied struck doneDue applyOne struckByOne isResult isStable isTentative plain
+  pub measured-done : (time : ReadingTime) → Measured c p Phase.Stable operator checkpoint past (output ++ marker letterR 0 time ∷ [])
+  unfolding isCorrecting applied struck doneDue applyOne struckByOne isResult isStable isTentative marker
   measured-done time =
       record {
         atCheckpoint = v .atCheckpoint;

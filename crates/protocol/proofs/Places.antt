@@ -1,5 +1,5 @@
 -- Three lists place by place: the node's lines, the monitor's lines and the accepted stable readings. A relation that holds at every
--- place is kept by a change at one place that keeps it there. Assumes nothing.
+-- place is kept by a change at one place that keeps it there.
 use Prim.Native.Nat.{ℕ, zero, suc}
 use mathlib.Core.Path.{_≡_, refl, ap}
 use mathlib.Core.List.{List, [], _∷_, map}

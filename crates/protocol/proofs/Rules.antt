@@ -1,5 +1,5 @@
 -- The node and the monitor choose the same rule: bucket c is stable where c is below the least boundary divided by the bucket length, and
--- an overdue reading of bucket p or later is kept, since p is at or above c. Assumes nothing.
+-- an overdue reading of bucket p or later is kept, since p is at or above c.
 use Prim.Native.Nat.{ℕ, suc, _+_, _*_, _/_, _≤_, _<_, min}
 use mathlib.Core.Path.{_≡_, refl, sym, _∙_, ap, ap₂}
 use mathlib.Core.Bool.{Bool, true, false, cond, _&&_, _||_, and-true}
@@ -18,7 +18,7 @@ use Rattle.store.specs.Lists.{Every, someOf, allOf}
 use Rattle.store.proofs.Choices.{and-parts}
 use Rattle.store.proofs.Pairs.{every-any}
 use Rattle.store.proofs.Keeping.{some-map}
-use Rattle.protocol.specs.Node.{Line, Node, isStable}
+use Rattle.protocol.specs.Node.{Line, Node, isStableBucket}
 use Rattle.protocol.specs.declared.Rule.{Rule}
 use Rattle.protocol.specs.declared.Rule.the-variants as Rule
 use Rattle.protocol.specs.Rules.{firstRule, isCorrecting, isOverdue, someOverdue, ruleOf}
@@ -73,8 +73,8 @@ all-least x (l ∷ m ∷ ls) h =
     ap (_&&_ (leb x (l .boundary .0))) (all-least x (m ∷ ls) (omega arith)) ∙ sym (leb-min x (l .boundary .0) (leastBoundaryOf (m ∷ ls)))
 
 -- so bucket c is stable where it is below the least boundary divided by the bucket length
-pub stable-least : (s : Settings) (c : ℕ) (ls : List Line) → 0 < s .bucket → 0 < length ls → isStable s c ls ≡ ltb c (leastBoundaryOf ls / s .bucket)
-unfolding isStable finishes bucketEnd
+pub stable-least : (s : Settings) (c : ℕ) (ls : List Line) → 0 < s .bucket → 0 < length ls → isStableBucket s c ls ≡ ltb c (leastBoundaryOf ls / s .bucket)
+unfolding isStableBucket finishes bucketEnd
 stable-least s c ls room h =
     all-least (c * s .bucket + s .bucket) ls h ∙
     both-ways (leb (c * s .bucket + s .bucket) (leastBoundaryOf ls)) (ltb c (leastBoundaryOf ls / s .bucket))

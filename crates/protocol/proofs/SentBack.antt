@@ -1,4 +1,4 @@
--- What is held after every list of calls: by the invariant, and since each call keeps what is held within the places. Assumes nothing.
+-- What is held after every list of calls: by the invariant, and since each call keeps what is held within the places.
 use Prim.Native.Nat.{ℕ, zero, suc, _+_, _/_, _-_, _≤_, _<_}
 use mathlib.Core.Path.{_≡_, refl, sym, _∙_, ap, subst}
 use mathlib.Core.Bool.{true, false, cond, true≢false}
@@ -17,7 +17,7 @@ use Rattle.operator.specs.declared.Operator.{Operator}
 use Rattle.operator.specs.Meters.{fresh}
 use Rattle.retransmission.specs.Sizes.{heldResults}
 use Rattle.protocol.specs.Kinds.{Kind, kindOf, uses, isStep}
-use Rattle.protocol.specs.Node.{Node, opened, isStable}
+use Rattle.protocol.specs.Node.{Node, opened, isStableBucket}
 use Rattle.protocol.specs.declared.Rule.{Rule}
 use Rattle.protocol.specs.declared.Rule.the-variants as Rule
 use Rattle.protocol.specs.Rules.{isCorrecting, someOverdue, ruleOf, worked, act}
@@ -132,7 +132,7 @@ module _ (s : Settings) (room : 0 < s .bucket) (t : Trace) (v : Kept s t) where
       (t .monitor .d < stableBuckets s (t .monitor)) × (t .monitor .t ≡ t .monitor .d) ×
       (leastOf (t .acknowledged) + heldResults < length (failureFree s (t .stables) (suc (t .monitor .d)) .records))
 
-  stable-full : isStable s (t .node .c) (t .node .lines) ≡ true → ltb (t .node .c) (t .node .p) ≡ false → lacksPlaces s (t .node) Rule.WorkStable ≡ true → Full
+  stable-full : isStableBucket s (t .node .c) (t .node .lines) ≡ true → ltb (t .node .c) (t .node .p) ≡ false → lacksPlaces s (t .node) Rule.WorkStable ≡ true → Full
   unfolding lacksPlaces freePlaces givenUpTo stableBuckets stableResults
   stable-full a b e =
       let i = v .invariant in
@@ -156,7 +156,7 @@ module _ (s : Settings) (room : 0 < s .bucket) (t : Trace) (v : Kept s t) where
   unfolding ruleOf lacksPlaces
   lacking-full now =
       let n = t .node in
-      rule-cases (isStable s (n .c) (n .lines)) (ltb (n .c) (n .p)) (isCorrecting (n .phase)) (someOverdue s (n .p) now (n .lines))
+      rule-cases (isStableBucket s (n .c) (n .lines)) (ltb (n .c) (n .p)) (isCorrecting (n .phase)) (someOverdue s (n .p) now (n .lines))
       (λ (rule : Rule). lacksPlaces s n rule ≡ true → Full) (λ _ _ e. absurd (true≢false (sym e))) (λ a b e. stable-full a b e)
       (λ _ _ e. absurd (true≢false (sym e))) (λ _ _ _ e. absurd (true≢false (sym e))) (λ _ _ e. absurd (true≢false (sym e)))
 

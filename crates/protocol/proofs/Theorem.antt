@@ -1,5 +1,5 @@
 -- Demand 3 on the node's meaning. A clean output is what the invariant says of the output; two nodes with none left to work have worked the
--- same buckets, since both worked all below the least boundary; and the steps left settle within the buckets and two. Assumes nothing.
+-- same buckets, since both worked all below the least boundary; and the steps left settle within the buckets and two.
 use Prim.Native.Nat.{ℕ, _*_, _/_, _≤_, _<_, min}
 use mathlib.Core.Path.{_≡_, refl, sym, _∙_, ap, subst}
 use mathlib.Core.Bool.{true}

@@ -1,4 +1,4 @@
--- Demand 3 on the node's meaning. Assumes nothing.
+-- Demand 3 on the node's meaning.
 use Prim.Native.Nat.{ℕ, zero, suc, _+_, _≤_, _<_}
 use mathlib.Core.Path.{_≡_}
 use mathlib.Core.Bool.{true, false}

@@ -1,6 +1,6 @@
 -- A monitor of the calls, document 01's day book: which buckets are to be worked as stable (section 'From the opening on'). It sees the
 -- settings, the calls' fields and whether each call was accepted. With the node it shares the letters of the kinds (Kinds.antt) and plain
--- functions on lists (`keep`, `someOf`, `modify`); buckets, boundaries, the hold and the steps it says in its own words. Assumes nothing.
+-- functions on lists (`keep`, `someOf`, `modify`); buckets, boundaries, the hold and the steps it says in its own words.
 use Prim.Native.Nat.{ℕ, suc, _+_, _-_, _/_, min}
 use mathlib.Core.Bool.{Bool, true, false, cond, _&&_}
 use mathlib.Core.List.{List, [], _∷_, _++_}

@@ -1,4 +1,4 @@
--- The send-back store on the node's meaning: what is held for the displays (document 02, W2). Assumes nothing.
+-- The send-back store on the node's meaning: what is held for the displays (document 02, W2).
 use Prim.Native.Nat.{ℕ, suc, _+_, _≤_, _<_}
 use mathlib.Core.Path.{_≡_}
 use mathlib.Core.List.{List, [], _∷_}

@@ -1,5 +1,5 @@
 -- A record's bytes give its fields back, and 32 bytes with two zeros in place are the bytes of the fields read from them.
--- Each word goes there and back by the laws of its encoding; the places add up by computing. Assumes nothing.
+-- Each word goes there and back by the laws of its encoding; the places add up by computing.
 use mathlib.Core.Path.{_≡_, refl, sym, ap, _∙_}
 use mathlib.Core.List.{List, [], _∷_, _++_}
 use Prim.Native.Nat.{ℕ, zero, suc, _+_, _-_, _^_, _<_, _≤_}

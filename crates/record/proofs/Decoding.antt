@@ -1,5 +1,5 @@
 -- Bytes are read as a record exactly if they are that record's bytes, and its kind is one that records have.
--- By the one test of the form: where it holds the fields are there and back, where it fails nothing is read. Assumes nothing.
+-- By the one test of the form: where it holds the fields are there and back, where it fails nothing is read.
 use mathlib.Core.Path.{_≡_, refl, sym, ap, subst, _∙_}
 use mathlib.Core.Bool.{true, false, _&&_, and-eq-true-iff}
 use mathlib.Core.List.{List}

@@ -1,4 +1,4 @@
--- What the writer's runs of stores come to: each laid behind the one before, they are a record's bytes. Assumes nothing.
+-- What the writer's runs of stores come to: each laid behind the one before, they are a record's bytes.
 use mathlib.Core.Path.{_≡_, refl, ap, _∙_}
 use mathlib.Core.List.{List, [], _∷_, _++_}
 use Prim.Native.Nat.{ℕ, _+_, _-_, _≤_}

@@ -1,4 +1,4 @@
--- What bytes are read as: a record exactly if they are a record's bytes, of a kind that records have. Assumes nothing.
+-- What bytes are read as: a record exactly if they are a record's bytes, of a kind that records have.
 use Prim.Native.Nat.{ℕ}
 use mathlib.Core.Bool.{Bool, cond, _&&_}
 use mathlib.Core.List.{List}

@@ -1,4 +1,4 @@
--- The records that a program can hold: each field within its width. Assumes nothing.
+-- The records that a program can hold: each field within its width.
 use Prim.Native.Nat.{_<_, _^_}
 use lib.Signed.{mag}
 use Rattle.record.specs.declared.Record.{Record}

@@ -7,6 +7,7 @@ ghost use Rattle.area.specs.Laid.{laid, inFront};
 ghost use Rattle.record.specs.Sizes.{recordBytes};
 ghost use Rattle.record.specs.Kinds.{isStable, isTentative, isResult, isRecord};
 ghost use Rattle.record.specs.Layout.{bytesOf};
+ghost use Rattle.record.specs.Markers.{marker};
 ghost use Rattle.record.specs.Fields.{fieldsOf};
 ghost use Rattle.record.specs.Decoded.{isWellFormed, decoded};
 use clock::ReadingTime;
@@ -150,5 +151,21 @@ pub fn decode(bytes: &[u8]) -> Decoded
         Decoded::Is(fields_of(bytes))
     } else {
         Decoded::Malformed
+    }
+}
+
+// A record without a result.
+pub fn marker(kind: u8, id: u32, time: ReadingTime) -> Record
+    ensures { λ r. ⌜ r ≡ marker kind id time ⌝ }
+{
+    Record {
+        sum: 0,
+        id: id,
+        time: time,
+        count: 0,
+        mean: 0,
+        last: 0,
+        kind: kind,
+        meter: 0,
     }
 }

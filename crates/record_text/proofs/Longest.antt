@@ -1,4 +1,4 @@
--- No text of a record is longer than 123 bytes, and one is as long: by how many digits the greatest number of each width has. Assumes nothing.
+-- No text of a record is longer than 123 bytes, and one is as long: by how many digits the greatest number of each width has.
 use mathlib.Core.Path.{_≡_, refl}
 use Prim.Native.Nat.{_≤_}
 use native.Mathlib.Omega.{arith}

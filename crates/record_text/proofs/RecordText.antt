@@ -1,5 +1,5 @@
 -- The text of a record is its two parts, one behind the other, and the text of a record's bytes is the record's. The first by taking the
--- fields of the first part out of its brackets. Assumes nothing.
+-- fields of the first part out of its brackets.
 use mathlib.Core.Path.{_≡_}
 use mathlib.Core.Bool.{true}
 use mathlib.Core.List.{List, _++_, append-assoc}

@@ -1,5 +1,4 @@
 -- The text of a record: a line as `merge` prints it (document 01, sections 'On the last tick and past it' and 'Refusal by whom').
--- Assumes nothing.
 use Prim.Native.Nat.{ℕ}
 use mathlib.Core.Bool.{cond}
 use mathlib.Core.List.{List, [], _∷_}

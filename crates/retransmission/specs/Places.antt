@@ -1,4 +1,4 @@
--- The send-back store's places, each of a record's bytes: result n stands at place (n - 1) modulo 512 (document 02, W2). Assumes nothing.
+-- The send-back store's places, each of a record's bytes: result n stands at place (n - 1) modulo 512 (document 02, W2).
 use Prim.Native.Nat.{ℕ, zero, suc, _-_, _%_}
 use mathlib.Core.Bool.{Bool, true, cond, _&&_}
 use mathlib.Core.List.{List, [], _∷_, _++_}

@@ -26,7 +26,7 @@ pub fn give_up(sent: &mut [u8], from: u64, to: u64)
     let mut n = from;
     while n < to {
         let at = (n % HELD_RESULTS) as usize * RECORD_BYTES;
-        columns::zero_u8(sent, at, at + RECORD_BYTES);
+        store_columns::zero_u8(sent, at, at + RECORD_BYTES);
         n += 1;
     }
 }

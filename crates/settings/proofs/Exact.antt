@@ -1,4 +1,4 @@
--- The reader is exact: a text is read as settings exactly if it is their line, whole. Assumes nothing.
+-- The reader is exact: a text is read as settings exactly if it is their line, whole.
 use mathlib.Core.Path.{_≡_, refl, ap}
 use mathlib.Core.Bool.{true, false, cond}
 use mathlib.Core.List.{List, []}

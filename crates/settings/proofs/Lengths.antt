@@ -1,4 +1,4 @@
--- The longest settings line of the form, and that its length is reached. Assumes nothing.
+-- The longest settings line of the form, and that its length is reached.
 use mathlib.Core.Path.{_≡_, refl, ap}
 use Prim.Native.Nat.{_-_, _≤_, _^_}
 use native.Mathlib.Omega.{arith}

@@ -1,5 +1,5 @@
 -- The mean has the sum's sign and is the whole number nearest to the quotient, of two equally near the even one. That of a sum in range is
--- no larger than the values' bound, so it fits 32 bits; of no value it is 0. By cases on the sign. Assumes nothing.
+-- no larger than the values' bound, so it fits 32 bits; of no value it is 0. By cases on the sign.
 use mathlib.Core.Path.{_≡_, refl, ap}
 use mathlib.Core.Bool.{true, false}
 use Prim.Native.Nat.{ℕ, suc, _-_, _*_, _<_, _≤_, _^_}

@@ -1,5 +1,5 @@
 -- Two's complement at any number of bits: the word fits, and word and number are each other's inverse. Below, the same for what the
--- code computes. By cases on the sign; what is needed of powers is that one more bit doubles. Assumes nothing.
+-- code computes. By cases on the sign; what is needed of powers is that one more bit doubles.
 use mathlib.Core.Path.{_≡_, refl, sym, ap, _∙_}
 use mathlib.Core.Bool.{true}
 use Prim.Native.Nat.{ℕ, zero, suc, _-_, _*_, _<_, _≤_, _^_}

@@ -1,5 +1,5 @@
 -- Gathered readings in pairs: the lines stand in order, and where the ids rise in each line, the order tells the readings apart and keeps
--- those of equal time as gathered: two of one line by their ids, two of different lines by the lines. Assumes nothing.
+-- those of equal time as gathered: two of one line by their ids, two of different lines by the lines.
 use Prim.Native.Nat.{ℕ, suc, _≤_, _<_}
 use mathlib.Core.Path.{_≡_, refl}
 use mathlib.Core.Bool.{true, false}

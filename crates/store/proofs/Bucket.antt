@@ -1,5 +1,5 @@
 -- `inBucket` is the sorted list of the bucket's readings: it is sorted, it holds exactly the gathered readings, and where the ids rise in
--- each line there is no other such list. From the laws of `gather` and `sort`. Assumes nothing.
+-- each line there is no other such list. From the laws of `gather` and `sort`.
 use Prim.Native.Nat.{ℕ}
 use mathlib.Core.Path.{_≡_}
 use mathlib.Core.Logic.{_↔_}

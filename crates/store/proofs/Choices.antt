@@ -1,4 +1,4 @@
--- Laws of tests and of `cond`, by the test's two values. Assumes nothing.
+-- Laws of tests and of `cond`, by the test's two values.
 use mathlib.Core.Path.{_≡_, refl, sym, _∙_}
 use mathlib.Core.Bool.{Bool, true, false, cond, _&&_, true≢false, and-eq-true-iff}
 

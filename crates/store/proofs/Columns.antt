@@ -1,5 +1,5 @@
 -- The columns and their rows: rows laid into the store are read back from it, and the store's length stays. Each column is one instance of
--- a law over the field. Assumes nothing.
+-- a law over the field.
 use Prim.Native.Nat.{ℕ, zero, suc, _+_, _-_, _≤_, _<_}
 use mathlib.Core.Path.{_≡_, refl, sym, _∙_, ap, ap₂}
 use mathlib.Core.List.{List, [], _∷_, _++_, map}

@@ -1,5 +1,5 @@
 -- What `gather` holds: of each line the readings of the bucket, in the line's order, with the line's number, and no others. Every number
--- behind a line is above the line's own, so that to keep one line's readings is to cut that line out. Assumes nothing.
+-- behind a line is above the line's own, so that to keep one line's readings is to cut that line out.
 use Prim.Native.Nat.{ℕ, zero, suc, _+_, _-_, _≤_}
 use mathlib.Core.Path.{_≡_, refl, sym, _∙_, ap, ap₂, subst}
 use mathlib.Core.Bool.{Bool, true, false}

@@ -1,5 +1,5 @@
 -- Laws of `keep`: what it holds and how many, and how it goes through append and map, as `someOf` does. Each goes by the list and the
--- test of its first element. Assumes nothing.
+-- test of its first element.
 use Prim.Native.Nat.{ℕ, suc, _≤_}
 use native.Mathlib.Omega.{arith}
 use mathlib.Core.Path.{_≡_, refl, sym, _∙_, ap}

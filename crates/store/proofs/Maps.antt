@@ -1,5 +1,5 @@
 -- `gather` and `sort` look only at time, line and id: a map of the readings that keeps time and id, as one that erases arrivals does, goes
--- through both. The tests that they make have the same values before and after the map. Assumes nothing.
+-- through both. The tests that they make have the same values before and after the map.
 use Prim.Native.Nat.{ℕ, suc}
 use mathlib.Core.Path.{_≡_, refl, _∙_, ap}
 use mathlib.Core.List.{List, [], _∷_, map, map-map, map-append}

@@ -1,5 +1,5 @@
 -- The order inside a bucket: `before` is `Earlier`, and so a strict total order on time, line and id. The definition's tests are taken
--- apart in the laws between `before` and `Earlier` alone; the rest is arithmetic by cases. Assumes nothing.
+-- apart in the laws between `before` and `Earlier` alone; the rest is arithmetic by cases.
 use Prim.Native.Nat.{ℕ, _≤_, _<_}
 use mathlib.Core.Path.{_≡_, refl, sym, _∙_}
 use mathlib.Core.Bool.{true, false, not, true≢false}

@@ -1,4 +1,4 @@
--- Laws of `Every` and `Pairwise` under append, map and keep, and of `Every` where all pass a test. Each goes by the list. Assumes nothing.
+-- Laws of `Every` and `Pairwise` under append, map and keep, and of `Every` where all pass a test. Each goes by the list.
 use Prim.Native.Nat.{ℕ, zero, suc, _<_}
 use native.Mathlib.Omega.{arith}
 use mathlib.Core.Path.{_≡_, refl, subst⁻¹}

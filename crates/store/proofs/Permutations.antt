@@ -1,5 +1,5 @@
 -- Laws of permutations: they go back, they keep the length, and what holds of every element, or of every two whichever comes first, holds
--- after them too; a map, and what a test keeps, is permuted with the list. Each goes by the permutation or the list. Assumes nothing.
+-- after them too; a map, and what a test keeps, is permuted with the list. Each goes by the permutation or the list.
 use Prim.Native.Nat.{suc}
 use mathlib.Core.Path.{_≡_, refl, _∙_, ap}
 use mathlib.Core.Bool.{Bool, true, false, cond}

@@ -1,4 +1,4 @@
--- A share read place by place: its first number, and the share behind it. Assumes nothing.
+-- A share read place by place: its first number, and the share behind it.
 use mathlib.Core.Path.{_≡_, refl}
 use mathlib.Core.List.{List, [], _∷_}
 use Prim.Native.Nat.{ℕ, suc, _+_, _-_, _<_, _≤_}

@@ -1,5 +1,5 @@
 -- A list of readings that the order tells apart has one sorted permutation only. In a sorted permutation each reading goes before every
--- later one, so two of them that hold the same readings have the same first one, and so on. Assumes nothing.
+-- later one, so two of them that hold the same readings have the same first one, and so on.
 use mathlib.Core.Path.{_≡_, refl, sym, _∙_, subst}
 use mathlib.Core.Bool.{true, false, true≢false}
 use mathlib.Core.Logic.{_⊎_, inl, inr}

@@ -1,5 +1,5 @@
 -- The lent store: one column for each field of a reading (document 01, section 'Store and output area'). Its length is the shortest
--- column's. Assumes nothing.
+-- column's.
 use Prim.Native.Nat.{ℕ, zero, suc, min}
 use mathlib.Core.List.{List, [], _∷_, _++_, map}
 use lib.IntN.{ℤ, pos}

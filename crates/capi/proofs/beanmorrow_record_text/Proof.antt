@@ -1,4 +1,4 @@
--- `capi::beanmorrow_record_text` meets its contract: each answer of the writer is handed on as its number. Assumes nothing.
+-- `capi::beanmorrow_record_text` meets its contract: each answer of the writer is handed on as its number.
 use borrow.Author.Needs.{needs}
 use Rattle.fields.specs.Written.{writtenAnswer, writtenLength}
 use Rattle.fields.specs.declared.Written.the-variants as Written

@@ -1,4 +1,4 @@
--- `clock::bucket_end` meets its contract: a product of two numbers of 32 bits, and one more, fit 64. Assumes nothing.
+-- `clock::bucket_end` meets its contract: a product of two numbers of 32 bits, and one more, fit 64.
 use mathlib.Core.Path.{refl}
 use Prim.Native.Nat.{_+_}
 use native.Mathlib.Omega.{arith}

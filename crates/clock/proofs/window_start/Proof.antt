@@ -1,4 +1,4 @@
--- `clock::window_start` meets its contract: a difference that would fall below 0 is 0 in the definition too. Assumes nothing.
+-- `clock::window_start` meets its contract: a difference that would fall below 0 is 0 in the definition too.
 use mathlib.Core.Path.{refl, sym}
 use Prim.Native.Nat.{_+_, _-_}
 use native.Mathlib.Omega.{arith}

@@ -1,4 +1,4 @@
--- `fields::next_line` meets its contract: in the loop the first i bytes hold no 0A. Assumes nothing.
+-- `fields::next_line` meets its contract: in the loop the first i bytes hold no 0A.
 use mathlib.Core.Path.{_≡_, refl, sym}
 use mathlib.Core.List.{_++_}
 use Prim.Native.Nat.{_≤_, _-_}

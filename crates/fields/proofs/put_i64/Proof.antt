@@ -1,4 +1,4 @@
--- `fields::put_i64` meets its contract: the key and behind it the number are one run of bytes. Assumes nothing.
+-- `fields::put_i64` meets its contract: the key and behind it the number are one run of bytes.
 use native.Mathlib.Omega.{arith}
 use mathlib.Core.Path.{ap, _∙_}
 use mathlib.Core.List.{List}

@@ -1,5 +1,5 @@
 -- `journal::call_at` meets its contract: at each return the fields read so far, and the one that was not, are those of the
--- definition. Assumes nothing.
+-- definition.
 use mathlib.Core.Path.{_≡_, refl, sym, _∙_}
 use Prim.Native.Nat.{_-_, _^_}
 use native.Mathlib.Omega.{arith}

@@ -1,4 +1,4 @@
--- `journal_text::put_head` meets its contract: three stretches, each behind the one before. Assumes nothing.
+-- `journal_text::put_head` meets its contract: three stretches, each behind the one before.
 use borrow.Author.Needs.{needs}
 use Prim.Native.Nat.{_+_, _≤_}
 use native.Mathlib.Nat.{zero-add}

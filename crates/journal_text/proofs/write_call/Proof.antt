@@ -1,5 +1,4 @@
 -- `journal_text::write_call` meets its contract: the longest line has room, and its two parts behind each other are the line.
--- Assumes nothing.
 use native.Mathlib.Omega.{arith}
 use borrow.Author.Needs.{needs}
 use mathlib.Core.Path.{_≡_, sym, ap, _∙_}

@@ -1,4 +1,4 @@
--- `operator::is_counted` meets its contract: the two tests of the definition, on the numbers that are passed. Assumes nothing.
+-- `operator::is_counted` meets its contract: the two tests of the definition, on the numbers that are passed.
 use mir.Syntax.{w32}
 use mir.Val.{SFits}
 use mir.Facts.{toZ-ofZ}

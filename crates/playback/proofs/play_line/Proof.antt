@@ -10,9 +10,9 @@ use Rattle.store.specs.Columns.{columnsOf}
 use Rattle.node.specs.View.{Lent, lentOf}
 use Rattle.node.specs.Calls.{Called}
 use Rattle.node.proofs.Few.{Fewest}
-use Rattle.dispatch.specs.Dispatch.{calledOf, dispatched}
-use Rattle.dispatch.proofs.Few.{dispatched-few}
-use Rattle.reply.specs.Reply.{replyText}
+use Rattle.playback_dispatch.specs.Dispatch.{calledOf, dispatched}
+use Rattle.playback_dispatch.proofs.Few.{dispatched-few}
+use Rattle.playback_reply.specs.Reply.{replyText}
 use Rattle.playback.proofs.play_line.Statement.{statement}
 use Rattle.playback.proofs.play_line.Tie as tie
 

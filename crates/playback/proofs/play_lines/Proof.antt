@@ -6,9 +6,9 @@ use mathlib.Core.Path.{_≡_, refl, _∙_}
 use Prim.Native.Nat.{_+_, _-_, _≤_}
 use lib.ListN.{length}
 use borrow.Rule.Slice.PartMut.{same-len-mid}
-use Rattle.cursor.specs.Cut.{Lies}
-use Rattle.cursor.proofs.Cuts.{part-used}
-use Rattle.setup.proofs.Fronts.{front-within}
+use Rattle.playback_cursor.specs.Cut.{Lies}
+use Rattle.playback_cursor.proofs.Cuts.{part-used}
+use Rattle.playback.proofs.Fronts.{front-within}
 use Rattle.playback.proofs.play_lines.Statement.{statement}
 use Rattle.playback.proofs.play_lines.Tie as tie
 

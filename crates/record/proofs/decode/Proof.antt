@@ -1,4 +1,4 @@
--- `record::decode` meets its contract: the test of the form decides, as in the definition. Assumes nothing.
+-- `record::decode` meets its contract: the test of the form decides, as in the definition.
 use mathlib.Core.Path.{sym, ap, _∙_}
 use native.Mathlib.Omega.{arith}
 use Rattle.record.proofs.Decoding.{wellFormed-only, decoded-well, decoded-ill}

@@ -1,4 +1,4 @@
--- `record::fields_of` meets its contract: each field is the number of its bytes, signed numbers by two's complement. Assumes nothing.
+-- `record::fields_of` meets its contract: each field is the number of its bytes, signed numbers by two's complement.
 use mathlib.Core.Path.{_≡_, refl, ap, _∙_}
 use borrow.Author.Needs.{needs}
 use lib.ListN.{getD}

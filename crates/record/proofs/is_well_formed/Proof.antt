@@ -1,4 +1,4 @@
--- `record::is_well_formed` meets its contract: bytes of another number fail the first test, and of 32 bytes the other three are asked. Assumes nothing.
+-- `record::is_well_formed` meets its contract: bytes of another number fail the first test, and of 32 bytes the other three are asked.
 use lib.ListN.{length}
 use borrow.Author.Tests.{eq-eqb, ne-eqb}
 use Rattle.record.specs.Decoded.{isWellFormed}

@@ -1,4 +1,4 @@
--- `record::put_head` meets its contract: three runs of four bytes, one behind the other. Assumes nothing.
+-- `record::put_head` meets its contract: three runs of four bytes, one behind the other.
 use mathlib.Core.Path.{refl, _∙_}
 use Rattle.record.proofs.Stores.{room-within, head-laid}
 use Rattle.record.proofs.put_head.Statement.{statement}

@@ -1,4 +1,4 @@
--- `record::put_record` meets its contract: the first twelve bytes and the other twenty are the record's, laid down from the first place on. Assumes nothing.
+-- `record::put_record` meets its contract: the first twelve bytes and the other twenty are the record's, laid down from the first place on.
 use mathlib.Core.Path.{refl, _∙_}
 use Rattle.record.proofs.Stores.{room-within, record-laid}
 use Rattle.record.proofs.put_record.Statement.{statement}

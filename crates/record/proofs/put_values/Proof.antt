@@ -1,4 +1,4 @@
--- `record::put_values` meets its contract: the words of the signed numbers, and four runs, one behind the other. Assumes nothing.
+-- `record::put_values` meets its contract: the words of the signed numbers, and four runs, one behind the other.
 use mathlib.Core.Path.{_≡_, refl, _∙_}
 use borrow.Author.Needs.{needs}
 use mir.Syntax.{w32, w64}

@@ -1,4 +1,4 @@
--- `record_text::put_head` meets its contract: four fields, each laid behind the one before, are the first part of the text. Assumes nothing.
+-- `record_text::put_head` meets its contract: four fields, each laid behind the one before, are the first part of the text.
 use borrow.Author.Needs.{needs}
 use mathlib.Core.Path.{refl, _∙_}
 use mathlib.Core.List.{List, [], _∷_, _++_}

@@ -1,4 +1,4 @@
--- `record_text::put_tail` meets its contract: four fields, each laid behind the one before, are the second part of the text. Assumes nothing.
+-- `record_text::put_tail` meets its contract: four fields, each laid behind the one before, are the second part of the text.
 use borrow.Author.Needs.{needs}
 use mathlib.Core.Path.{refl, _∙_}
 use mathlib.Core.List.{List, [], _∷_, _++_}

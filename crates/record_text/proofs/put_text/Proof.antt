@@ -1,4 +1,4 @@
--- `record_text::put_text` meets its contract: the text is its two parts, one laid behind the other. Assumes nothing.
+-- `record_text::put_text` meets its contract: the text is its two parts, one laid behind the other.
 use mathlib.Core.Path.{_∙_}
 use Rattle.record_text.proofs.RecordText.{room-head, room-tail, parts-laid}
 use Rattle.record_text.proofs.put_text.Statement.{statement}

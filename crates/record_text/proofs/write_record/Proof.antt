@@ -1,5 +1,5 @@
 -- `record_text::write_record` meets its contract: the text is made in front of an array that holds the longest, and copied from there where
--- the area has room for it. Assumes nothing.
+-- the area has room for it.
 use native.Mathlib.Omega.{arith}
 use borrow.Author.Needs.{needs}
 use mathlib.Core.Path.{refl}

@@ -1,4 +1,4 @@
--- `record_text::write_text` meets its contract: a record's text is written, and nothing where the bytes are none. Assumes nothing.
+-- `record_text::write_text` meets its contract: a record's text is written, and nothing where the bytes are none.
 use borrow.Author.Needs.{needs}
 use mathlib.Core.Path.{sym, _∙_}
 use Rattle.record_text.proofs.Written.{no-record}

@@ -1,4 +1,4 @@
--- `retransmission::give_up` meets its contract: what is left to give up, over the store as it is, stays the same. Assumes nothing.
+-- `retransmission::give_up` meets its contract: what is left to give up, over the store as it is, stays the same.
 use Prim.Native.Nat.{_-_}
 use native.Mathlib.Omega.{arith}
 use Rattle.retransmission.proofs.GivingUp.{GivingUp, giving-start, giving-on, giving-end}

@@ -1,4 +1,4 @@
--- `retransmission::hold` meets its contract: what is left to hold, over the store as it is, stays the same. Assumes nothing.
+-- `retransmission::hold` meets its contract: what is left to hold, over the store as it is, stays the same.
 use Prim.Native.Nat.{_-_}
 use native.Mathlib.Omega.{arith}
 use Rattle.retransmission.proofs.Holding.{Holding, holding-start, holding-turn, holding-end}

@@ -1,4 +1,4 @@
--- `settings::within_limits` meets its contract: the code is the definition. Assumes nothing.
+-- `settings::within_limits` meets its contract: the code is the definition.
 use borrow.Author.Needs.{needs}
 use mir.Syntax.{w32}
 use mir.Val.{SFits}

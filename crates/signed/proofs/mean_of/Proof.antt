@@ -1,4 +1,4 @@
--- `signed::mean_of` meets its contract: what is rounded is the sum's magnitude, and the sign goes back on. Assumes nothing.
+-- `signed::mean_of` meets its contract: what is rounded is the sum's magnitude, and the sign goes back on.
 use mathlib.Core.Path.{_≡_, ap, _∙_}
 use Prim.Native.Nat.{ℕ, _<_, _^_}
 use native.Mathlib.Omega.{arith}

@@ -1,4 +1,4 @@
--- `signed::rounded` meets its contract: each way out returns a number that is nearest, and there is only one. Assumes nothing.
+-- `signed::rounded` meets its contract: each way out returns a number that is nearest, and there is only one.
 use mathlib.Core.Path.{_≡_, sym, ap, _∙_}
 use Prim.Native.Nat.{ℕ, _/_, _<_, _^_}
 use native.Mathlib.Omega.{arith}

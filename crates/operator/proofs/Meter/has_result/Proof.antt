@@ -1,4 +1,4 @@
--- `operator::Meter::has_result` meets its contract: the code is the definition. Assumes nothing.
+-- `operator::Meter::has_result` meets its contract: the code is the definition.
 use mathlib.Core.Path.{refl}
 use Rattle.operator.specs.Results.{hasResult}
 use Rattle.operator.proofs.Meter.has_result.Statement.{statement}

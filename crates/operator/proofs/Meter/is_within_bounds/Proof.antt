@@ -1,5 +1,5 @@
 -- `operator::Meter::is_within_bounds` meets its contract: a count within its limit times 2^31 fits 64 bits, and each way out is the
--- definition's. Assumes nothing.
+-- definition's.
 use mathlib.Core.Path.{_≡_, sym, ap, _∙_}
 use Prim.Native.Nat.{_*_, _<_, _^_}
 use native.Mathlib.Omega.{arith}

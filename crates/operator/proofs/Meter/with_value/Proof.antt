@@ -1,4 +1,4 @@
--- `operator::Meter::with_value` meets its contract: the old sum is one of so many values, so the new one fits. Assumes nothing.
+-- `operator::Meter::with_value` meets its contract: the old sum is one of so many values, so the new one fits.
 use mir.Syntax.{w64}
 use mir.Val.{SFits}
 use mir.Facts.{toZ-ofZ, sfits-widen}

@@ -1,5 +1,4 @@
 -- `operator::Operator::add` meets its contract: the meter that takes the value is within its bounds, so there is room for one more.
--- Assumes nothing.
 use mathlib.Core.Path.{_≡_, sym, _∙_}
 use mathlib.Core.Bool.{true, false}
 use native.Mathlib.Omega.{arith}

@@ -1,4 +1,4 @@
--- `operator::Operator::clear` meets its contract: the code is the definition. Assumes nothing.
+-- `operator::Operator::clear` meets its contract: the code is the definition.
 use mathlib.Core.Path.{refl}
 use Rattle.operator.specs.Meters.{noMeter, clear}
 use Rattle.operator.proofs.Operator.clear.Statement.{statement}

@@ -1,5 +1,5 @@
 -- `operator::Operator::close` meets its contract. The loop's invariant: what is laid down and what the meters from number `from` on still
--- give are together the window's results, in numbers, in places and in bytes. The measure is how many meters are left. Assumes nothing.
+-- give are together the window's results, in numbers, in places and in bytes. The measure is how many meters are left.
 use mathlib.Core.Path.{_≡_, sym, ap, _∙_}
 use Prim.Native.Nat.{ℕ, _-_}
 use native.Mathlib.Omega.{arith}

@@ -1,4 +1,4 @@
--- `operator::Operator::fresh` meets its contract: the code is the definition. Assumes nothing.
+-- `operator::Operator::fresh` meets its contract: the code is the definition.
 use mathlib.Core.Path.{refl}
 use Rattle.operator.specs.Meters.{noMeter, fresh}
 use Rattle.operator.proofs.Operator.fresh.Statement.{statement}

@@ -1,5 +1,4 @@
 -- `operator::Operator::is_within_bounds` meets its contract. The loop's invariant: that the meters from place i on pass is that all pass.
--- Assumes nothing.
 use mathlib.Core.Path.{_≡_, refl, sym, _∙_}
 use Prim.Native.Nat.{_-_, _<_, _≤_}
 use native.Mathlib.Numerals.{add-one}

@@ -1,5 +1,4 @@
 -- `operator::Operator::next_result` meets its contract. The loop's invariant: the next result from place i on is the one asked for.
--- Assumes nothing.
 use mathlib.Core.Path.{_≡_, refl, sym, _∙_}
 use Prim.Native.Nat.{_-_, _<_}
 use native.Mathlib.Numerals.{add-one}

@@ -1,5 +1,5 @@
 -- `operator::Operator::results_ahead` meets its contract. The loop's invariant: the results counted, and those of the meters from place i
--- on, are as many as meters give one. Assumes nothing.
+-- on, are as many as meters give one.
 use mathlib.Core.Path.{_≡_, sym, _∙_}
 use mathlib.Core.Logic.{⊎-elim}
 use Prim.Native.Nat.{_+_, _-_, _<_, _≤_}
