@@ -11,8 +11,8 @@ use Rattle.step_corrections.proofs.LinesStay.{withdraw-acts}
 use Rattle.step_corrections.proofs.withdraw.Statement.{statement}
 use Rattle.step_corrections.proofs.withdraw.Tie as tie
 
-cast-plain : tie.Need-cast-plain
-cast-plain c = search needs
+cast-marker : tie.Need-cast-marker
+cast-marker c = search needs
 
 marker-requires : tie.Need-marker-requires
 marker-requires c κs = search needs
@@ -38,4 +38,4 @@ returns c x room shape =
 pub withdraw-spec : {M : Type 1} → statement M
 withdraw-spec =
     tie.close
-    (tie.spec cast-plain marker-requires put-record-requires same-length returns)
+    (tie.spec cast-marker marker-requires put-record-requires same-length returns)
