@@ -67,11 +67,11 @@ use Rattle.consistency_examples.proofs.Surely.{itself, surely, noted, g
 
 -- texts
 unfoldable pub settingsRead : List ℕ → SettingsRead
-unfolding settingsOf judged limited settingsAt withinLimits startsWith endsLine numberField integerField withNumber withInteger isDigit runLength runValue misspelled numberAt negated integerAt Spelled.plain
+unfolding settingsOf judged limited settingsAt withinLimits startsWith endsLine numberField integerField withNumber withInteger isDigit runLength runValue misspelled numberAt negated integerAt Spelled.asInteger
 settingsRead text = settingsOf text
 
 unfoldable pub callRead : List ℕ → CallRead
-unfolding callOf whole callAt letterAt letterField isLetter startsWith endsLine numberField integerField withNumber withInteger isDigit runLength runValue misspelled numberAt negated integerAt Spelled.plain
+unfolding callOf whole callAt letterAt letterField isLetter startsWith endsLine numberField integerField withNumber withInteger isDigit runLength runValue misspelled numberAt negated integerAt Spelled.asInteger
 callRead text = callOf text
 
 -- a call on the node

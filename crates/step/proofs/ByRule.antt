@@ -12,7 +12,7 @@ use Rattle.clock.specs.Windows.{closesWindow}
 use Rattle.journal.specs.Kinds.{letterS, letterB}
 use Rattle.record.specs.Layout.{allBytes}
 use Rattle.store.specs.Columns.{Columns}
-use Rattle.operator.specs.Results.{plain}
+use Rattle.record.specs.Markers.{marker}
 use Rattle.protocol.specs.declared.Rule.{Rule}
 use Rattle.protocol.specs.declared.Rule.the-variants as Rule
 use Rattle.protocol.specs.Rules.{ruleOf, act, worked}
@@ -58,7 +58,7 @@ module _ (st : State) (x : Columns) (records : ℕ) (given : records ≡ length 
   pub stable-count-closing : closesWindow (st .settings .window) (st .c) ≡ true → records + 1 ≡ length (act (st .settings) (view st x) Rule.WorkStable .records)
   unfolding act view
   stable-count-closing e =
-      rw (with-boundary (st .settings) (st .c) (worked (st .settings) letterS (st .c) (view st x) .records) e, one-more (worked (st .settings) letterS (st .c) (view st x) .records) (plain letterB 0 (record { 0 = bucketEnd (st .settings .bucket) (st .c) })), given)
+      rw (with-boundary (st .settings) (st .c) (worked (st .settings) letterS (st .c) (view st x) .records) e, one-more (worked (st .settings) letterS (st .c) (view st x) .records) (marker letterB 0 (record { 0 = bucketEnd (st .settings .bucket) (st .c) })), given)
 
   pub stable-count : closesWindow (st .settings .window) (st .c) ≡ false → records ≡ length (act (st .settings) (view st x) Rule.WorkStable .records)
   unfolding act view
