@@ -2,6 +2,7 @@
 ghost use mathlib.Core.Path.{_≡_};
 ghost use Prim.Native.Nat.{_≤_};
 ghost use lib.ListN.{take};
+ghost use Rattle.settings.specs.Limits.{maxDisplays};
 ghost use Rattle.protocol.specs.Displays.{leastOf};
 ghost use Rattle.call_acknowledgements.specs.SpanOf.{spanOf};
 
@@ -13,7 +14,7 @@ pub struct Span {
 
 // The least and the greatest of the first ids, so many of them.
 pub fn span_of(ids: [u64; node::DISPLAYS], displays: usize) -> Span
-    requires { ⌜ (1 ≤ displays) × (displays ≤ 4) ⌝ }
+    requires { ⌜ (1 ≤ displays) × (displays ≤ maxDisplays) ⌝ }
     ensures { λ r. ⌜ r ≡ spanOf (take displays ids) ⌝ }
 {
     let mut least = ids[0];
@@ -37,7 +38,7 @@ pub fn span_of(ids: [u64; node::DISPLAYS], displays: usize) -> Span
 
 // The least of the first ids, so many of them.
 pub fn least(ids: [u64; node::DISPLAYS], displays: usize) -> u64
-    requires { ⌜ (1 ≤ displays) × (displays ≤ 4) ⌝ }
+    requires { ⌜ (1 ≤ displays) × (displays ≤ maxDisplays) ⌝ }
     ensures { λ r. ⌜ r ≡ leastOf (take displays ids) ⌝ }
 {
     let span = span_of(ids, displays);

@@ -36,10 +36,6 @@ room n x h =
       meters = omega arith;
     }
 
-pub room-back : (n : ℕ) (x : Columns) → Room n x → n ≤ storeLength x
-unfolding storeLength
-room-back n x r = omega arith
-
 pub length-rowsFrom : (x : Columns) (i n : ℕ) → length (rowsFrom x i n) ≡ n
 unfolding rowsFrom
 length-rowsFrom x i zero = refl

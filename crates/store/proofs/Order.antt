@@ -105,15 +105,6 @@ level-turned a b h =
     let (t, l, i) = level-equal b a .0 e in
     true≢false (sym (level-equal a b .1 (sym t, sym l, sym i)) ∙ h))
 
--- of two level readings neither goes before the other
-pub level-not-before : (a b : Placed) → isLevel a b ≡ true → before a b ≡ false
-level-not-before a b e = false-unless (before a b) (λ h. equal-not-earlier (level-equal a b .0 e) (before-earlier a b h))
-  where
-    equal-not-earlier : (a .reading .time .0 ≡ b .reading .time .0) × (a .line ≡ b .line) × (a .reading .id ≡ b .reading .id) → Earlier a b → ⊥
-    equal-not-earlier q (by-time h) = omega arith
-    equal-not-earlier q (by-line e h) = omega arith
-    equal-not-earlier q (by-id e f h) = omega arith
-
 pub data Compared (m n : ℕ) : Type 0 where
   below : m < n → Compared m n
   same : m ≡ n → Compared m n

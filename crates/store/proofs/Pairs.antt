@@ -72,10 +72,6 @@ module _ {A : Type 0} where
   pairwise-to [] f h = tt
   pairwise-to (x ∷ xs) f h = (every-to xs (f x) (h .0), pairwise-to xs f (h .1))
 
-  pub pairwise-any : (R : A → A → Type 0) (xs : List A) → ((x y : A) → R x y) → Pairwise R xs
-  pairwise-any R [] f = tt
-  pairwise-any R (x ∷ xs) f = (every-any (R x) xs (f x), pairwise-any R xs f)
-
   pub pairwise-append : (R : A → A → Type 0) (xs ys : List A) → Pairwise R xs → Pairwise R ys → Every (λ x. Every (R x) ys) xs → Pairwise R (xs ++ ys)
   pairwise-append R [] ys h k c = k
   pairwise-append R (x ∷ xs) ys h k c = (every-append (R x) xs ys (h .0) (c .0), pairwise-append R xs ys (h .1) k (c .1))

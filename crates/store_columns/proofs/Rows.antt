@@ -54,10 +54,6 @@ module _ (x : Columns) (base n : ℕ) (h : base + n ≤ storeLength x) where
   unfolding rowAt
   times-share = field-share x (λ (r : Reading). r .time .0) 0 (x .times) (λ i. refl) base n (room (base + n) x h .times)
 
-  pub values-share : map (λ (r : Reading). r .value) (rowsFrom x base n) ≡ share base n (x .values)
-  unfolding rowAt
-  values-share = field-share x (λ (r : Reading). r .value) (pos 0) (x .values) (λ i. refl) base n (room (base + n) x h .values)
-
   pub arrivals-share : map (λ (r : Reading). r .arrival .0) (rowsFrom x base n) ≡ share base n (x .arrivals)
   unfolding rowAt
   arrivals-share = field-share x (λ (r : Reading). r .arrival .0) 0 (x .arrivals) (λ i. refl) base n (room (base + n) x h .arrivals)

@@ -2,22 +2,27 @@
 // zeroed, and a bucket's places in the shares of all lines.
 ghost use mathlib.Core.Path.{_≡_};
 ghost use mathlib.Core.Bool.{_&&_};
-ghost use mathlib.Core.List.{[], _∷_};
-ghost use Prim.Native.Nat.{_+_, _-_, _<_, _≤_, _*_};
+ghost use mathlib.Core.List.{List, [], _∷_};
+ghost use Prim.Native.Nat.{ℕ, _+_, _-_, _<_, _≤_, _*_};
 ghost use lib.Dec.{leb, ltb, eqb};
 ghost use lib.IntN.{pos};
 ghost use lib.ListN.{length, replicate};
 ghost use lib.Seq.{sets};
+ghost use Rattle.settings.specs.Limits.{maxLines};
 ghost use Rattle.journal.specs.Kinds.{letterT};
 ghost use Rattle.store.specs.Lists.{someOf, allOf, Every};
 ghost use Rattle.store.specs.Parts.{share, withRowsAt};
 ghost use Rattle.store_columns.specs.Tests.{someOfBoth, isLateDue};
 ghost use Rattle.store_columns.specs.Shape.{rises, isReadingKind};
 ghost use Rattle.store.specs.Sizes.{readingsPerLine};
-ghost use Rattle.store.specs.Columns.{columnsOf, storeLength, zeroed};
+ghost use Rattle.store.specs.Columns.{Columns, columnsOf, storeLength, zeroed};
 ghost use Rattle.store_columns.specs.Shares.{bucketPlaces};
 use clock::ArrivalTick;
+use clock::ReadingTime;
 use store::Reading;
+
+// The last reading time.
+const LAST_TIME: u64 = 4_294_967_295;
 
 // ---- places zeroed, one function for each type of element
 
@@ -120,16 +125,17 @@ fn some_between(
     arrivals: &[u32],
     base: usize,
     n: usize,
-    first: u32,
-    latest: u32,
+    first: ReadingTime,
+    latest: ArrivalTick,
 ) -> bool
     requires { ⌜ (base + n ≤ length (now times)) × (base + n ≤ length (now arrivals)) ⌝ }
-    ensures { λ r. ⌜ r ≡ someOfBoth (λ t a. leb first t && leb a latest) (share base n (now (times .entry))) (share base n (now (arrivals .entry))) ⌝ }
+    ensures { λ r. ⌜ r ≡ someOfBoth (λ t a. leb (first .0) t && leb a (latest .0))
+        (share base n (now (times .entry))) (share base n (now (arrivals .entry))) ⌝ }
 {
     let mut found = false;
     let mut i = 0;
     while i < n {
-        found = found | ((first <= times[base + i]) & (arrivals[base + i] <= latest));
+        found = found | ((first.0 <= times[base + i]) & (arrivals[base + i] <= latest.0));
         i += 1;
     }
     found
@@ -147,16 +153,26 @@ pub fn some_due(
     tick: ArrivalTick,
 ) -> bool
     requires { ⌜ (0 < bucket) × (base + n ≤ length (now times)) × (base + n ≤ length (now arrivals)) ⌝ }
-    ensures { λ r. ⌜ r ≡ someOfBoth (isLateDue bucket p hold tick) (share base n (now (times .entry))) (share base n (now (arrivals .entry))) ⌝ }
+    ensures { λ r. ⌜ r ≡ someOfBoth (isLateDue bucket p hold tick)
+        (share base n (now (times .entry))) (share base n (now (arrivals .entry))) ⌝ }
 {
-    let first = (p as u64) * (bucket as u64);
-    if 4_294_967_295 < first {
+    let start = (p as u64) * (bucket as u64);
+    if LAST_TIME < start {
         return false;
     }
     if tick.0 < hold {
         return false;
     }
-    some_between(times, arrivals, base, n, first as u32, tick.0 - hold)
+    let first = start as u32;
+    let latest = tick.0 - hold;
+    some_between(
+        times,
+        arrivals,
+        base,
+        n,
+        ReadingTime(first),
+        ArrivalTick(latest),
+    )
 }
 
 // ---- all six columns
@@ -172,8 +188,16 @@ pub fn place(
     at: usize,
     r: Reading,
 )
-    requires { ⌜ at < storeLength (columnsOf (now ids) (now times) (now values) (now arrivals) (now kinds) (now meters)) ⌝ }
-    ensures { λ _. ⌜ columnsOf (now (ids .exit)) (now (times .exit)) (now (values .exit)) (now (arrivals .exit)) (now (kinds .exit)) (now (meters .exit)) ≡ withRowsAt (columnsOf (now (ids .entry)) (now (times .entry)) (now (values .entry)) (now (arrivals .entry)) (now (kinds .entry)) (now (meters .entry))) at (r ∷ []) ⌝ }
+    requires { let x : Columns = columnsOf (now ids) (now times) (now values) (now arrivals) (now kinds) (now meters) in
+        ⌜ at < storeLength x ⌝ }
+    ensures { λ _.
+        let x : Columns =
+        columnsOf (now (ids .entry)) (now (times .entry)) (now (values .entry)) (now (arrivals .entry)) (now (kinds .entry))
+        (now (meters .entry)) in
+        let x′ : Columns =
+        columnsOf (now (ids .exit)) (now (times .exit)) (now (values .exit)) (now (arrivals .exit)) (now (kinds .exit))
+        (now (meters .exit)) in
+        ⌜ x′ ≡ withRowsAt x at (r ∷ []) ⌝ }
 {
     ids[at] = r.id;
     times[at] = r.time.0;
@@ -187,9 +211,11 @@ pub fn place(
 // Zeroes the places from `from` up to `to`: three columns.
 fn zero_first(ids: &mut [u32], times: &mut [u32], arrivals: &mut [u32], from: usize, to: usize)
     requires { ⌜ (from ≤ to) × (to ≤ length (now ids)) × (to ≤ length (now times)) × (to ≤ length (now arrivals)) ⌝ }
-    ensures { λ _. ⌜ now (ids .exit) ≡ sets (now (ids .entry)) from (replicate (to - from) 0) ⌝ }
-    ensures { λ _. ⌜ now (times .exit) ≡ sets (now (times .entry)) from (replicate (to - from) 0) ⌝ }
-    ensures { λ _. ⌜ now (arrivals .exit) ≡ sets (now (arrivals .entry)) from (replicate (to - from) 0) ⌝ }
+    ensures { λ _.
+        let zeroes : List ℕ = replicate (to - from) 0 in
+        ⌜ (now (ids .exit) ≡ sets (now (ids .entry)) from zeroes)
+        × (now (times .exit) ≡ sets (now (times .entry)) from zeroes)
+        × (now (arrivals .exit) ≡ sets (now (arrivals .entry)) from zeroes) ⌝ }
 {
     zero_u32(ids, from, to);
     zero_u32(times, from, to);
@@ -199,9 +225,11 @@ fn zero_first(ids: &mut [u32], times: &mut [u32], arrivals: &mut [u32], from: us
 // The other three.
 fn zero_others(values: &mut [i32], kinds: &mut [u8], meters: &mut [u8], from: usize, to: usize)
     requires { ⌜ (from ≤ to) × (to ≤ length (now values)) × (to ≤ length (now kinds)) × (to ≤ length (now meters)) ⌝ }
-    ensures { λ _. ⌜ now (values .exit) ≡ sets (now (values .entry)) from (replicate (to - from) (pos 0)) ⌝ }
-    ensures { λ _. ⌜ now (kinds .exit) ≡ sets (now (kinds .entry)) from (replicate (to - from) 0) ⌝ }
-    ensures { λ _. ⌜ now (meters .exit) ≡ sets (now (meters .entry)) from (replicate (to - from) 0) ⌝ }
+    ensures { λ _.
+        let zeroes : List ℕ = replicate (to - from) 0 in
+        ⌜ (now (values .exit) ≡ sets (now (values .entry)) from (replicate (to - from) (pos 0)))
+        × (now (kinds .exit) ≡ sets (now (kinds .entry)) from zeroes)
+        × (now (meters .exit) ≡ sets (now (meters .entry)) from zeroes) ⌝ }
 {
     zero_i32(values, from, to);
     zero_u8(kinds, from, to);
@@ -219,18 +247,29 @@ pub fn zero(
     from: usize,
     to: usize,
 )
-    requires { ⌜ (from ≤ to) × (to ≤ storeLength (columnsOf (now ids) (now times) (now values) (now arrivals) (now kinds) (now meters))) ⌝ }
-    ensures { λ _. ⌜ columnsOf (now (ids .exit)) (now (times .exit)) (now (values .exit)) (now (arrivals .exit)) (now (kinds .exit)) (now (meters .exit)) ≡ withRowsAt (columnsOf (now (ids .entry)) (now (times .entry)) (now (values .entry)) (now (arrivals .entry)) (now (kinds .entry)) (now (meters .entry))) from (replicate (to - from) zeroed) ⌝ }
+    requires { let x : Columns = columnsOf (now ids) (now times) (now values) (now arrivals) (now kinds) (now meters) in
+        ⌜ (from ≤ to) × (to ≤ storeLength x) ⌝ }
+    ensures { λ _.
+        let x : Columns =
+        columnsOf (now (ids .entry)) (now (times .entry)) (now (values .entry)) (now (arrivals .entry)) (now (kinds .entry))
+        (now (meters .entry)) in
+        let x′ : Columns =
+        columnsOf (now (ids .exit)) (now (times .exit)) (now (values .exit)) (now (arrivals .exit)) (now (kinds .exit))
+        (now (meters .exit)) in
+        ⌜ x′ ≡ withRowsAt x from (replicate (to - from) zeroed) ⌝ }
 {
     zero_first(ids, times, arrivals, from, to);
     zero_others(values, kinds, meters, from, to);
 }
 
-// Puts the places of bucket j's readings in front of `places`, line by line, where line i + 1 keeps kept[i]; answers how many there are.
+// Puts the places of bucket j's readings in front of `places`, line by line, where line i + 1 keeps kept[i]; returns how many there are.
 pub fn bucket_places(times: &[u32], kept: &[u32], bucket: u32, j: u32, places: &mut [u16]) -> usize
-    requires { ⌜ (0 < bucket) × (length (now kept) ≤ 8) × Every (λ n. n ≤ readingsPerLine) (now kept) × (length (now kept) * readingsPerLine ≤ length (now times)) × (length (now kept) * readingsPerLine ≤ length (now places)) ⌝ }
-    ensures { λ r. ⌜ r ≡ length (bucketPlaces bucket j (now (times .entry)) 0 (now (kept .entry))) ⌝ }
-    ensures { λ _. ⌜ now (places .exit) ≡ sets (now (places .entry)) 0 (bucketPlaces bucket j (now (times .entry)) 0 (now (kept .entry))) ⌝ }
+    requires { let all : ℕ = length (now kept) * readingsPerLine in
+        ⌜ (0 < bucket) × (length (now kept) ≤ maxLines) × Every (λ n. n ≤ readingsPerLine) (now kept)
+        × (all ≤ length (now times)) × (all ≤ length (now places)) ⌝ }
+    ensures { λ r.
+        let found : List ℕ = bucketPlaces bucket j (now (times .entry)) 0 (now (kept .entry)) in
+        ⌜ (r ≡ length found) × (now (places .exit) ≡ sets (now (places .entry)) 0 found) ⌝ }
 {
     let mut i = 0;
     let mut at = 0;

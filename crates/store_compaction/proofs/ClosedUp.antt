@@ -26,13 +26,13 @@ module _ {A : Type 0} (blank : A) where
       rw (getD-set-other xs at p x blank (λ e. absurd (omega arith)), places-same (suc p) to at ps xs x (omega arith) (rise .2))
 
   -- the first place moved, and the rest closed up
-  pub closed-up-cons : (base n to p : ℕ) (places : List ℕ) (xs : List A) → base ≤ p → PlacesRise (suc p) to places → closedUp blank (suc base) n places (set xs base (getD xs p blank)) ≡ closedUp blank base (suc n) (p ∷ places) xs
+  closed-up-cons : (base n to p : ℕ) (places : List ℕ) (xs : List A) → base ≤ p → PlacesRise (suc p) to places → closedUp blank (suc base) n places (set xs base (getD xs p blank)) ≡ closedUp blank base (suc n) (p ∷ places) xs
   unfolding closedUp
   closed-up-cons base n to p places xs h rise =
       rw (suc-sub-suc, places-same (suc p) to base places xs (getD xs p blank) (omega arith) rise)
 
   -- no place stays
-  pub closed-up-none : (base n : ℕ) (xs : List A) → closedUp blank base n [] xs ≡ sets xs base (replicate n blank)
+  closed-up-none : (base n : ℕ) (xs : List A) → closedUp blank base n [] xs ≡ sets xs base (replicate n blank)
   unfolding closedUp
   closed-up-none base n xs = simp sub-zero
 

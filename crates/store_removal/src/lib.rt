@@ -1,13 +1,15 @@
 // A bucket's readings taken out of a share, in all six columns.
 ghost use mathlib.Core.Path.{_≡_};
 ghost use mathlib.Core.Bool.{not};
-ghost use Prim.Native.Nat.{_+_, _<_, _≤_, _^_};
+ghost use mathlib.Core.List.{List};
+ghost use Prim.Native.Nat.{ℕ, _+_, _<_, _≤_, _^_};
 ghost use lib.IntN.{pos};
 ghost use lib.ListN.{length};
+ghost use Rattle.store.specs.declared.Reading.{Reading};
 ghost use Rattle.store.specs.Sizes.{readingsPerLine};
 ghost use Rattle.store.specs.Lists.{keep};
 ghost use Rattle.store.specs.Order.{isIn};
-ghost use Rattle.store.specs.Columns.{columnsOf, storeLength, rowsFrom};
+ghost use Rattle.store.specs.Columns.{Columns, columnsOf, storeLength, rowsFrom};
 ghost use Rattle.store.specs.Parts.{withKept};
 ghost use Rattle.store_places.specs.Places.{PlacesRise};
 ghost use Rattle.store_compaction.specs.ClosedUp.{closedUp};
@@ -21,10 +23,12 @@ fn close_first(
     n: usize,
     stay: &[u16],
 )
-    requires { ⌜ (base + n ≤ length (now ids)) × (base + n ≤ length (now times)) × (base + n ≤ length (now arrivals)) × PlacesRise base (base + n) (now stay) ⌝ }
-    ensures { λ _. ⌜ now (ids .exit) ≡ closedUp 0 base n (now (stay .entry)) (now (ids .entry)) ⌝ }
-    ensures { λ _. ⌜ now (times .exit) ≡ closedUp 0 base n (now (stay .entry)) (now (times .entry)) ⌝ }
-    ensures { λ _. ⌜ now (arrivals .exit) ≡ closedUp 0 base n (now (stay .entry)) (now (arrivals .entry)) ⌝ }
+    requires { let end : ℕ = base + n in
+        ⌜ (end ≤ length (now ids)) × (end ≤ length (now times)) × (end ≤ length (now arrivals)) × PlacesRise base end (now stay) ⌝ }
+    ensures { λ _.
+        let closed : List ℕ → List ℕ = closedUp 0 base n (now (stay .entry)) in
+        ⌜ (now (ids .exit) ≡ closed (now (ids .entry))) × (now (times .exit) ≡ closed (now (times .entry)))
+        × (now (arrivals .exit) ≡ closed (now (arrivals .entry))) ⌝ }
 {
     store_compaction::close_u32(ids, base, n, stay);
     store_compaction::close_u32(times, base, n, stay);
@@ -40,17 +44,20 @@ fn close_others(
     n: usize,
     stay: &[u16],
 )
-    requires { ⌜ (base + n ≤ length (now values)) × (base + n ≤ length (now kinds)) × (base + n ≤ length (now meters)) × PlacesRise base (base + n) (now stay) ⌝ }
-    ensures { λ _. ⌜ now (values .exit) ≡ closedUp (pos 0) base n (now (stay .entry)) (now (values .entry)) ⌝ }
-    ensures { λ _. ⌜ now (kinds .exit) ≡ closedUp 0 base n (now (stay .entry)) (now (kinds .entry)) ⌝ }
-    ensures { λ _. ⌜ now (meters .exit) ≡ closedUp 0 base n (now (stay .entry)) (now (meters .entry)) ⌝ }
+    requires { let end : ℕ = base + n in
+        ⌜ (end ≤ length (now values)) × (end ≤ length (now kinds)) × (end ≤ length (now meters)) × PlacesRise base end (now stay) ⌝ }
+    ensures { λ _.
+        let closed : List ℕ → List ℕ = closedUp 0 base n (now (stay .entry)) in
+        ⌜ (now (values .exit) ≡ closedUp (pos 0) base n (now (stay .entry)) (now (values .entry)))
+        × (now (kinds .exit) ≡ closed (now (kinds .entry))) × (now (meters .exit) ≡ closed (now (meters .entry))) ⌝ }
 {
     store_compaction::close_i32(values, base, n, stay);
     store_compaction::close_u8(kinds, base, n, stay);
     store_compaction::close_u8(meters, base, n, stay);
 }
 
-// Takes bucket j's readings out of a share that keeps n readings from `base` on; the others keep their order. Answers how many they are.
+// Takes bucket j's readings out of a share that keeps n readings from `base` on; the others keep their order. Returns how many they are.
+// A place has 16 bits.
 pub fn remove_bucket(
     ids: &mut [u32],
     times: &mut [u32],
@@ -63,9 +70,17 @@ pub fn remove_bucket(
     bucket: u32,
     j: u32,
 ) -> usize
-    requires { ⌜ (0 < bucket) × (n ≤ readingsPerLine) × (base + n ≤ 2 ^ 16) × (base + n ≤ storeLength (columnsOf (now ids) (now times) (now values) (now arrivals) (now kinds) (now meters))) ⌝ }
-    ensures { λ r. ⌜ r ≡ length (keep (λ q. not (isIn bucket j q)) (rowsFrom (columnsOf (now (ids .entry)) (now (times .entry)) (now (values .entry)) (now (arrivals .entry)) (now (kinds .entry)) (now (meters .entry))) base n)) ⌝ }
-    ensures { λ _. ⌜ columnsOf (now (ids .exit)) (now (times .exit)) (now (values .exit)) (now (arrivals .exit)) (now (kinds .exit)) (now (meters .exit)) ≡ withKept (columnsOf (now (ids .entry)) (now (times .entry)) (now (values .entry)) (now (arrivals .entry)) (now (kinds .entry)) (now (meters .entry))) base n (keep (λ q. not (isIn bucket j q)) (rowsFrom (columnsOf (now (ids .entry)) (now (times .entry)) (now (values .entry)) (now (arrivals .entry)) (now (kinds .entry)) (now (meters .entry))) base n)) ⌝ }
+    requires { let x : Columns = columnsOf (now ids) (now times) (now values) (now arrivals) (now kinds) (now meters) in
+        ⌜ (0 < bucket) × (n ≤ readingsPerLine) × (base + n ≤ 2 ^ 16) × (base + n ≤ storeLength x) ⌝ }
+    ensures { λ r.
+        let x : Columns =
+        columnsOf (now (ids .entry)) (now (times .entry)) (now (values .entry)) (now (arrivals .entry)) (now (kinds .entry))
+        (now (meters .entry)) in
+        let x′ : Columns =
+        columnsOf (now (ids .exit)) (now (times .exit)) (now (values .exit)) (now (arrivals .exit)) (now (kinds .exit))
+        (now (meters .exit)) in
+        let kept : List Reading = keep (λ q. not (isIn bucket j q)) (rowsFrom x base n) in
+        ⌜ (r ≡ length kept) × (x′ ≡ withKept x base n kept) ⌝ }
 {
     let mut space = [0u16; store::READINGS_PER_LINE];
     let places: &mut [u16] = &mut space;

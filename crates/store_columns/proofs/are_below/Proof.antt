@@ -31,14 +31,16 @@ loop-less c = omega arith
 
 loop-again : tie.Need-loop-again Inv-loop μ-loop
 loop-again c =
-    let a = c .before .before .before .args in
-    let l = c .before .before .loop in
+    let head = c .before .before in
+    let a = head .before .args in
+    let l = head .loop in
     all-turn (λ m. ltb m (a .limit)) (a .meters .now) (a .base) (a .n) (l .ok) (l .i) (l .inv) (omega arith) (omega arith)
 
 returns : tie.Need-returns Inv-loop μ-loop
 returns c =
-    let a = c .before .before .args in
-    let l = c .before .loop in
+    let head = c .before in
+    let a = head .before .args in
+    let l = head .loop in
     all-end (λ m. ltb m (a .limit)) (a .meters .now) (a .base) (a .n) (l .ok) (l .i) (l .inv) (omega arith)
 
 pub are-below-spec : {M : Type 1} → statement M

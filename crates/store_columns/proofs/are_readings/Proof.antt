@@ -32,14 +32,16 @@ loop-less c = omega arith
 loop-again : tie.Need-loop-again Inv-loop μ-loop
 unfolding isReadingKind
 loop-again c =
-    let a = c .before .before .before .args in
-    let l = c .before .before .loop in
+    let head = c .before .before in
+    let a = head .before .args in
+    let l = head .loop in
     all-turn isReadingKind (a .kinds .now) (a .base) (a .n) (l .ok) (l .i) (l .inv) (omega arith) (omega arith)
 
 returns : tie.Need-returns Inv-loop μ-loop
 returns c =
-    let a = c .before .before .args in
-    let l = c .before .loop in
+    let head = c .before in
+    let a = head .before .args in
+    let l = head .loop in
     all-end isReadingKind (a .kinds .now) (a .base) (a .n) (l .ok) (l .i) (l .inv) (omega arith)
 
 pub are-readings-spec : {M : Type 1} → statement M

@@ -1,4 +1,5 @@
--- `store_columns::bucket_places` meets its contract: what the shares that are left give, laid behind what has been gathered, stays the same.
+-- `store_columns::bucket_places` meets its contract: what the shares that are left give, laid behind what has been gathered, stays the
+-- same.
 use Prim.Native.Nat.{_-_, _<_, _≤_}
 use native.Mathlib.Omega.{arith}
 use lib.ListN.{length, getD, drop, length-take, length-drop}
@@ -13,6 +14,20 @@ Inv-loop times kept bucket j places₀ i₀ at₀ places i at = Gathering bucket
 
 abbrev μ-loop : tie.MeasureT-loop
 μ-loop times kept bucket j places₀ i₀ at₀ places i at = length kept - i
+
+-- ---- the places on the way
+
+-- the start, seen from the loop's head; the head, seen from the call's argument; the call, seen from the turn's end
+abbrev entered : tie.At-loop Inv-loop μ-loop → tie.Start Inv-loop μ-loop
+entered l = l .before .before .before .before
+
+abbrev looped : tie.After-select-arg Inv-loop μ-loop → tie.At-loop Inv-loop μ-loop
+looped c = c .before .before .before
+
+abbrev selected : tie.After-slice-known2 Inv-loop μ-loop → tie.After-select Inv-loop μ-loop
+selected c = c .before .before
+
+-- ---- the needs
 
 loop-holds : tie.Need-loop-holds Inv-loop μ-loop
 loop-holds c =
@@ -45,18 +60,25 @@ part-select-end c = omega arith
 
 select-requires : tie.Need-select-requires Inv-loop μ-loop
 select-requires c κs =
-    let s = c .before .before .before .before .before .before .before in
-    let l = c .before .before .before .loop in
-    let h : l .i < length (s .args .kept .now) = omega arith in
-    let few : getD (s .args .kept .now) (l .i) 0 ≤ readingsPerLine = every-index (λ n. n ≤ readingsPerLine) (s .args .kept .now) (l .i) 0 h (s .pre .2) in
-    (omega arith, omega arith, omega arith, omega (arith, length-take (length (l .places) - l .at) (drop (l .at) (l .places)), length-drop (l .at) (l .places)))
+    let l = looped c .loop in
+    let s = entered (looped c) in
+    let kept = s .args .kept .now in
+    let more : l .i < length kept = omega arith in
+    let few : getD kept (l .i) 0 ≤ readingsPerLine = every-index (λ n. n ≤ readingsPerLine) kept (l .i) 0 more (s .pre .2) in
+    let long = length-take (length (l .places) - l .at) (drop (l .at) (l .places)) in
+    let behind = length-drop (l .at) (l .places) in
+    (omega arith, omega arith, omega arith, omega arith)
 
 add-at : tie.Need-add-at Inv-loop μ-loop
 add-at c =
-    let s = c .before .before .before .before .before .before .before .before .before .before in
+    let l = looped (selected c .before) .loop in
+    let s = entered (looped (selected c .before)) in
     let a = s .args in
-    let l = c .before .before .before .before .before .before .loop in
-    omega (arith, few-places (a .bucket) (a .j) (a .times .now) (a .kept .now) (l .i) (omega arith) (s .pre .2), c .before .before .select .ensures .0)
+    omega (
+      arith,
+      few-places (a .bucket) (a .j) (a .times .now) (a .kept .now) (l .i) (omega arith) (s .pre .2),
+      selected c .select .ensures .0,
+    )
 
 add-i : tie.Need-add-i Inv-loop μ-loop
 add-i c = omega arith
@@ -66,19 +88,20 @@ loop-less c = omega arith
 
 loop-again : tie.Need-loop-again Inv-loop μ-loop
 loop-again c =
-    let s = c .before .before .before .before .before .before .before .before .before .before in
+    let l = looped (selected c .before) .loop in
+    let s = entered (looped (selected c .before)) in
     let a = s .args in
-    let l = c .before .before .before .before .before .before .loop in
-    let told = c .before .before .select .ensures in
-    gathering-turn (a .bucket) (a .j) (a .times .now) (a .kept .now) (a .places .now) (l .places) (l .i) (l .at) (l .inv) _ _ (omega arith) (s .pre .2) (omega arith) (told .0) (told .1)
+    let laid = selected c .select .ensures in
+    gathering-turn (a .bucket) (a .j) (a .times .now) (a .kept .now) (a .places .now) (l .places) (l .i) (l .at) (l .inv) _ _
+    (omega arith) (s .pre .2) (s .pre .4) (laid .0) (laid .1)
 
 same-length : tie.Need-same-length Inv-loop μ-loop
 same-length c = omega arith
 
 returns : tie.Need-returns Inv-loop μ-loop
 returns c =
-    let a = c .before .before .before .before .before .args in
     let l = c .before .loop in
+    let a = entered (c .before) .args in
     gathering-end (a .bucket) (a .j) (a .times .now) (a .kept .now) (a .places .now) (l .places) (l .i) (l .at) (l .inv) (omega arith)
 
 pub bucket-places-spec : {M : Type 1} → statement M

@@ -45,14 +45,16 @@ loop-less c = omega arith
 
 loop-again : tie.Need-loop-again Inv-loop μ-loop
 loop-again c =
-    let a = c .before .before .before .before .args in
-    let l = c .before .before .before .loop in
+    let head = c .before .before .before in
+    let a = head .before .args in
+    let l = head .loop in
     rises-turn (a .ids .now) (a .base) (a .n) (l .ok) (l .i) (l .inv) (omega arith) (omega arith)
 
 returns : tie.Need-returns Inv-loop μ-loop
 returns c =
-    let a = c .before .before .args in
-    let l = c .before .loop in
+    let head = c .before in
+    let a = head .before .args in
+    let l = head .loop in
     rises-end (a .ids .now) (a .base) (a .n) (l .ok) (l .i) (l .inv) (omega arith)
 
 pub ids-rise-spec : {M : Type 1} → statement M

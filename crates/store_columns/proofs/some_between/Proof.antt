@@ -1,22 +1,32 @@
 -- `store_columns::some_between` meets its contract: what is found so far, with the test of what is left, stays the same.
-use Prim.Native.Nat.{_-_}
+use Prim.Native.Nat.{ℕ, _-_}
 use native.Mathlib.Omega.{arith}
-use mathlib.Core.Bool.{_&&_}
+use mathlib.Core.Bool.{Bool, _&&_}
 use lib.Dec.{leb}
+use Rattle.clock.specs.declared.ArrivalTick.{ArrivalTick}
+use Rattle.clock.specs.declared.ReadingTime.{ReadingTime}
 use Rattle.store_columns.proofs.Tests.{SomePairSoFar, some-pair-start, some-pair-turn, some-pair-end}
 use Rattle.store_columns.proofs.some_between.Statement.{statement}
 use Rattle.store_columns.proofs.some_between.Tie as tie
 
+-- a time not before the first, and an arrival not behind the latest
+abbrev between : ReadingTime → ArrivalTick → ℕ → ℕ → Bool
+between first latest t a = leb (first .0) t && leb a (latest .0)
+
 abbrev Inv-loop : tie.InvT-loop
-Inv-loop times arrivals base n first latest found₀ i₀ found i = SomePairSoFar (λ t a. leb first t && leb a latest) times arrivals base n found i
+Inv-loop times arrivals base n first latest found₀ i₀ found i = SomePairSoFar (between first latest) times arrivals base n found i
 
 abbrev μ-loop : tie.MeasureT-loop
 μ-loop times arrivals base n first latest found₀ i₀ found i = n - i
 
+-- the loop's head, seen from the turn's end
+abbrev looped : tie.After-struct-known2 Inv-loop μ-loop → tie.At-loop Inv-loop μ-loop
+looped c = c .before .before .before .before .before
+
 loop-holds : tie.Need-loop-holds Inv-loop μ-loop
 loop-holds c =
     let a = c .args in
-    some-pair-start (λ t r. leb (a .first) t && leb r (a .latest)) (a .times .now) (a .arrivals .now) (a .base) (a .n)
+    some-pair-start (between (a .first) (a .latest)) (a .times .now) (a .arrivals .now) (a .base) (a .n)
 
 add-found : tie.Need-add-found Inv-loop μ-loop
 add-found c = omega arith
@@ -44,15 +54,18 @@ loop-less c = omega arith
 
 loop-again : tie.Need-loop-again Inv-loop μ-loop
 loop-again c =
-    let a = c .before .before .before .before .args in
-    let l = c .before .before .before .loop in
-    some-pair-turn (λ t r. leb (a .first) t && leb r (a .latest)) (a .times .now) (a .arrivals .now) (a .base) (a .n) (l .found) (l .i) (l .inv) (omega arith) (omega arith) (omega arith)
+    let a = looped c .before .args in
+    let l = looped c .loop in
+    some-pair-turn (between (a .first) (a .latest)) (a .times .now) (a .arrivals .now) (a .base) (a .n) (l .found) (l .i) (l .inv)
+    (omega arith) (omega arith) (omega arith)
 
 returns : tie.Need-returns Inv-loop μ-loop
 returns c =
-    let a = c .before .before .args in
-    let l = c .before .loop in
-    some-pair-end (λ t r. leb (a .first) t && leb r (a .latest)) (a .times .now) (a .arrivals .now) (a .base) (a .n) (l .found) (l .i) (l .inv) (omega arith)
+    let head = c .before in
+    let a = head .before .args in
+    let l = head .loop in
+    some-pair-end (between (a .first) (a .latest)) (a .times .now) (a .arrivals .now) (a .base) (a .n) (l .found) (l .i) (l .inv)
+    (omega arith)
 
 pub some-between-spec : {M : Type 1} → statement M
 some-between-spec =

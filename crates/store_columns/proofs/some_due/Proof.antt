@@ -1,5 +1,5 @@
--- `store_columns::some_due` meets its contract: bucket p's start may lie past the last time, and the hold past the tick; otherwise the two bounds
--- are those of the test.
+-- `store_columns::some_due` meets its contract: bucket p's start may lie past the last time, and the hold past the tick; otherwise the
+-- two bounds are those of the test.
 use mathlib.Core.Path.{sym}
 use Prim.Native.Nat.{_^_}
 use native.Mathlib.Omega.{arith}
@@ -9,33 +9,45 @@ use Rattle.store_columns.proofs.LateDue.{none-late, none-due, some-late
 use Rattle.store_columns.proofs.some_due.Statement.{statement}
 use Rattle.store_columns.proofs.some_due.Tie as tie
 
-mul-first : tie.Need-mul-first
-mul-first c =
-    let a = c .before .before .args in
+-- the start, seen from the first test; the first test, seen from the second
+abbrev entered : tie.After-shared-slice-known2 → tie.Start
+entered c = c .before .before
+
+abbrev early : tie.After-struct-known → tie.After-shared-slice-known2
+early c = c .before .before
+
+mul-start : tie.Need-mul-start
+mul-start c =
+    let a = entered c .args in
     omega (arith, product-le (a .p) (a .bucket) (omega arith) (omega arith))
 
 returns : tie.Need-returns
 returns c =
-    let a = c .before .before .before .args in
-    sym (none-late (a .bucket) (a .p) (a .hold) (a .tick) (a .times .now) (a .arrivals .now) (a .base) (a .n) (2 ^ 32) (omega arith) (omega arith) (λ i. omega (arith, c .before .before .shared-slice-known .given i)) (omega arith))
+    let a = entered (c .before) .args in
+    let times = c .before .before .shared-slice-known .given in
+    sym
+    (none-late (a .bucket) (a .p) (a .hold) (a .tick) (a .times .now) (a .arrivals .now) (a .base) (a .n) (2 ^ 32) (omega arith)
+    (omega arith) (λ i. omega (arith, times i)) (omega arith))
 
 returns-2 : tie.Need-returns-2
 returns-2 c =
-    let a = c .before .before .before .before .before .args in
-    sym (none-due (a .bucket) (a .p) (a .hold) (a .tick) (a .times .now) (a .arrivals .now) (a .base) (a .n) (omega arith) (omega arith))
+    let a = entered (early (c .before)) .args in
+    sym
+    (none-due (a .bucket) (a .p) (a .hold) (a .tick) (a .times .now) (a .arrivals .now) (a .base) (a .n) (omega arith) (omega arith))
 
-cast-some-between : tie.Need-cast-some-between
-cast-some-between c = search needs
+cast-first : tie.Need-cast-first
+cast-first c = search needs
 
 some-between-requires : tie.Need-some-between-requires
 some-between-requires c κs = search needs
 
 returns-3 : tie.Need-returns-3
 returns-3 c =
-    let a = c .before .before .before .before .before .before .before .args in
-    some-late-due (a .bucket) (a .p) (a .hold) (a .tick) (a .times .now) (a .arrivals .now) (a .base) (a .n) _ (omega arith) (omega arith) (c .some-between .ensures)
+    let a = entered (early (c .before .before .before)) .args in
+    some-late-due (a .bucket) (a .p) (a .hold) (a .tick) (a .times .now) (a .arrivals .now) (a .base) (a .n) _ (omega arith)
+    (omega arith) (c .some-between .ensures)
 
 pub some-due-spec : {M : Type 1} → statement M
 some-due-spec =
     tie.close
-    (tie.spec mul-first returns returns-2 cast-some-between some-between-requires returns-3)
+    (tie.spec mul-start returns returns-2 cast-first some-between-requires returns-3)

@@ -30,8 +30,9 @@ loop-less c = omega arith
 
 loop-again : tie.Need-loop-again Inv-loop μ-loop
 loop-again c =
-    let a = c .before .before .args in
-    let l = c .before .loop in
+    let head = c .before in
+    let a = head .before .args in
+    let l = head .loop in
     zeroing-turn (pos 0) (a .xs .now) (a .from) (a .to) (l .xs) (l .i) (l .inv) (omega arith)
 
 same-length : tie.Need-same-length Inv-loop μ-loop
@@ -39,8 +40,9 @@ same-length c = omega arith
 
 returns : tie.Need-returns Inv-loop μ-loop
 returns c =
-    let a = c .before .before .args in
-    let l = c .before .loop in
+    let head = c .before in
+    let a = head .before .args in
+    let l = head .loop in
     zeroing-end (pos 0) (a .xs .now) (a .from) (a .to) (l .xs) (l .i) (l .inv) (omega arith)
 
 pub zero-i32-spec : {M : Type 1} → statement M

@@ -29,8 +29,9 @@ loop-less c = omega arith
 
 loop-again : tie.Need-loop-again Inv-loop μ-loop
 loop-again c =
-    let a = c .before .before .args in
-    let l = c .before .loop in
+    let head = c .before in
+    let a = head .before .args in
+    let l = head .loop in
     zeroing-turn 0 (a .xs .now) (a .from) (a .to) (l .xs) (l .i) (l .inv) (omega arith)
 
 same-length : tie.Need-same-length Inv-loop μ-loop
@@ -38,8 +39,9 @@ same-length c = omega arith
 
 returns : tie.Need-returns Inv-loop μ-loop
 returns c =
-    let a = c .before .before .args in
-    let l = c .before .loop in
+    let head = c .before in
+    let a = head .before .args in
+    let l = head .loop in
     zeroing-end 0 (a .xs .now) (a .from) (a .to) (l .xs) (l .i) (l .inv) (omega arith)
 
 pub zero-u32-spec : {M : Type 1} → statement M

@@ -1,9 +1,10 @@
 -- `store_places::select` meets its contract: the places that are left, laid over the list, stay the same.
 use mathlib.Core.Path.{_∙_}
 use mathlib.Core.Logic.{⊎-elim}
-use Prim.Native.Nat.{_+_, _-_}
+use mathlib.Core.Bool.{Bool}
+use Prim.Native.Nat.{ℕ, _+_, _-_, _<_, _≤_}
 use native.Mathlib.Omega.{arith}
-use lib.ListN.{getD}
+use lib.ListN.{length, getD}
 use Rattle.store_places.specs.Places.{isTimeOf}
 use Rattle.store_places.proofs.BucketTest.{time-test}
 use Rattle.store_places.proofs.Selected.{Selecting, selecting-start, selecting-taken, selecting-passed, selecting-end}
@@ -16,10 +17,22 @@ Inv-loop times base n bucket j inside places₀ i₀ k₀ places i k = Selecting
 abbrev μ-loop : tie.MeasureT-loop
 μ-loop times base n bucket j inside places₀ i₀ k₀ places i k = n - i
 
+-- the start, seen from the loop's head, and the head, seen from the turn's end
+abbrev entered : tie.At-loop Inv-loop μ-loop → tie.Start Inv-loop μ-loop
+entered l = l .before .before .before
+
+abbrev looped : tie.Joined1 Inv-loop μ-loop → tie.At-loop Inv-loop μ-loop
+looped c = c .before .before .before .before
+
+-- the test of a time, by what was asked for
+abbrev test : tie.Start Inv-loop μ-loop → ℕ → Bool
+test s = isTimeOf (s .args .inside) (s .args .bucket) (s .args .j)
+
 loop-holds : tie.Need-loop-holds Inv-loop μ-loop
 loop-holds c =
-    let a = c .before .before .args in
-    selecting-start (isTimeOf (a .inside) (a .bucket) (a .j)) (a .times .now) (a .base) (a .n) (a .places .now)
+    let s = c .before .before in
+    let a = s .args in
+    selecting-start (test s) (a .times .now) (a .base) (a .n) (a .places .now)
 
 add-t : tie.Need-add-t Inv-loop μ-loop
 add-t c = omega arith
@@ -56,13 +69,21 @@ loop-less c = omega arith
 
 loop-again : tie.Need-loop-again Inv-loop μ-loop
 loop-again c =
-    let a = c .before .before .before .before .before .before .before .args in
-    let l = c .before .before .before .before .loop in
-    let test = isTimeOf (a .inside) (a .bucket) (a .j) in
-    let told = time-test (a .inside) (a .bucket) (a .j) (getD (a .times .now) (a .base + l .i) 0) (c .before .is-in .result) (c .before .is-in .ensures) in
+    let l = looped c .loop in
+    let s = entered (looped c) in
+    let a = s .args in
+    let room : a .base + a .n ≤ length (a .times .now) = s .pre .1 in
+    let more : l .i < a .n = omega arith in
+    let answer = c .before .is-in in
+    let tested =
+    time-test (a .inside) (a .bucket) (a .j) (getD (a .times .now) (a .base + l .i) 0) (answer .result) (answer .ensures) in
     ⊎-elim
-    (λ w. selecting-taken test (a .times .now) (a .base) (a .n) (a .places .now) (l .places) (l .i) (l .k) (l .inv) (omega arith) (omega arith) (c .if1 .places) (c .if1 .k) (told ∙ w .0 .taken) (w .1) (w .2))
-    (λ w. selecting-passed test (a .times .now) (a .base) (a .n) (a .places .now) (l .places) (l .i) (l .k) (l .inv) (omega arith) (omega arith) (c .if1 .places) (c .if1 .k) (told ∙ w .0 .left) (w .1) (w .2))
+    (λ w.
+    selecting-taken (test s) (a .times .now) (a .base) (a .n) (a .places .now) (l .places) (l .i) (l .k) (l .inv) room more
+    (c .if1 .places) (c .if1 .k) (tested ∙ w .0 .taken) (w .1) (w .2))
+    (λ w.
+    selecting-passed (test s) (a .times .now) (a .base) (a .n) (a .places .now) (l .places) (l .i) (l .k) (l .inv) room more
+    (c .if1 .places) (c .if1 .k) (tested ∙ w .0 .left) (w .1) (w .2))
     (c .if1 .came)
 
 same-length : tie.Need-same-length Inv-loop μ-loop
@@ -70,9 +91,10 @@ same-length c = omega arith
 
 returns : tie.Need-returns Inv-loop μ-loop
 returns c =
-    let a = c .before .before .before .before .args in
     let l = c .before .loop in
-    selecting-end (isTimeOf (a .inside) (a .bucket) (a .j)) (a .times .now) (a .base) (a .n) (a .places .now) (l .places) (l .i) (l .k) (l .inv) (omega arith)
+    let s = entered (c .before) in
+    let a = s .args in
+    selecting-end (test s) (a .times .now) (a .base) (a .n) (a .places .now) (l .places) (l .i) (l .k) (l .inv) (omega arith)
 
 pub select-spec : {M : Type 1} → statement M
 select-spec =

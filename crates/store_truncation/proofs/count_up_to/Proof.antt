@@ -27,8 +27,9 @@ shared-slice-read-if1 c = omega arith
 
 returns : tie.Need-returns Inv-loop μ-loop
 returns c =
-    let a = c .before .before .before .before .args in
-    let l = c .before .before .before .loop in
+    let head = c .before .before .before in
+    let a = head .before .args in
+    let l = head .loop in
     counting-stop (a .ids .now) (a .base) (a .n) (a .id) (l .k) (l .inv) (omega arith) (omega arith) (omega arith)
 
 add-k : tie.Need-add-k Inv-loop μ-loop
@@ -39,14 +40,16 @@ loop-less c = omega arith
 
 loop-again : tie.Need-loop-again Inv-loop μ-loop
 loop-again c =
-    let a = c .before .before .before .before .args in
-    let l = c .before .before .before .loop in
+    let head = c .before .before .before in
+    let a = head .before .args in
+    let l = head .loop in
     counting-turn (a .ids .now) (a .base) (a .n) (a .id) (l .k) (l .inv) (omega arith) (omega arith) (omega arith)
 
 returns-2 : tie.Need-returns-2 Inv-loop μ-loop
 returns-2 c =
-    let a = c .before .before .args in
-    let l = c .before .loop in
+    let head = c .before in
+    let a = head .before .args in
+    let l = head .loop in
     counting-end (a .ids .now) (a .base) (a .n) (a .id) (l .k) (l .inv) (omega arith)
 
 pub count-up-to-spec : {M : Type 1} → statement M
