@@ -17,7 +17,7 @@ use Rattle.settings.specs.declared.Settings.{Settings}
 use Rattle.settings.specs.declared.SettingsRead.{SettingsRead}
 use Rattle.settings.specs.Limits.{withinLimits}
 use Rattle.settings.specs.SettingsLine.{limited}
-use Rattle.settings.specs.ReadLine.{settingsAt, decided, settingsOf}
+use Rattle.settings.specs.ReadLine.{settingsAt, judged, settingsOf}
 use Rattle.journal.specs.declared.Call.{Call}
 use Rattle.journal.specs.declared.CallRead.{CallRead}
 use Rattle.journal.specs.Kinds.{isLetter}
@@ -67,11 +67,11 @@ use Rattle.consistency_examples.proofs.Surely.{itself, surely, noted, g
 
 -- texts
 unfoldable pub settingsRead : List ℕ → SettingsRead
-unfolding settingsOf decided limited settingsAt withinLimits startsWith endsLine numberField integerField withNumber withInteger isDigit runLength runValue misspelled numberAt negated integerAt Spelled.plain
+unfolding settingsOf judged limited settingsAt withinLimits startsWith endsLine numberField integerField withNumber withInteger isDigit runLength runValue misspelled numberAt negated integerAt Spelled.asInteger
 settingsRead text = settingsOf text
 
 unfoldable pub callRead : List ℕ → CallRead
-unfolding callOf whole callAt letterAt letterField isLetter startsWith endsLine numberField integerField withNumber withInteger isDigit runLength runValue misspelled numberAt negated integerAt Spelled.plain
+unfolding callOf whole callAt letterAt letterField isLetter startsWith endsLine numberField integerField withNumber withInteger isDigit runLength runValue misspelled numberAt negated integerAt Spelled.asInteger
 callRead text = callOf text
 
 -- a call on the node

@@ -44,10 +44,10 @@ use Rattle.store_slots.specs.Slots.{staysOf, closedSlots}
 use Rattle.store_slots.proofs.Elements.{R}
 use Rattle.store_slots.proofs.close_up as close
 use Rattle.store_slots.proofs.close_up.Symbol as close-def
-use Rattle.store_slots.proofs.close_up.Symbol.{name as #slots·close-up}
+use Rattle.store_slots.proofs.close_up.Symbol.{name as #store-slots·close-up}
 use Rattle.store_slots.proofs.close_up.Met as close-thm
 use Rattle.test_slots.proofs.Lent.{slot, Eight, eight-vals, value, lentSlice, eight-tells, eight-long, eight-typed, lentTo, lends-eight, eight-back}
-use Rattle.test_slots.proofs.closed.Key.{name as #slots-beside·closed}
+use Rattle.test_slots.proofs.closed.Key.{name as #test-slots·closed}
 use Rattle.test_slots.proofs.closed as closed′
 use Rattle.test_slots.proofs.closed.Statement as stated
 use Rattle.test_slots.proofs.closed.Code as code
@@ -79,7 +79,7 @@ module _ {M : Type 1} (𝓤 : URA M) (H : Heap 𝓤) (A : Atoms 𝓤) (W : Given
       nothing ! $ owned ! u32 (Is u32) (uint-makes 𝓤 H A W w32) j _ (refl, j-fits) $ fjoin ! $ owned ! u32 (Is u32) (uint-makes 𝓤 H A W w32) bucket _ (refl, bucket-fits) $ fjoin ! $ owned ! usize (Is usize) (uint-makes 𝓤 H A W w64) n _ (refl, n-fits) $ fjoin ! $ owned ! usize (Is usize) (uint-makes 𝓤 H A W w64) base _ (refl, base-fits) $ fjoin ! $
       move ! (2 ∷ 0 ∷ []) $ fjoin ! $ move ! (1 ∷ 0 ∷ []) $ join ! $ frame ! $ done !
 
-  module _ (C : Calls 𝓤 H) (Λ : Loops 𝓤 H) (fm : FmC 𝓤 H (W .laws) C) (known : Triple 𝓤 (C #slots·close-up) (Close 𝓤 H A mem run)) where
+  module _ (C : Calls 𝓤 H) (Λ : Loops 𝓤 H) (fm : FmC 𝓤 H (W .laws) C) (known : Triple 𝓤 (C #store-slots·close-up) (Close 𝓤 H A mem run)) where
     walk : ent 𝓤 (onEntry 𝓤 H A closed′.signature tt tt (xs, (base, (n, (bucket, (j, tt))))) (eight-vals xs, (vint w64 base ∷ [], (vint w64 n ∷ [], (vint w32 bucket ∷ [], (vint w32 j ∷ [], tt)))))) (WpFn 𝓤 H C Λ code.function (value xs ∷ vint w64 base ∷ vint w64 n ∷ vint w32 bucket ∷ vint w32 j ∷ []) Post)
     walk =
         let long = eight-long xs _ are in
@@ -108,12 +108,12 @@ module _ {M : Type 1} (𝓤 : URA M) (H : Heap 𝓤) (A : Atoms 𝓤) (W : Given
         keep ! [] $ by ! (exits (zs .0) are′ e))))))))))))))))))
 
 module _ {M : Type 1} (𝓤 : URA M) (H : Heap 𝓤) (A : Atoms 𝓤) (W : Given 𝓤 H A) (mem : Memory → SProp 𝓤) (run : Routine → Fun 𝓤) where
-  closed-walks : (C : Calls 𝓤 H) (Λ : Loops 𝓤 H) → FmC 𝓤 H (W .laws) C → Triple 𝓤 (C #slots·close-up) (Close 𝓤 H A mem run) → Walks 𝓤 H A closed′.ended stayed (WpFn 𝓤 H C Λ code.function) (closed′.clauses 𝓤 H A mem run)
+  closed-walks : (C : Calls 𝓤 H) (Λ : Loops 𝓤 H) → FmC 𝓤 H (W .laws) C → Triple 𝓤 (C #store-slots·close-up) (Close 𝓤 H A mem run) → Walks 𝓤 H A closed′.ended stayed (WpFn 𝓤 H C Λ code.function) (closed′.clauses 𝓤 H A mem run)
   closed-walks C Λ fm known = walked 𝓤 H A closed′.ended stayed (closed′.clauses 𝓤 H A mem run) (WpFn 𝓤 H C Λ code.function)
       (λ κs. (eight-vals, (uint-vals w64, (uint-vals w64, (uint-vals w32, (uint-vals w32, tt)))))) (λ κs. (eight-tells, (uint-tells w64, (uint-tells w64, (uint-tells w32, (uint-tells w32, tt))))))
       (λ κs qs bounds a g are. via 𝓤 _ (fst∗ 𝓤 _ (emp 𝓤)) (walk 𝓤 H A W mem run (a .0) (a .1 .0) (a .1 .1 .0) (a .1 .1 .1 .0) (a .1 .1 .1 .1 .0) (are .0) (are .1 .0 .1) (are .1 .1 .0 .1) (are .1 .1 .1 .0 .1) (are .1 .1 .1 .1 .0 .1) C Λ fm known))
 
-closed-meets : {M : Type 1} (𝓤 : URA M) (H : Heap 𝓤) (A : Atoms 𝓤) → Given 𝓤 H A → (mem : Memory → SProp 𝓤) (run : Routine → Fun 𝓤) (𝓣 : Tables 𝓤 H) → Triple 𝓤 (𝓣 .C #slots·close-up) (Close 𝓤 H A mem run)
+closed-meets : {M : Type 1} (𝓤 : URA M) (H : Heap 𝓤) (A : Atoms 𝓤) → Given 𝓤 H A → (mem : Memory → SProp 𝓤) (run : Routine → Fun 𝓤) (𝓣 : Tables 𝓤 H) → Triple 𝓤 (𝓣 .C #store-slots·close-up) (Close 𝓤 H A mem run)
     → Meets 𝓤 H A closed′.signature (WpFn 𝓤 H (𝓣 .C) (𝓣 .Λ) code.function) (closed′.spec 𝓤 H A mem run)
 closed-meets 𝓤 H A W mem run 𝓣 known =
     walk-meets 𝓤 H A closed′.ended stayed W (goes-dropped 𝓤 H A W 0 (ArrayOf (plain (λ _. R)) (λ _. tt) 8) yes (λ κs x f. refl), (goes-dropped 𝓤 H A W 0 (plain (λ _. usize)) yes (λ κs x f. refl), (goes-dropped 𝓤 H A W 0 (plain (λ _. usize)) yes (λ κs x f. refl), (goes-dropped 𝓤 H A W 0 (plain (λ _. u32)) yes (λ κs x f. refl), (goes-dropped 𝓤 H A W 0 (plain (λ _. u32)) yes (λ κs x f. refl), tt)))))
@@ -123,6 +123,6 @@ pub closed-spec : {M : Type 1} → stated.statement M
 unfolding code.routine tablesOf
 closed-spec 𝓤 H 𝓜 𝓖 𝓡 =
     entered 𝓤 H (tripleOf 𝓤 H (𝓖 .A) closed′.signature (closed′.spec 𝓤 H (𝓖 .A) (𝓜 .mem) (𝓡 .run)))
-    (tables 𝓤 H 𝓜 𝓡 code.env .C) (tables 𝓤 H 𝓜 𝓡 code.env .Λ) #slots-beside·closed code.function (code.unfolded 𝓤 H 𝓜 𝓡)
+    (tables 𝓤 H 𝓜 𝓡 code.env .C) (tables 𝓤 H 𝓜 𝓡 code.env .Λ) #test-slots·closed code.function (code.unfolded 𝓤 H 𝓜 𝓡)
     (closed-meets 𝓤 H (𝓖 .A) (givenOf 𝓤 H 𝓜 𝓖) (𝓜 .mem) (𝓡 .run) (tablesOf 𝓤 H 𝓜 (tables 𝓤 H 𝓜 𝓡 code.env))
-    (cited 𝓤 H (Close 𝓤 H (𝓖 .A) (𝓜 .mem) (𝓡 .run)) 𝓜 𝓡 code.env #slots·close-up close-def.routine code.calls-slots·close-up (close-thm.met 𝓤 H 𝓜 𝓖 𝓡)))
+    (cited 𝓤 H (Close 𝓤 H (𝓖 .A) (𝓜 .mem) (𝓡 .run)) 𝓜 𝓡 code.env #store-slots·close-up close-def.routine code.calls-store-slots·close-up (close-thm.met 𝓤 H 𝓜 𝓖 𝓡)))

@@ -44,10 +44,10 @@ use Rattle.store.proofs.Reading.Laws as T′
 use Rattle.store_slots.proofs.Elements.{R, mach}
 use Rattle.store_slots.proofs.place as place
 use Rattle.store_slots.proofs.place.Symbol as place-def
-use Rattle.store_slots.proofs.place.Symbol.{name as #slots·place}
+use Rattle.store_slots.proofs.place.Symbol.{name as #store-slots·place}
 use Rattle.store_slots.proofs.place.Met as place-thm
 use Rattle.test_slots.proofs.Lent.{slot, Eight, eight-vals, value, lentSlice, eight-tells, eight-long, eight-typed, lentTo, lends-eight, eight-back}
-use Rattle.test_slots.proofs.placed.Key.{name as #slots-beside·placed}
+use Rattle.test_slots.proofs.placed.Key.{name as #test-slots·placed}
 use Rattle.test_slots.proofs.placed as placed′
 use Rattle.test_slots.proofs.placed.Statement as stated
 use Rattle.test_slots.proofs.placed.Code as code
@@ -79,7 +79,7 @@ module _ {M : Type 1} (𝓤 : URA M) (H : Heap 𝓤) (A : Atoms 𝓤) (W : Given
       nothing ! $ owned ! R (Is R) (LL.makes T.the-type T′.the-plain 𝓤 H A) r _ is $ fjoin ! $ owned ! usize (Is usize) (uint-makes 𝓤 H A W w64) n _ (refl, n-fits) $ fjoin ! $
       move ! (2 ∷ 0 ∷ []) $ fjoin ! $ move ! (1 ∷ 0 ∷ []) $ join ! $ frame ! $ done !
 
-  module _ (C : Calls 𝓤 H) (Λ : Loops 𝓤 H) (fm : FmC 𝓤 H (W .laws) C) (known : Triple 𝓤 (C #slots·place) (Place 𝓤 H A mem run)) where
+  module _ (C : Calls 𝓤 H) (Λ : Loops 𝓤 H) (fm : FmC 𝓤 H (W .laws) C) (known : Triple 𝓤 (C #store-slots·place) (Place 𝓤 H A mem run)) where
     walk : ent 𝓤 (onEntry 𝓤 H A placed′.signature tt tt (xs, (n, (r, tt))) (eight-vals xs, (vint w64 n ∷ [], (mach r ∷ [], tt)))) (WpFn 𝓤 H C Λ code.function (value xs ∷ vint w64 n ∷ mach r ∷ []) Post)
     walk =
         let long = eight-long xs _ are in
@@ -108,12 +108,12 @@ module _ {M : Type 1} (𝓤 : URA M) (H : Heap 𝓤) (A : Atoms 𝓤) (W : Given
         keep ! [] $ by ! (exits (zs .0) are′ e))))))))))))))))
 
 module _ {M : Type 1} (𝓤 : URA M) (H : Heap 𝓤) (A : Atoms 𝓤) (W : Given 𝓤 H A) (mem : Memory → SProp 𝓤) (run : Routine → Fun 𝓤) where
-  placed-walks : (C : Calls 𝓤 H) (Λ : Loops 𝓤 H) → FmC 𝓤 H (W .laws) C → Triple 𝓤 (C #slots·place) (Place 𝓤 H A mem run) → Walks 𝓤 H A placed′.ended stayed (WpFn 𝓤 H C Λ code.function) (placed′.clauses 𝓤 H A mem run)
+  placed-walks : (C : Calls 𝓤 H) (Λ : Loops 𝓤 H) → FmC 𝓤 H (W .laws) C → Triple 𝓤 (C #store-slots·place) (Place 𝓤 H A mem run) → Walks 𝓤 H A placed′.ended stayed (WpFn 𝓤 H C Λ code.function) (placed′.clauses 𝓤 H A mem run)
   placed-walks C Λ fm known = walked 𝓤 H A placed′.ended stayed (placed′.clauses 𝓤 H A mem run) (WpFn 𝓤 H C Λ code.function)
       (λ κs. (eight-vals, (uint-vals w64, (LL.vals T.the-type T′.the-laws, tt)))) (λ κs. (eight-tells, (uint-tells w64, (LL.tells T.the-type T′.the-laws, tt))))
       (λ κs qs bounds a g are. via 𝓤 _ (fst∗ 𝓤 _ (emp 𝓤)) (walk 𝓤 H A W mem run (a .0) (a .1 .0) (a .1 .1 .0) (are .0) (are .1 .0 .1) (are .1 .1 .0) C Λ fm known))
 
-placed-meets : {M : Type 1} (𝓤 : URA M) (H : Heap 𝓤) (A : Atoms 𝓤) → Given 𝓤 H A → (mem : Memory → SProp 𝓤) (run : Routine → Fun 𝓤) (𝓣 : Tables 𝓤 H) → Triple 𝓤 (𝓣 .C #slots·place) (Place 𝓤 H A mem run)
+placed-meets : {M : Type 1} (𝓤 : URA M) (H : Heap 𝓤) (A : Atoms 𝓤) → Given 𝓤 H A → (mem : Memory → SProp 𝓤) (run : Routine → Fun 𝓤) (𝓣 : Tables 𝓤 H) → Triple 𝓤 (𝓣 .C #store-slots·place) (Place 𝓤 H A mem run)
     → Meets 𝓤 H A placed′.signature (WpFn 𝓤 H (𝓣 .C) (𝓣 .Λ) code.function) (placed′.spec 𝓤 H A mem run)
 placed-meets 𝓤 H A W mem run 𝓣 known =
     walk-meets 𝓤 H A placed′.ended stayed W (goes-dropped 𝓤 H A W 0 (ArrayOf (plain (λ _. R)) (λ _. tt) 8) yes (λ κs x f. refl), (goes-dropped 𝓤 H A W 0 (plain (λ _. usize)) yes (λ κs x f. refl), (goes-dropped 𝓤 H A W 0 (plain (λ _. R)) yes (λ κs x f. refl), tt)))
@@ -123,6 +123,6 @@ pub placed-spec : {M : Type 1} → stated.statement M
 unfolding code.routine tablesOf
 placed-spec 𝓤 H 𝓜 𝓖 𝓡 =
     entered 𝓤 H (tripleOf 𝓤 H (𝓖 .A) placed′.signature (placed′.spec 𝓤 H (𝓖 .A) (𝓜 .mem) (𝓡 .run)))
-    (tables 𝓤 H 𝓜 𝓡 code.env .C) (tables 𝓤 H 𝓜 𝓡 code.env .Λ) #slots-beside·placed code.function (code.unfolded 𝓤 H 𝓜 𝓡)
+    (tables 𝓤 H 𝓜 𝓡 code.env .C) (tables 𝓤 H 𝓜 𝓡 code.env .Λ) #test-slots·placed code.function (code.unfolded 𝓤 H 𝓜 𝓡)
     (placed-meets 𝓤 H (𝓖 .A) (givenOf 𝓤 H 𝓜 𝓖) (𝓜 .mem) (𝓡 .run) (tablesOf 𝓤 H 𝓜 (tables 𝓤 H 𝓜 𝓡 code.env))
-    (cited 𝓤 H (Place 𝓤 H (𝓖 .A) (𝓜 .mem) (𝓡 .run)) 𝓜 𝓡 code.env #slots·place place-def.routine code.calls-slots·place (place-thm.met 𝓤 H 𝓜 𝓖 𝓡)))
+    (cited 𝓤 H (Place 𝓤 H (𝓖 .A) (𝓜 .mem) (𝓡 .run)) 𝓜 𝓡 code.env #store-slots·place place-def.routine code.calls-store-slots·place (place-thm.met 𝓤 H 𝓜 𝓖 𝓡)))

@@ -45,10 +45,10 @@ use Rattle.store_slots.specs.Slots.{hasPlaces, zeroedFrom}
 use Rattle.store_slots.proofs.Elements.{R}
 use Rattle.store_slots.proofs.zero as zero
 use Rattle.store_slots.proofs.zero.Symbol as zero-def
-use Rattle.store_slots.proofs.zero.Symbol.{name as #slots·zero}
+use Rattle.store_slots.proofs.zero.Symbol.{name as #store-slots·zero}
 use Rattle.store_slots.proofs.zero.Met as zero-thm
 use Rattle.test_slots.proofs.Lent.{slot, Eight, eight-vals, value, lentSlice, eight-tells, eight-long, eight-typed, lentTo, lends-eight, eight-back}
-use Rattle.test_slots.proofs.zeroed.Key.{name as #slots-beside·zeroed}
+use Rattle.test_slots.proofs.zeroed.Key.{name as #test-slots·zeroed}
 use Rattle.test_slots.proofs.zeroed as zeroed′
 use Rattle.test_slots.proofs.zeroed.Statement as stated
 use Rattle.test_slots.proofs.zeroed.Code as code
@@ -80,7 +80,7 @@ module _ {M : Type 1} (𝓤 : URA M) (H : Heap 𝓤) (A : Atoms 𝓤) (W : Given
       nothing ! $ owned ! usize (Is usize) (uint-makes 𝓤 H A W w64) end _ (refl, end-fits) $ fjoin ! $ owned ! usize (Is usize) (uint-makes 𝓤 H A W w64) begin _ (refl, begin-fits) $ fjoin ! $
       move ! (2 ∷ 0 ∷ []) $ fjoin ! $ move ! (1 ∷ 0 ∷ []) $ join ! $ frame ! $ done !
 
-  module _ (C : Calls 𝓤 H) (Λ : Loops 𝓤 H) (fm : FmC 𝓤 H (W .laws) C) (known : Triple 𝓤 (C #slots·zero) (Zero 𝓤 H A mem run)) where
+  module _ (C : Calls 𝓤 H) (Λ : Loops 𝓤 H) (fm : FmC 𝓤 H (W .laws) C) (known : Triple 𝓤 (C #store-slots·zero) (Zero 𝓤 H A mem run)) where
     walk : ent 𝓤 (onEntry 𝓤 H A zeroed′.signature tt tt (xs, (begin, (end, tt))) (eight-vals xs, (vint w64 begin ∷ [], (vint w64 end ∷ [], tt)))) (WpFn 𝓤 H C Λ code.function (value xs ∷ vint w64 begin ∷ vint w64 end ∷ []) Post)
     walk =
         let long = eight-long xs _ are in
@@ -109,12 +109,12 @@ module _ {M : Type 1} (𝓤 : URA M) (H : Heap 𝓤) (A : Atoms 𝓤) (W : Given
         keep ! [] $ by ! (exits (zs .0) are′ e))))))))))))))))
 
 module _ {M : Type 1} (𝓤 : URA M) (H : Heap 𝓤) (A : Atoms 𝓤) (W : Given 𝓤 H A) (mem : Memory → SProp 𝓤) (run : Routine → Fun 𝓤) where
-  zeroed-walks : (C : Calls 𝓤 H) (Λ : Loops 𝓤 H) → FmC 𝓤 H (W .laws) C → Triple 𝓤 (C #slots·zero) (Zero 𝓤 H A mem run) → Walks 𝓤 H A zeroed′.ended stayed (WpFn 𝓤 H C Λ code.function) (zeroed′.clauses 𝓤 H A mem run)
+  zeroed-walks : (C : Calls 𝓤 H) (Λ : Loops 𝓤 H) → FmC 𝓤 H (W .laws) C → Triple 𝓤 (C #store-slots·zero) (Zero 𝓤 H A mem run) → Walks 𝓤 H A zeroed′.ended stayed (WpFn 𝓤 H C Λ code.function) (zeroed′.clauses 𝓤 H A mem run)
   zeroed-walks C Λ fm known = walked 𝓤 H A zeroed′.ended stayed (zeroed′.clauses 𝓤 H A mem run) (WpFn 𝓤 H C Λ code.function)
       (λ κs. (eight-vals, (uint-vals w64, (uint-vals w64, tt)))) (λ κs. (eight-tells, (uint-tells w64, (uint-tells w64, tt))))
       (λ κs qs bounds a g are. via 𝓤 _ (fst∗ 𝓤 _ (emp 𝓤)) (walk 𝓤 H A W mem run (a .0) (a .1 .0) (a .1 .1 .0) (are .0) (are .1 .0 .1) (are .1 .1 .0 .1) C Λ fm known))
 
-zeroed-meets : {M : Type 1} (𝓤 : URA M) (H : Heap 𝓤) (A : Atoms 𝓤) → Given 𝓤 H A → (mem : Memory → SProp 𝓤) (run : Routine → Fun 𝓤) (𝓣 : Tables 𝓤 H) → Triple 𝓤 (𝓣 .C #slots·zero) (Zero 𝓤 H A mem run)
+zeroed-meets : {M : Type 1} (𝓤 : URA M) (H : Heap 𝓤) (A : Atoms 𝓤) → Given 𝓤 H A → (mem : Memory → SProp 𝓤) (run : Routine → Fun 𝓤) (𝓣 : Tables 𝓤 H) → Triple 𝓤 (𝓣 .C #store-slots·zero) (Zero 𝓤 H A mem run)
     → Meets 𝓤 H A zeroed′.signature (WpFn 𝓤 H (𝓣 .C) (𝓣 .Λ) code.function) (zeroed′.spec 𝓤 H A mem run)
 zeroed-meets 𝓤 H A W mem run 𝓣 known =
     walk-meets 𝓤 H A zeroed′.ended stayed W (goes-dropped 𝓤 H A W 0 (ArrayOf (plain (λ _. R)) (λ _. tt) 8) yes (λ κs x f. refl), (goes-dropped 𝓤 H A W 0 (plain (λ _. usize)) yes (λ κs x f. refl), (goes-dropped 𝓤 H A W 0 (plain (λ _. usize)) yes (λ κs x f. refl), tt)))
@@ -124,6 +124,6 @@ pub zeroed-spec : {M : Type 1} → stated.statement M
 unfolding code.routine tablesOf
 zeroed-spec 𝓤 H 𝓜 𝓖 𝓡 =
     entered 𝓤 H (tripleOf 𝓤 H (𝓖 .A) zeroed′.signature (zeroed′.spec 𝓤 H (𝓖 .A) (𝓜 .mem) (𝓡 .run)))
-    (tables 𝓤 H 𝓜 𝓡 code.env .C) (tables 𝓤 H 𝓜 𝓡 code.env .Λ) #slots-beside·zeroed code.function (code.unfolded 𝓤 H 𝓜 𝓡)
+    (tables 𝓤 H 𝓜 𝓡 code.env .C) (tables 𝓤 H 𝓜 𝓡 code.env .Λ) #test-slots·zeroed code.function (code.unfolded 𝓤 H 𝓜 𝓡)
     (zeroed-meets 𝓤 H (𝓖 .A) (givenOf 𝓤 H 𝓜 𝓖) (𝓜 .mem) (𝓡 .run) (tablesOf 𝓤 H 𝓜 (tables 𝓤 H 𝓜 𝓡 code.env))
-    (cited 𝓤 H (Zero 𝓤 H (𝓖 .A) (𝓜 .mem) (𝓡 .run)) 𝓜 𝓡 code.env #slots·zero zero-def.routine code.calls-slots·zero (zero-thm.met 𝓤 H 𝓜 𝓖 𝓡)))
+    (cited 𝓤 H (Zero 𝓤 H (𝓖 .A) (𝓜 .mem) (𝓡 .run)) 𝓜 𝓡 code.env #store-slots·zero zero-def.routine code.calls-store-slots·zero (zero-thm.met 𝓤 H 𝓜 𝓖 𝓡)))
