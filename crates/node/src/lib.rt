@@ -5,6 +5,8 @@ use operator::Operator;
 use protocol::Phase;
 use settings::Settings;
 
+mod changed;
+
 // Lines that a state has room for: as many as the settings allow.
 pub const HEADS: usize = 8;
 

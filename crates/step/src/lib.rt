@@ -4,7 +4,8 @@ ghost use mathlib.Core.Bool.{true};
 ghost use Prim.Native.Nat.{_≤_};
 ghost use lib.ListN.{length};
 ghost use Rattle.store.specs.Columns.{Columns, columnsOf, storeLength};
-ghost use Rattle.protocol.specs.Rules.{ruleOf, act};
+ghost use Rattle.protocol.specs.declared.Rule.{Rule as Rules};
+ghost use Rattle.protocol.specs.Rules.{ruleOf};
 ghost use Rattle.node.specs.Sizes.{areaBytes};
 ghost use Rattle.node.specs.View.{places, view};
 ghost use Rattle.node.specs.Shape.{stateInShape};
@@ -26,13 +27,17 @@ pub fn step(
     tick: ArrivalTick,
     area: &mut [u8],
 ) -> StepOutcome
-    requires { ⌜ (let x : Columns = columnsOf (now ids) (now times) (now values) (now arrivals) (now kinds) (now meters) in
-        (places state ≤ storeLength x) × (stateInShape state x ≡ true) × (areaBytes ≤ length (now area))) ⌝ }
-    ensures { λ r. ⌜ (let x : Columns = columnsOf (now (ids .entry)) (now (times .entry)) (now (values .entry)) (now (arrivals .entry))
-        (now (kinds .entry)) (now (meters .entry)) in
-        let x′ : Columns = columnsOf (now (ids .exit)) (now (times .exit)) (now (values .exit)) (now (arrivals .exit))
-        (now (kinds .exit)) (now (meters .exit)) in
-        RuleDone (ruleOf (state .settings) (view state x) tick) state x (now (area .entry)) (r .state) x′ (now (area .exit)) (r .records)) ⌝ }
+    requires { let x : Columns = columnsOf (now ids) (now times) (now values) (now arrivals) (now kinds) (now meters) in
+        ⌜ (places state ≤ storeLength x) × (stateInShape state x ≡ true) × (areaBytes ≤ length (now area)) ⌝ }
+    ensures { λ r.
+        let x : Columns =
+        columnsOf (now (ids .entry)) (now (times .entry)) (now (values .entry)) (now (arrivals .entry)) (now (kinds .entry))
+        (now (meters .entry)) in
+        let x′ : Columns =
+        columnsOf (now (ids .exit)) (now (times .exit)) (now (values .exit)) (now (arrivals .exit)) (now (kinds .exit))
+        (now (meters .exit)) in
+        let rule : Rules = ruleOf (state .settings) (view state x) tick in
+        ⌜ RuleDone rule state x (now (area .entry)) (r .state) x′ (now (area .exit)) (r .records) ⌝ }
 {
     let rule = step_rule::rule_of(state, ids, times, values, arrivals, kinds, meters, tick);
     match rule {
@@ -55,48 +60,5 @@ pub fn step(
             state: state,
             records: 0,
         },
-    }
-}
-
-// How many records a step at this tick would give.
-pub fn records_ahead(
-    state: State,
-    ids: &[u32],
-    times: &[u32],
-    values: &[i32],
-    arrivals: &[u32],
-    kinds: &[u8],
-    meters: &[u8],
-    tick: ArrivalTick,
-) -> u32
-    requires { ⌜ (let x : Columns = columnsOf (now ids) (now times) (now values) (now arrivals) (now kinds) (now meters) in
-        (places state ≤ storeLength x) × (stateInShape state x ≡ true)) ⌝ }
-    ensures { λ r. ⌜ r ≡ length (act (state .settings) (view state (columnsOf (now (ids .entry)) (now (times .entry)) (now (values .entry)) (now (arrivals .entry)) (now (kinds .entry)) (now (meters .entry)))) (ruleOf (state .settings) (view state (columnsOf (now (ids .entry)) (now (times .entry)) (now (values .entry)) (now (arrivals .entry)) (now (kinds .entry)) (now (meters .entry)))) tick) .records) ⌝ }
-{
-    let rule = step_rule::rule_of(state, ids, times, values, arrivals, kinds, meters, tick);
-    let settings = state.settings;
-    match rule {
-        Rule::Withdraw => 1,
-        Rule::WorkStable => {
-            let n = step_work::results_ahead(
-                state,
-                ids,
-                times,
-                values,
-                arrivals,
-                kinds,
-                meters,
-                state.c,
-            );
-            if clock::closes_window(settings.window, state.c) {
-                return n + 1;
-            }
-            n
-        }
-        Rule::EndCorrection => 1,
-        Rule::WorkTentative => {
-            step_work::results_ahead(state, ids, times, values, arrivals, kinds, meters, state.p)
-        }
-        Rule::Idle => 0,
     }
 }

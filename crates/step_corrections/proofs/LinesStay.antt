@@ -1,7 +1,7 @@
 -- What a rule that changes no line leaves of state, store and area, field by field: heads and store stay as they were, and one record stands
 -- in front of the area. By the laws on view and put.
 use Prim.Native.Nat.{ℕ, _≤_}
-use mathlib.Core.Path.{_≡_, refl, sym, ap}
+use mathlib.Core.Path.{_≡_, refl, sym, _∙_, ap}
 use mathlib.Core.Bool.{true}
 use mathlib.Core.List.{List, [], _∷_, append-nil}
 use lib.ListN.{length}
@@ -23,27 +23,18 @@ use Rattle.node.specs.Shape.{stateInShape}
 use Rattle.node.proofs.View.{Fits, putState-view}
 use Rattle.node.proofs.Writes.{putColumns-same}
 use Rattle.node.proofs.AfterCalls.{shape-fits}
-use Rattle.step_outcome.specs.Done.{RuleDone}
-
--- the state with this operator, this checkpoint, bucket p and phase
-abbrev pub stateWith : State → Operator → Operator → ℕ → Phase → State
-stateWith st operator checkpoint p phase =
-    record {
-      operator = operator;
-      checkpoint = checkpoint;
-      heads = st .heads;
-      settings = st .settings;
-      clock = st .clock;
-      c = st .c;
-      p = p;
-      phase = phase;
-      acknowledged = st .acknowledged;
-    }
+use Rattle.step_outcome.specs.Done.{RuleDone, nodeAlone, DoneAlone}
 
 -- one record in front of the area
-one-record : (r : Record) (area area′ : List ℕ) → area′ ≡ inFront (bytesOf r) area → area′ ≡ inFront (allBytes (r ∷ [])) area
+pub one-record :
+    (area : List ℕ) {area′ : List ℕ} {r s : Record} → r ≡ s → area′ ≡ inFront (bytesOf r) area → area′ ≡ inFront (allBytes (s ∷ [])) area
 unfolding allBytes
-one-record r area area′ e = rw (append-nil (bytesOf r)) e
+one-record area {s = s} is e = rw (append-nil (bytesOf s), ← is) e
+
+-- and none
+pub none-in-front : (ids : List ℕ) → inFront [] ids ≡ ids
+unfolding inFront
+none-in-front ids = refl
 
 -- a state with room for every line and every display, and a store, in shape
 pub record Kept (st : State) (x : Columns) : Type 0 where
@@ -66,27 +57,25 @@ module _ (st : State) (x : Columns) (kept : Kept st x) where
   unfolding putState
   acknowledged-stay = ap (λ (q : State). q .acknowledged) (putState-view st x fits)
 
-  module _ (area area′ : List ℕ) where
-    pub withdraw-acts :
-        area′ ≡ inFront (bytesOf (marker letterU (st .checkpoint .number) (record { 0 = 0 }))) area →
-        RuleDone Rule.Withdraw st x area (stateWith st (st .checkpoint) (st .checkpoint) (st .c) Phase.Correcting) x area′ 1
-    unfolding act putState view
-    withdraw-acts e =
+  -- so what such a rule leaves of the state alone, it leaves of state and store
+  module _ {area area′ : List ℕ} {st′ : State} {records : ℕ} where
+    pub withdraw-done : DoneAlone Rule.Withdraw st area st′ area′ records → RuleDone Rule.Withdraw st x area st′ x area′ records
+    unfolding act putState view nodeAlone headsWith
+    withdraw-done d =
         record {
-          state = rw (heads-stay, acknowledged-stay);
+          state = d .state ∙ rw (none-in-front (st .acknowledged), heads-stay, acknowledged-stay);
           columns = sym (putColumns-same st x fits (act (st .settings) (view st x) Rule.Withdraw .node) refl);
-          bytes = one-record (marker letterU (st .checkpoint .number) (record { 0 = 0 })) area area′ e;
-          count = refl;
+          bytes = d .bytes;
+          count = d .count;
         }
 
-    pub end-correction-acts :
-        area′ ≡ inFront (bytesOf (marker letterR 0 (record { 0 = 0 }))) area →
-        RuleDone Rule.EndCorrection st x area (stateWith st (st .operator) (st .checkpoint) (st .p) Phase.Stable) x area′ 1
-    unfolding act putState view
-    end-correction-acts e =
+    pub end-correction-done :
+        DoneAlone Rule.EndCorrection st area st′ area′ records → RuleDone Rule.EndCorrection st x area st′ x area′ records
+    unfolding act putState view nodeAlone headsWith
+    end-correction-done d =
         record {
-          state = rw (heads-stay, acknowledged-stay);
+          state = d .state ∙ rw (none-in-front (st .acknowledged), heads-stay, acknowledged-stay);
           columns = sym (putColumns-same st x fits (act (st .settings) (view st x) Rule.EndCorrection .node) refl);
-          bytes = one-record (marker letterR 0 (record { 0 = 0 })) area area′ e;
-          count = refl;
+          bytes = d .bytes;
+          count = d .count;
         }

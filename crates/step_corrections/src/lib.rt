@@ -1,14 +1,9 @@
-// Rules 1 and 3, which give one record and leave the store as it is. The host's tests have passed.
-ghost use mathlib.Core.Path.{_≡_};
-ghost use mathlib.Core.Bool.{true};
+// Rules 1 and 3, which give one record and look at no line: what they leave is said for every state, in shape or not.
 ghost use Prim.Native.Nat.{_≤_, _<_, _^_};
 ghost use lib.ListN.{length};
 ghost use Rattle.record.specs.Sizes.{recordBytes};
-ghost use Rattle.store.specs.Columns.{Columns, storeLength};
 ghost use Rattle.protocol.specs.declared.Rule.the-variants as Rules;
-ghost use Rattle.node.specs.View.{places};
-ghost use Rattle.node.specs.Shape.{stateInShape};
-ghost use Rattle.step_outcome.specs.Done.{RuleDone};
+ghost use Rattle.step_outcome.specs.Done.{DoneAlone};
 use clock::ReadingTime;
 use node::State;
 use protocol::Phase;
@@ -17,29 +12,14 @@ use step_outcome::StepOutcome;
 // Rule 1: tentative results are withdrawn.
 pub fn withdraw(state: State, area: &mut [u8]) -> StepOutcome
     requires { ⌜ (recordBytes ≤ length (now area)) × (state .checkpoint .number < 2 ^ 32) ⌝ }
-    ensures { λ r. ⌜ (
-        (x : Columns) → places state ≤ storeLength x → stateInShape state x ≡ true →
-        RuleDone Rules.Withdraw state x (now (area .entry)) (r .state) x (now (area .exit)) (r .records)
-        ) ⌝ }
+    ensures { λ r. ⌜ DoneAlone Rules.Withdraw state (now (area .entry)) (r .state) (now (area .exit)) (r .records) ⌝ }
 {
     let last_stable = state.checkpoint;
-    let heads = state.heads;
-    let settings = state.settings;
-    let clock = state.clock;
-    let acknowledged = state.acknowledged;
     let undo = record::marker(record::UNDO, last_stable.number as u32, ReadingTime(0));
     record::put_record(area, undo);
-    let next = State {
-        operator: last_stable,
-        checkpoint: last_stable,
-        heads: heads,
-        settings: settings,
-        clock: clock,
-        c: state.c,
-        p: state.c,
-        phase: Phase::Correcting,
-        acknowledged: acknowledged,
-    };
+    let mut next = state.with_phase(Phase::Correcting);
+    next.operator = last_stable;
+    next.p = state.c;
     StepOutcome {
         state: next,
         records: 1,
@@ -49,30 +29,11 @@ pub fn withdraw(state: State, area: &mut [u8]) -> StepOutcome
 // Rule 3: the correction is over.
 pub fn end_correction(state: State, area: &mut [u8]) -> StepOutcome
     requires { ⌜ recordBytes ≤ length (now area) ⌝ }
-    ensures { λ r. ⌜ (
-        (x : Columns) → places state ≤ storeLength x → stateInShape state x ≡ true →
-        RuleDone Rules.EndCorrection state x (now (area .entry)) (r .state) x (now (area .exit)) (r .records)
-        ) ⌝ }
+    ensures { λ r. ⌜ DoneAlone Rules.EndCorrection state (now (area .entry)) (r .state) (now (area .exit)) (r .records) ⌝ }
 {
-    let operator = state.operator;
-    let checkpoint = state.checkpoint;
-    let heads = state.heads;
-    let settings = state.settings;
-    let clock = state.clock;
-    let acknowledged = state.acknowledged;
     let done = record::marker(record::DONE, 0, ReadingTime(0));
     record::put_record(area, done);
-    let next = State {
-        operator: operator,
-        checkpoint: checkpoint,
-        heads: heads,
-        settings: settings,
-        clock: clock,
-        c: state.c,
-        p: state.p,
-        phase: Phase::Stable,
-        acknowledged: acknowledged,
-    };
+    let next = state.with_phase(Phase::Stable);
     StepOutcome {
         state: next,
         records: 1,

@@ -3,6 +3,7 @@ ghost use mathlib.Core.Path.{_≡_};
 ghost use mathlib.Core.Bool.{true};
 ghost use Prim.Native.Nat.{_*_, _≤_, _<_};
 ghost use lib.ListN.{length, take};
+ghost use Rattle.settings.specs.Limits.{maxLines};
 ghost use Rattle.store.specs.Sizes.{readingsPerLine};
 ghost use Rattle.store.specs.Lists.{Every};
 ghost use Rattle.store.specs.Columns.{Columns, columnsOf, storeLength, rows};
@@ -19,7 +20,7 @@ use settings::Settings;
 
 // Whether bucket j is stable.
 fn is_stable(s: Settings, heads: [LineHead; node::HEADS], j: u32) -> bool
-    requires { ⌜ s .lines ≤ 8 ⌝ }
+    requires { ⌜ s .lines ≤ maxLines ⌝ }
     ensures { λ r. ⌜ ((x : Columns) → r ≡ isStableBucket s j (viewLines (s .lines) heads (rows x (s .lines * readingsPerLine)))) ⌝ }
 {
     let mut stable = true;
@@ -52,8 +53,15 @@ fn some_overdue(
     p: u32,
     tick: ArrivalTick,
 ) -> bool
-    requires { ⌜ (s .lines ≤ 8) × (0 < s .bucket) × (s .lines * readingsPerLine ≤ length (now times)) × (s .lines * readingsPerLine ≤ length (now arrivals)) × Every (λ h. h .kept ≤ readingsPerLine) (take (s .lines) heads) ⌝ }
-    ensures { λ r. ⌜ ((x : Columns) → x .times ≡ now (times .entry) → x .arrivals ≡ now (arrivals .entry) → s .lines * readingsPerLine ≤ storeLength x → r ≡ someOverdue s p tick (viewLines (s .lines) heads (rows x (s .lines * readingsPerLine)))) ⌝ }
+    requires { ⌜ (s .lines ≤ maxLines) × (0 < s .bucket) × (s .lines * readingsPerLine ≤ length (now times)) ×
+        (s .lines * readingsPerLine ≤ length (now arrivals)) × Every (λ h. h .kept ≤ readingsPerLine) (take (s .lines) heads) ⌝ }
+    ensures { λ r. ⌜ (
+        (x : Columns) →
+        x .times ≡ now (times .entry) →
+        x .arrivals ≡ now (arrivals .entry) →
+        s .lines * readingsPerLine ≤ storeLength x →
+        r ≡ someOverdue s p tick (viewLines (s .lines) heads (rows x (s .lines * readingsPerLine)))
+        ) ⌝ }
 {
     let mut found = false;
     let mut i = 0;
@@ -79,9 +87,13 @@ pub fn rule_of(
     meters: &[u8],
     tick: ArrivalTick,
 ) -> Rule
-    requires { ⌜ (let x : Columns = columnsOf (now ids) (now times) (now values) (now arrivals) (now kinds) (now meters) in
-        (places state ≤ storeLength x) × (stateInShape state x ≡ true)) ⌝ }
-    ensures { λ r. ⌜ r ≡ ruleOf (state .settings) (view state (columnsOf (now (ids .entry)) (now (times .entry)) (now (values .entry)) (now (arrivals .entry)) (now (kinds .entry)) (now (meters .entry)))) tick ⌝ }
+    requires { let x : Columns = columnsOf (now ids) (now times) (now values) (now arrivals) (now kinds) (now meters) in
+        ⌜ (places state ≤ storeLength x) × (stateInShape state x ≡ true) ⌝ }
+    ensures { λ r.
+        let x : Columns =
+        columnsOf (now (ids .entry)) (now (times .entry)) (now (values .entry)) (now (arrivals .entry)) (now (kinds .entry))
+        (now (meters .entry)) in
+        ⌜ r ≡ ruleOf (state .settings) (view state x) tick ⌝ }
 {
     let settings = state.settings;
     let heads = state.heads;

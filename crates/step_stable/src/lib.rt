@@ -1,22 +1,19 @@
 // Rule 2: what it does to state, store and area. The host's tests have passed.
 ghost use mathlib.Core.Path.{_≡_};
 ghost use mathlib.Core.Bool.{true};
-ghost use mathlib.Core.List.{_++_, map};
 ghost use Prim.Native.Nat.{_*_, _≤_, _<_, _^_};
 ghost use lib.ListN.{length, take};
-ghost use Rattle.area.specs.Laid.{inFront};
 ghost use Rattle.clock.specs.Buckets.{bucketEnd};
-ghost use Rattle.journal.specs.Kinds.{letterS};
-ghost use Rattle.record.specs.Layout.{allBytes};
+ghost use Rattle.settings.specs.Limits.{maxLines};
 ghost use Rattle.store.specs.Sizes.{readingsPerLine};
 ghost use Rattle.store.specs.Lists.{Every};
-ghost use Rattle.store.specs.Columns.{Columns, columnsOf, storeLength, rows, withRows};
+ghost use Rattle.store.specs.Columns.{Columns, columnsOf, storeLength};
 ghost use Rattle.protocol.specs.declared.Rule.the-variants as Rules;
-ghost use Rattle.protocol.specs.Rules.{without, worked, boundaryAt};
 ghost use Rattle.node.specs.Sizes.{areaBytes};
-ghost use Rattle.node.specs.View.{viewLines, places, view, headsWith, sharesWith};
+ghost use Rattle.node.specs.View.{places};
 ghost use Rattle.node.specs.Shape.{stateInShape};
 ghost use Rattle.step_outcome.specs.Done.{RuleDone};
+ghost use Rattle.step_stable.specs.Halves.{StableWorked, ReadingsRemoved};
 use clock::ReadingTime;
 use node::LineHead;
 use node::State;
@@ -36,9 +33,17 @@ fn remove(
     meters: &mut [u8],
     j: u32,
 ) -> [LineHead; node::HEADS]
-    requires { ⌜ (s .lines ≤ 8) × (0 < s .bucket) × (s .lines * readingsPerLine ≤ storeLength (columnsOf (now ids) (now times) (now values) (now arrivals) (now kinds) (now meters))) × Every (λ h. h .kept ≤ readingsPerLine) (take (s .lines) heads) ⌝ }
-    ensures { λ r. ⌜ r ≡ headsWith heads (map (without s j) (viewLines (s .lines) heads (rows (columnsOf (now (ids .entry)) (now (times .entry)) (now (values .entry)) (now (arrivals .entry)) (now (kinds .entry)) (now (meters .entry))) (s .lines * readingsPerLine)))) ⌝ }
-    ensures { λ _. ⌜ columnsOf (now (ids .exit)) (now (times .exit)) (now (values .exit)) (now (arrivals .exit)) (now (kinds .exit)) (now (meters .exit)) ≡ withRows (columnsOf (now (ids .entry)) (now (times .entry)) (now (values .entry)) (now (arrivals .entry)) (now (kinds .entry)) (now (meters .entry))) (sharesWith heads (rows (columnsOf (now (ids .entry)) (now (times .entry)) (now (values .entry)) (now (arrivals .entry)) (now (kinds .entry)) (now (meters .entry))) (s .lines * readingsPerLine)) (map (without s j) (viewLines (s .lines) heads (rows (columnsOf (now (ids .entry)) (now (times .entry)) (now (values .entry)) (now (arrivals .entry)) (now (kinds .entry)) (now (meters .entry))) (s .lines * readingsPerLine))))) ⌝ }
+    requires { let x : Columns = columnsOf (now ids) (now times) (now values) (now arrivals) (now kinds) (now meters) in
+        ⌜ (s .lines ≤ maxLines) × (0 < s .bucket) × (s .lines * readingsPerLine ≤ storeLength x) ×
+        Every (λ h. h .kept ≤ readingsPerLine) (take (s .lines) heads) ⌝ }
+    ensures { λ r.
+        let x : Columns =
+        columnsOf (now (ids .entry)) (now (times .entry)) (now (values .entry)) (now (arrivals .entry)) (now (kinds .entry))
+        (now (meters .entry)) in
+        let x′ : Columns =
+        columnsOf (now (ids .exit)) (now (times .exit)) (now (values .exit)) (now (arrivals .exit)) (now (kinds .exit))
+        (now (meters .exit)) in
+        ⌜ ReadingsRemoved s j heads x r x′ ⌝ }
 {
     let mut next = heads;
     let mut i = 0;
@@ -82,12 +87,14 @@ fn stable_records(
     meters: &[u8],
     area: &mut [u8],
 ) -> StableWork
-    requires { ⌜ (let x : Columns = columnsOf (now ids) (now times) (now values) (now arrivals) (now kinds) (now meters) in
-        (places state ≤ storeLength x) × (stateInShape state x ≡ true) × (areaBytes ≤ length (now area)) ×
-        (bucketEnd (state .settings .bucket) (state .c) < 2 ^ 32)) ⌝ }
-    ensures { λ r. ⌜ r .operator ≡ worked (state .settings) letterS (state .c) (view state (columnsOf (now (ids .entry)) (now (times .entry)) (now (values .entry)) (now (arrivals .entry)) (now (kinds .entry)) (now (meters .entry)))) .operator ⌝ }
-    ensures { λ r. ⌜ r .records ≡ length (worked (state .settings) letterS (state .c) (view state (columnsOf (now (ids .entry)) (now (times .entry)) (now (values .entry)) (now (arrivals .entry)) (now (kinds .entry)) (now (meters .entry)))) .records ++ boundaryAt (state .settings) (state .c)) ⌝ }
-    ensures { λ _. ⌜ now (area .exit) ≡ inFront (allBytes (worked (state .settings) letterS (state .c) (view state (columnsOf (now (ids .entry)) (now (times .entry)) (now (values .entry)) (now (arrivals .entry)) (now (kinds .entry)) (now (meters .entry)))) .records ++ boundaryAt (state .settings) (state .c))) (now (area .entry)) ⌝ }
+    requires { let x : Columns = columnsOf (now ids) (now times) (now values) (now arrivals) (now kinds) (now meters) in
+        ⌜ (places state ≤ storeLength x) × (stateInShape state x ≡ true) × (areaBytes ≤ length (now area)) ×
+        (bucketEnd (state .settings .bucket) (state .c) < 2 ^ 32) ⌝ }
+    ensures { λ r.
+        let x : Columns =
+        columnsOf (now (ids .entry)) (now (times .entry)) (now (values .entry)) (now (arrivals .entry)) (now (kinds .entry))
+        (now (meters .entry)) in
+        ⌜ StableWorked state x (now (area .entry)) (r .operator) (now (area .exit)) (r .records) ⌝ }
 {
     let settings = state.settings;
     let operator = state.operator;
@@ -105,19 +112,21 @@ fn stable_records(
         area,
     );
     let results = next.number - operator.number;
+    let records = results as u32;
     if !clock::closes_window(settings.window, stable_bucket) {
         return StableWork {
             operator: next,
-            records: results as u32,
+            records: records,
         };
     }
     let end = clock::bucket_end(settings.bucket, stable_bucket) as u32;
     let boundary = record::marker(record::BOUNDARY, 0, ReadingTime(end));
     let at = results as usize * record::RECORD_BYTES;
     record::put_record(&mut area[at..], boundary);
+    let with_boundary = records + 1;
     StableWork {
         operator: next,
-        records: results as u32 + 1,
+        records: with_boundary,
     }
 }
 
@@ -132,19 +141,23 @@ pub fn work_stable(
     meters: &mut [u8],
     area: &mut [u8],
 ) -> StepOutcome
-    requires { ⌜ (let x : Columns = columnsOf (now ids) (now times) (now values) (now arrivals) (now kinds) (now meters) in
-        (places state ≤ storeLength x) × (stateInShape state x ≡ true) × (areaBytes ≤ length (now area)) ×
-        (bucketEnd (state .settings .bucket) (state .c) < 2 ^ 32)) ⌝ }
-    ensures { λ r. ⌜ RuleDone Rules.WorkStable state (columnsOf (now (ids .entry)) (now (times .entry)) (now (values .entry)) (now (arrivals .entry)) (now (kinds .entry)) (now (meters .entry))) (now (area .entry)) (r .state) (columnsOf (now (ids .exit)) (now (times .exit)) (now (values .exit)) (now (arrivals .exit)) (now (kinds .exit)) (now (meters .exit))) (now (area .exit)) (r .records) ⌝ }
+    requires { let x : Columns = columnsOf (now ids) (now times) (now values) (now arrivals) (now kinds) (now meters) in
+        ⌜ (places state ≤ storeLength x) × (stateInShape state x ≡ true) × (areaBytes ≤ length (now area)) ×
+        (bucketEnd (state .settings .bucket) (state .c) < 2 ^ 32) ⌝ }
+    ensures { λ r.
+        let x : Columns =
+        columnsOf (now (ids .entry)) (now (times .entry)) (now (values .entry)) (now (arrivals .entry)) (now (kinds .entry))
+        (now (meters .entry)) in
+        let x′ : Columns =
+        columnsOf (now (ids .exit)) (now (times .exit)) (now (values .exit)) (now (arrivals .exit)) (now (kinds .exit))
+        (now (meters .exit)) in
+        ⌜ RuleDone Rules.WorkStable state x (now (area .entry)) (r .state) x′ (now (area .exit)) (r .records) ⌝ }
 {
     let settings = state.settings;
     let heads = state.heads;
-    let clock = state.clock;
-    let acknowledged = state.acknowledged;
-    let phase = state.phase;
     let worked_bucket = state.c;
     let given = stable_records(state, ids, times, values, arrivals, kinds, meters, area);
-    let next = given.operator;
+    let worked = given.operator;
     let left = remove(
         settings,
         heads,
@@ -156,19 +169,14 @@ pub fn work_stable(
         meters,
         worked_bucket,
     );
-    let after = State {
-        operator: next,
-        checkpoint: next,
-        heads: left,
-        settings: settings,
-        clock: clock,
-        c: worked_bucket + 1,
-        p: state.p + 1,
-        phase: phase,
-        acknowledged: acknowledged,
-    };
+    let mut next = state;
+    next.operator = worked;
+    next.checkpoint = worked;
+    next.heads = left;
+    next.c = worked_bucket + 1;
+    next.p = state.p + 1;
     StepOutcome {
-        state: after,
+        state: next,
         records: given.records,
     }
 }

@@ -9,25 +9,44 @@ use Rattle.journal.specs.Kinds.{letterT}
 use Rattle.record.specs.Layout.{allBytes}
 use Rattle.store.specs.Columns.{Columns}
 use Rattle.operator.specs.declared.Operator.{Operator}
+use Rattle.operator.specs.Work.{Worked}
 use Rattle.protocol.specs.declared.Phase.the-variants as Phase
 use Rattle.protocol.specs.declared.Rule.the-variants as Rule
 use Rattle.protocol.specs.Rules.{act, worked}
 use Rattle.node.specs.declared.State.{State}
 use Rattle.node.specs.View.{view, putState}
+use Rattle.node.specs.Changed.{withPhase}
 use Rattle.node.proofs.Writes.{putColumns-same}
 use Rattle.step_outcome.specs.Done.{RuleDone}
-use Rattle.step_corrections.proofs.LinesStay.{stateWith, Kept, fits, heads-stay, acknowledged-stay}
+use Rattle.step_corrections.proofs.LinesStay.{Kept, fits, heads-stay, acknowledged-stay}
+
+-- the state with this operator, which has worked up to bucket p
+abbrev workedTo : State → Operator → ℕ → State
+workedTo st next p =
+    record {
+      operator = next;
+      checkpoint = st .checkpoint;
+      heads = st .heads;
+      settings = st .settings;
+      clock = st .clock;
+      c = st .c;
+      p = p;
+      phase = st .phase;
+      acknowledged = st .acknowledged;
+    }
 
 module _ (st : State) (x : Columns) (kept : Kept st x) (area area′ : List ℕ) where
+  abbrev done : Worked
+  done = worked (st .settings) letterT (st .p) (view st x)
+
   pub work-tentative-acts :
-      (next : Operator) (records : ℕ) → next ≡ worked (st .settings) letterT (st .p) (view st x) .operator →
-      area′ ≡ inFront (allBytes (worked (st .settings) letterT (st .p) (view st x) .records)) area →
-      records ≡ length (worked (st .settings) letterT (st .p) (view st x) .records) →
-      RuleDone Rule.WorkTentative st x area (stateWith st next (st .checkpoint) (st .p + 1) Phase.Failure) x area′ records
+      (failing : State) (next : Operator) (records : ℕ) → failing ≡ withPhase Phase.Failure st → next ≡ done .operator →
+      area′ ≡ inFront (allBytes (done .records)) area → records ≡ length (done .records) →
+      RuleDone Rule.WorkTentative st x area (workedTo failing next (st .p + 1)) x area′ records
   unfolding act putState view
-  work-tentative-acts next records o e n =
+  work-tentative-acts failing next records f o e n =
       record {
-        state = rw (o, heads-stay st x kept, acknowledged-stay st x kept, add-one (st .p));
+        state = rw (f, o, heads-stay st x kept, acknowledged-stay st x kept, add-one (st .p));
         columns = sym (putColumns-same st x (fits st x kept) (act (st .settings) (view st x) Rule.WorkTentative .node) refl);
         bytes = e;
         count = n;

@@ -25,19 +25,18 @@ pub fn work_tentative(
     meters: &[u8],
     area: &mut [u8],
 ) -> StepOutcome
-    requires { ⌜ (let x : Columns = columnsOf (now ids) (now times) (now values) (now arrivals) (now kinds) (now meters) in
-        (places state ≤ storeLength x) × (stateInShape state x ≡ true) × (areaBytes ≤ length (now area)) ×
-        (windowStart (state .settings .bucket) (state .settings .window) (state .p) < 2 ^ 32)) ⌝ }
-    ensures { λ r. ⌜ RuleDone Rules.WorkTentative state (columnsOf (now (ids .entry)) (now (times .entry)) (now (values .entry)) (now (arrivals .entry)) (now (kinds .entry)) (now (meters .entry))) (now (area .entry)) (r .state) (columnsOf (now (ids .entry)) (now (times .entry)) (now (values .entry)) (now (arrivals .entry)) (now (kinds .entry)) (now (meters .entry))) (now (area .exit)) (r .records) ⌝ }
+    requires { let x : Columns = columnsOf (now ids) (now times) (now values) (now arrivals) (now kinds) (now meters) in
+        ⌜ (places state ≤ storeLength x) × (stateInShape state x ≡ true) × (areaBytes ≤ length (now area)) ×
+        (windowStart (state .settings .bucket) (state .settings .window) (state .p) < 2 ^ 32) ⌝ }
+    ensures { λ r.
+        let x : Columns =
+        columnsOf (now (ids .entry)) (now (times .entry)) (now (values .entry)) (now (arrivals .entry)) (now (kinds .entry))
+        (now (meters .entry)) in
+        ⌜ RuleDone Rules.WorkTentative state x (now (area .entry)) (r .state) x (now (area .exit)) (r .records) ⌝ }
 {
-    let operator = state.operator;
-    let stable = state.checkpoint;
-    let heads = state.heads;
-    let settings = state.settings;
-    let clock = state.clock;
-    let acknowledged = state.acknowledged;
     let p = state.p;
-    let next = step_work::work(
+    let newest = state.operator;
+    let worked = step_work::work(
         state,
         ids,
         times,
@@ -49,20 +48,12 @@ pub fn work_tentative(
         p,
         area,
     );
-    let records = (next.number - operator.number) as u32;
-    let after = State {
-        operator: next,
-        checkpoint: stable,
-        heads: heads,
-        settings: settings,
-        clock: clock,
-        c: state.c,
-        p: p + 1,
-        phase: Phase::Failure,
-        acknowledged: acknowledged,
-    };
+    let records = (worked.number - newest.number) as u32;
+    let mut next = state.with_phase(Phase::Failure);
+    next.operator = worked;
+    next.p = p + 1;
     StepOutcome {
-        state: after,
+        state: next,
         records: records,
     }
 }

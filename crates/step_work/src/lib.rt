@@ -12,6 +12,7 @@ ghost use Rattle.store.specs.Lists.{Every};
 ghost use Rattle.store.specs.Order.{inBucket};
 ghost use Rattle.store.specs.Columns.{Columns, columnsOf, storeLength};
 ghost use Rattle.operator.specs.Meters.{addAll};
+ghost use Rattle.operator.specs.Work.{Worked};
 ghost use Rattle.protocol.specs.Node.{keptOf};
 ghost use Rattle.protocol.specs.Rules.{worked};
 ghost use Rattle.node.specs.declared.LineHead.{LineHead as Head};
@@ -47,10 +48,14 @@ fn added(
     meters: &[u8],
     j: u32,
 ) -> Operator
-    requires { ⌜ (let x : Columns = columnsOf (now ids) (now times) (now values) (now arrivals) (now kinds) (now meters) in
-        (places state ≤ storeLength x) × (stateInShape state x ≡ true)) ⌝ }
-    ensures { λ r. ⌜ r ≡ addAll (state .settings) (state .operator) (inBucket (state .settings .bucket) j (keptOf (view state (columnsOf (now (ids .entry)) (now (times .entry)) (now (values .entry)) (now (arrivals .entry)) (now (kinds .entry)) (now (meters .entry))) .lines))) ⌝ }
-    ensures { λ r. ⌜ Every (λ m. InRange (m .sum) (m .count)) (r .meters) ⌝ }
+    requires { let x : Columns = columnsOf (now ids) (now times) (now values) (now arrivals) (now kinds) (now meters) in
+        ⌜ (places state ≤ storeLength x) × (stateInShape state x ≡ true) ⌝ }
+    ensures { λ r.
+        let x : Columns =
+        columnsOf (now (ids .entry)) (now (times .entry)) (now (values .entry)) (now (arrivals .entry)) (now (kinds .entry))
+        (now (meters .entry)) in
+        ⌜ (r ≡ addAll (state .settings) (state .operator) (inBucket (state .settings .bucket) j (keptOf (view state x .lines)))) ×
+        Every (λ m. InRange (m .sum) (m .count)) (r .meters) ⌝ }
 {
     let heads = state.heads;
     let settings = state.settings;
@@ -79,11 +84,15 @@ pub fn work(
     j: u32,
     area: &mut [u8],
 ) -> Operator
-    requires { ⌜ (let x : Columns = columnsOf (now ids) (now times) (now values) (now arrivals) (now kinds) (now meters) in
-        (places state ≤ storeLength x) × (stateInShape state x ≡ true) × (areaBytes ≤ length (now area)) ×
-        (windowStart (state .settings .bucket) (state .settings .window) j < 2 ^ 32)) ⌝ }
-    ensures { λ r. ⌜ r ≡ worked (state .settings) kind j (view state (columnsOf (now (ids .entry)) (now (times .entry)) (now (values .entry)) (now (arrivals .entry)) (now (kinds .entry)) (now (meters .entry)))) .operator ⌝ }
-    ensures { λ _. ⌜ now (area .exit) ≡ inFront (allBytes (worked (state .settings) kind j (view state (columnsOf (now (ids .entry)) (now (times .entry)) (now (values .entry)) (now (arrivals .entry)) (now (kinds .entry)) (now (meters .entry)))) .records)) (now (area .entry)) ⌝ }
+    requires { let x : Columns = columnsOf (now ids) (now times) (now values) (now arrivals) (now kinds) (now meters) in
+        ⌜ (places state ≤ storeLength x) × (stateInShape state x ≡ true) × (areaBytes ≤ length (now area)) ×
+        (windowStart (state .settings .bucket) (state .settings .window) j < 2 ^ 32) ⌝ }
+    ensures { λ r.
+        let x : Columns =
+        columnsOf (now (ids .entry)) (now (times .entry)) (now (values .entry)) (now (arrivals .entry)) (now (kinds .entry))
+        (now (meters .entry)) in
+        let done : Worked = worked (state .settings) kind j (view state x) in
+        ⌜ (r ≡ done .operator) × (now (area .exit) ≡ inFront (allBytes (done .records)) (now (area .entry))) ⌝ }
 {
     let settings = state.settings;
     let next = added(state, ids, times, values, arrivals, kinds, meters, j);
@@ -104,9 +113,13 @@ pub fn results_ahead(
     meters: &[u8],
     j: u32,
 ) -> u32
-    requires { ⌜ (let x : Columns = columnsOf (now ids) (now times) (now values) (now arrivals) (now kinds) (now meters) in
-        (places state ≤ storeLength x) × (stateInShape state x ≡ true)) ⌝ }
-    ensures { λ r. ⌜ ((kind : ℕ) → r ≡ length (worked (state .settings) kind j (view state (columnsOf (now (ids .entry)) (now (times .entry)) (now (values .entry)) (now (arrivals .entry)) (now (kinds .entry)) (now (meters .entry)))) .records)) ⌝ }
+    requires { let x : Columns = columnsOf (now ids) (now times) (now values) (now arrivals) (now kinds) (now meters) in
+        ⌜ (places state ≤ storeLength x) × (stateInShape state x ≡ true) ⌝ }
+    ensures { λ r.
+        let x : Columns =
+        columnsOf (now (ids .entry)) (now (times .entry)) (now (values .entry)) (now (arrivals .entry)) (now (kinds .entry))
+        (now (meters .entry)) in
+        ⌜ ((kind : ℕ) → r ≡ length (worked (state .settings) kind j (view state x) .records)) ⌝ }
 {
     let settings = state.settings;
     if !clock::closes_window(settings.window, j) {

@@ -1,9 +1,9 @@
 -- `step::step` meets its contract: what the rule that applies does, by its function.
-use Prim.Native.Nat.{_≤_}
+use Prim.Native.Nat.{ℕ, _≤_, _<_, _^_}
 use mathlib.Core.Path.{refl}
 use native.Mathlib.Omega.{arith}
 use borrow.Author.Needs.{needs}
-use lib.ListN.{length}
+use lib.ListN.{length, getD}
 use Rattle.store.specs.Lists.{Every}
 use Rattle.store.specs.Columns.{Columns, columnsOf}
 use Rattle.operator.proofs.FromPlace.{length-mapped}
@@ -12,7 +12,7 @@ use Rattle.protocol.specs.declared.Rule.the-variants as Rule
 use Rattle.node.proofs.LineHead.{the-field as head-field}
 use Rattle.node.proofs.Limits.{limits-hold}
 use Rattle.node.proofs.Shape.{StateShape, state-facts}
-use Rattle.step_corrections.proofs.LinesStay.{Kept}
+use Rattle.step_corrections.proofs.LinesStay.{Kept, withdraw-done, end-correction-done}
 use Rattle.step.proofs.ByRule.{Found, idle-acts, by-rule}
 use Rattle.step.proofs.Within.{BoundaryWithin, every-owned, stable-within, tentative-within}
 use Rattle.step.proofs.step.Statement.{statement}
@@ -23,7 +23,8 @@ use Rattle.step.proofs.step.Tie as tie
 -- the columns as they are lent
 abbrev store : tie.Start → Columns
 store s =
-    columnsOf (s .args .ids .now) (s .args .times .now) (s .args .values .now) (s .args .arrivals .now) (s .args .kinds .now) (s .args .meters .now)
+    columnsOf (s .args .ids .now) (s .args .times .now) (s .args .values .now) (s .args .arrivals .now) (s .args .kinds .now)
+    (s .args .meters .now)
 
 shape : (s : tie.Start) → StateShape (s .args .state) (store s)
 shape s = state-facts (s .args .state) (store s) (s .pre .1)
@@ -45,12 +46,23 @@ enough-heads s = omega (arith, kept s .heads, limits-hold (s .args .state .setti
 
 all-boundaries : (s : tie.Start) → Every BoundaryWithin (s .args .state .heads)
 all-boundaries s =
-    every-owned (head-field .row .own) _ BoundaryWithin (λ h v owned. owned .1 .1 .0 .1 .1 .0 .1) (s .args .state .heads) _ (s .good .0 .1 .1 .1 .1 .0 .1 .1)
+    every-owned (head-field .row .own) _ BoundaryWithin (λ h v owned. owned .1 .1 .0 .1 .1 .0 .1) (s .args .state .heads) _
+    (s .good .0 .1 .1 .1 .1 .0 .1 .1)
 
 -- ---- the rule, once it is found, and what it is, once it is told; each place names the one that it goes back to
 
+-- where the columns' numbers are told
+abbrev known : tie.After-rule-of-arg6 → tie.After-slice-known2
+known c = c .before .before .before .before .before .before .before .before .before .before
+
+abbrev begin : tie.After-rule-of-arg6 → tie.Start
+begin c = known c .before .before
+
 abbrev start : tie.After-rule-of → tie.Start
-start f = f .before .before .before .before .before .before .before .before .before .before .before .before .before
+start f = begin (f .before)
+
+times-within : (f : tie.After-rule-of) (i : ℕ) → getD (store (start f) .times) i 0 < 2 ^ 32
+times-within f i = known (f .before) .slice-known2 .given i .fits
 
 abbrev Is : tie.After-rule-of → Rule → Type 0
 Is f rule = Found (start f .args .tick) (start f .args .state) (store (start f)) rule
@@ -80,19 +92,19 @@ is-idle t =
 abbrev withdrawing : tie.After-withdraw → tie.After-enum-told
 withdrawing d = d .before .before
 
-abbrev working-stable : tie.After-work-stable → tie.After-enum-told2
-working-stable d = d .before .before .before .before .before .before .before .before
+abbrev working-stable : tie.After-work-stable-arg7 → tie.After-enum-told2
+working-stable c = c .before .before .before .before .before .before .before
 
 abbrev ending : tie.After-end-correction → tie.After-enum-told3
 ending d = d .before .before
 
-abbrev working-tentative : tie.After-work-tentative → tie.After-enum-told4
-working-tentative d = d .before .before .before .before .before .before .before .before
+abbrev working-tentative : tie.After-work-tentative-arg7 → tie.After-enum-told4
+working-tentative c = c .before .before .before .before .before .before .before
 
 -- ---- the needs
 
 rule-of-requires : tie.Need-rule-of-requires
-rule-of-requires c κs = let s = c .before .before .before .before .before .before .before .before .before .before .before .before in (s .pre .0, s .pre .1)
+rule-of-requires c κs = let s = begin c in (s .pre .0, s .pre .1)
 
 enum-told : tie.Need-enum-told
 enum-told c = search needs
@@ -107,9 +119,13 @@ enum-told-2 c = search needs
 
 work-stable-requires : tie.Need-work-stable-requires
 work-stable-requires c κs =
-    let t = c .before .before .before .before .before .before .before in
-    let s = start (t .before .before) in
-    (s .pre .0, s .pre .1, s .pre .2, stable-within (s .args .state) (store s) (s .args .tick) (enough-heads s) (shape s) (all-boundaries s) (is-work-stable t))
+    let t = working-stable c in
+    let s = start (t .before .before) in (
+      s .pre .0,
+      s .pre .1,
+      s .pre .2,
+      stable-within (s .args .state) (store s) (s .args .tick) (enough-heads s) (shape s) (all-boundaries s) (is-work-stable t),
+    )
 
 enum-told-3 : tie.Need-enum-told-3
 enum-told-3 c = search needs
@@ -122,10 +138,14 @@ enum-told-4 c = search needs
 
 work-tentative-requires : tie.Need-work-tentative-requires
 work-tentative-requires c κs =
-    let t = c .before .before .before .before .before .before .before in
+    let t = working-tentative c in
     let f = t .before .before in
-    let s = start f in
-    (s .pre .0, s .pre .1, s .pre .2, tentative-within (s .args .state) (store s) (s .args .tick) (enough-heads s) (shape s) (λ i. f .before .before .before .before .before .before .before .before .before .before .before .slice-known2 .given i .fits) (is-work-tentative t))
+    let s = start f in (
+      s .pre .0,
+      s .pre .1,
+      s .pre .2,
+      tentative-within (s .args .state) (store s) (s .args .tick) (enough-heads s) (shape s) (times-within f) (is-work-tentative t),
+    )
 
 enum-told-5 : tie.Need-enum-told-5
 enum-told-5 c = search needs
@@ -156,10 +176,15 @@ returns c =
     let d = c .before .before in
     let t = withdrawing d in
     let s = start (t .before .before) in
-    by-rule (s .args .tick) Rule.Withdraw (s .args .state) (store s) (s .args .area .now) _ _ _ _ (is-withdraw t)
-    (d .withdraw .ensures (store s) (s .pre .0) (s .pre .1))
+    by-rule (s .args .tick) Rule.Withdraw (s .args .state) (store s) (s .args .area .now) _ (store s) _ _ (is-withdraw t)
+    (withdraw-done (s .args .state) (store s) (kept s) (d .withdraw .ensures))
 
 -- bucket c worked, and the columns handed back
+abbrev left : tie.After-work-stable → Columns
+left d =
+    let all = d .work-stable .last .1 in
+    columnsOf (all .0) (all .1 .0) (all .1 .1 .0) (all .1 .1 .1 .0) (all .1 .1 .1 .1 .0) (all .1 .1 .1 .1 .1 .0)
+
 abbrev worked-stable : tie.After-slice-known13 → tie.After-work-stable
 worked-stable c = c .before .before .before .before .before .before .before .before .before .before .before .before .before
 
@@ -187,9 +212,9 @@ same-length-14 c = worked-stable c .work-stable .kept .1 .1 .1 .1 .1 .1 .1 .0
 returns-2 : tie.Need-returns-2
 returns-2 c =
     let d = worked-stable c in
-    let t = working-stable d in
+    let t = working-stable (d .before) in
     let s = start (t .before .before) in
-    by-rule (s .args .tick) Rule.WorkStable (s .args .state) (store s) (s .args .area .now) _ _ _ _ (is-work-stable t)
+    by-rule (s .args .tick) Rule.WorkStable (s .args .state) (store s) (s .args .area .now) _ (left d) _ _ (is-work-stable t)
     (d .work-stable .ensures)
 
 same-length-15 : tie.Need-same-length-15
@@ -218,8 +243,8 @@ returns-3 c =
     let d = c .before .before in
     let t = ending d in
     let s = start (t .before .before) in
-    by-rule (s .args .tick) Rule.EndCorrection (s .args .state) (store s) (s .args .area .now) _ _ _ _ (is-end-correction t)
-    (d .end-correction .ensures (store s) (s .pre .0) (s .pre .1))
+    by-rule (s .args .tick) Rule.EndCorrection (s .args .state) (store s) (s .args .area .now) _ (store s) _ _ (is-end-correction t)
+    (end-correction-done (s .args .state) (store s) (kept s) (d .end-correction .ensures))
 
 same-length-22 : tie.Need-same-length-22
 same-length-22 c = refl
@@ -245,9 +270,9 @@ same-length-28 c = c .before .before .work-tentative .kept .1 .1 .1 .1 .1 .1 .1 
 returns-4 : tie.Need-returns-4
 returns-4 c =
     let d = c .before .before in
-    let t = working-tentative d in
+    let t = working-tentative (d .before) in
     let s = start (t .before .before) in
-    by-rule (s .args .tick) Rule.WorkTentative (s .args .state) (store s) (s .args .area .now) _ _ _ _ (is-work-tentative t)
+    by-rule (s .args .tick) Rule.WorkTentative (s .args .state) (store s) (s .args .area .now) _ (store s) _ _ (is-work-tentative t)
     (d .work-tentative .ensures)
 
 same-length-29 : tie.Need-same-length-29
@@ -271,7 +296,7 @@ same-length-34 c = refl
 returns-5 : tie.Need-returns-5
 returns-5 c =
     let s = start (c .before .before) in
-    by-rule (s .args .tick) Rule.Idle (s .args .state) (store s) (s .args .area .now) _ _ _ _ (is-idle c)
+    by-rule (s .args .tick) Rule.Idle (s .args .state) (store s) (s .args .area .now) _ (store s) _ _ (is-idle c)
     (idle-acts (s .args .state) (store s) (kept s) (s .args .area .now))
 
 pub step-spec : {M : Type 1} → statement M

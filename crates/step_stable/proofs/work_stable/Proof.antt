@@ -6,23 +6,15 @@ use Rattle.store.specs.Columns.{Columns, columnsOf}
 use Rattle.store.proofs.Pairs.{every-to}
 use Rattle.operator.proofs.FromPlace.{length-mapped}
 use Rattle.node.specs.declared.LineHead.{LineHead}
-use Rattle.node.specs.View.{places, view}
+use Rattle.node.specs.View.{places}
 use Rattle.node.proofs.Limits.{limits-hold}
 use Rattle.node.proofs.Shape.{HeadShape, StateShape, state-facts}
 use Rattle.step_corrections.proofs.LinesStay.{Kept}
-use Rattle.step_stable.proofs.Stable.{work-stable-acts}
+use Rattle.step_stable.proofs.Stable.{work-stable-done}
 use Rattle.step_stable.proofs.work_stable.Statement.{statement}
 use Rattle.step_stable.proofs.work_stable.Tie as tie
 
--- the places: where the function begins, where the records were laid down, and where the readings were taken out
-abbrev begin : tie.After-stable-records → tie.Start
-begin c = c .before .before .before .before .before .before .before .before .before .before .before .before .before .before .before .before .before .before
-
-abbrev laid : tie.After-remove-arg6 → tie.After-stable-records
-laid c = c .before .before .before .before .before .before .before .before .before
-
-abbrev taken : tie.After-slice-known12 → tie.After-remove
-taken c = c .before .before .before .before .before .before .before .before .before .before .before
+-- ---- what is known where the function begins
 
 abbrev store : tie.Start → Columns
 store s =
@@ -44,59 +36,81 @@ kept s =
 shape : (s : tie.Start) → StateShape (s .args .state) (store s)
 shape s = state-facts (s .args .state) (store s) (s .pre .1)
 
+-- ---- the places on the way: the records are laid down, the readings are taken out, the columns are handed back
+
+abbrev start : tie.After-stable-records-arg7 → tie.Start
+start c = c .before .before .before .before .before .before .before .before .before .before .before .before .before .before .before
+
+abbrev begin : tie.After-stable-records → tie.Start
+begin c = start (c .before)
+
+abbrev laid : tie.After-remove-arg6 → tie.After-stable-records
+laid c = c .before .before .before .before .before .before .before .before .before
+
+abbrev taken : tie.After-slice-known12 → tie.After-remove
+taken c = c .before .before .before .before .before .before .before .before .before .before .before
+
+abbrev back : tie.After-struct-known → tie.After-remove
+back c = taken (c .before)
+
+abbrev left : tie.After-remove → Columns
+left d =
+    let all = d .remove .last .1 .1 in
+    columnsOf (all .0) (all .1 .0) (all .1 .1 .0) (all .1 .1 .1 .0) (all .1 .1 .1 .1 .0) (all .1 .1 .1 .1 .1 .0)
+
+-- ---- the needs
+
 stable-records-requires : tie.Need-stable-records-requires
-stable-records-requires c κs = search needs
+stable-records-requires c κs = let s = start c in (s .pre .0, s .pre .1, s .pre .2, s .pre .3)
 
 remove-requires : tie.Need-remove-requires
 unfolding places
 remove-requires c κs =
-    let start = begin (laid c) in
-    let st = start .args .state in
-    let limits = limits-hold (st .settings) (shape start .limits) in (
+    let s = begin (laid c) in
+    let st = s .args .state in
+    let limits = limits-hold (st .settings) (shape s .limits) in (
       limits .lines,
       omega (arith, limits .leastBucket),
-      start .pre .0,
-      every-to (take (st .settings .lines) (st .heads)) (λ (h : LineHead) (k : HeadShape h). k .kept) (shape start .heads),
+      s .pre .0,
+      every-to (take (st .settings .lines) (st .heads)) (λ (h : LineHead) (k : HeadShape h). k .kept) (shape s .heads),
     )
 
-add-t45 : tie.Need-add-t45
-add-t45 c =
+add-next : tie.Need-add-next
+add-next c =
     let buckets = shape (begin (laid (taken c .before))) .buckets in
     omega (arith, buckets .order, buckets .last)
 
-add-t46 : tie.Need-add-t46
-add-t46 c = omega (arith, shape (begin (laid (taken (c .before) .before))) .buckets .last)
+add-next-2 : tie.Need-add-next-2
+add-next-2 c = omega (arith, shape (begin (laid (back c .before))) .buckets .last)
 
 same-length : tie.Need-same-length
-same-length c = taken (c .before) .remove .kept .1 .1 .0
+same-length c = back c .remove .kept .1 .1 .0
 
 same-length-2 : tie.Need-same-length-2
-same-length-2 c = taken (c .before) .remove .kept .1 .1 .1 .0
+same-length-2 c = back c .remove .kept .1 .1 .1 .0
 
 same-length-3 : tie.Need-same-length-3
-same-length-3 c = taken (c .before) .remove .kept .1 .1 .1 .1 .0
+same-length-3 c = back c .remove .kept .1 .1 .1 .1 .0
 
 same-length-4 : tie.Need-same-length-4
-same-length-4 c = taken (c .before) .remove .kept .1 .1 .1 .1 .1 .0
+same-length-4 c = back c .remove .kept .1 .1 .1 .1 .1 .0
 
 same-length-5 : tie.Need-same-length-5
-same-length-5 c = taken (c .before) .remove .kept .1 .1 .1 .1 .1 .1 .0
+same-length-5 c = back c .remove .kept .1 .1 .1 .1 .1 .1 .0
 
 same-length-6 : tie.Need-same-length-6
-same-length-6 c = taken (c .before) .remove .kept .1 .1 .1 .1 .1 .1 .1 .0
+same-length-6 c = back c .remove .kept .1 .1 .1 .1 .1 .1 .1 .0
 
 same-length-7 : tie.Need-same-length-7
-same-length-7 c = laid (taken (c .before) .before) .stable-records .kept .1 .1 .1 .1 .1 .1 .1 .0
+same-length-7 c = laid (back c .before) .stable-records .kept .1 .1 .1 .1 .1 .1 .1 .0
 
 returns : tie.Need-returns
-unfolding view places
 returns c =
-    let removed = taken (c .before) .remove in
-    let given = laid (taken (c .before) .before) .stable-records in
-    let start = begin (laid (taken (c .before) .before)) in
-    let a = start .args in
-    work-stable-acts (a .state) (store start) (kept start) (a .area .now) _ (given .result .operator) (removed .result) _ (given .result .records)
-    (given .ensures .0) (removed .ensures .0) (removed .ensures .1) (given .ensures .1 .1) (given .ensures .1 .0)
+    let removed = back c .remove in
+    let given = laid (back c .before) .stable-records in
+    let s = begin (laid (back c .before)) in
+    work-stable-done (s .args .state) (store s) (kept s) (s .args .area .now) _ (given .result .operator) (removed .result) (left (back c))
+    (given .result .records) (given .ensures) (removed .ensures)
 
 pub work-stable-spec : {M : Type 1} → statement M
 work-stable-spec =
@@ -104,8 +118,8 @@ work-stable-spec =
     (tie.spec
     stable-records-requires
     remove-requires
-    add-t45
-    add-t46
+    add-next
+    add-next-2
     same-length
     same-length-2
     same-length-3

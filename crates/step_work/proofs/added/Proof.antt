@@ -1,8 +1,12 @@
--- `step_work::added` meets its contract: the places found are those of the bucket's readings, each can be worked, and a pass over them leaves the
--- operator with the bucket's readings in their order.
-use Prim.Native.Nat.{_≤_}
+-- `step_work::added` meets its contract: the places found are those of the bucket's readings, each can be worked, and a pass over them leaves
+-- the operator with the bucket's readings in their order.
+use Prim.Native.Nat.{_-_, _*_, _≤_}
+use mathlib.Core.Path.{_≡_}
 use native.Mathlib.Omega.{arith}
 use borrow.Author.Needs.{needs}
+use lib.ListN.{take}
+use Rattle.settings.specs.Limits.{maxLines}
+use Rattle.store.specs.Sizes.{readingsPerLine}
 use Rattle.store.specs.Columns.{Columns, columnsOf}
 use Rattle.node.proofs.Limits.{limits-hold}
 use Rattle.node.proofs.Shape.{state-facts, operator-within, StateShape}
@@ -10,8 +14,57 @@ use Rattle.step_work.proofs.BucketReadings.{counts-asked, found, found-
 use Rattle.step_work.proofs.added.Statement.{statement}
 use Rattle.step_work.proofs.added.Tie as tie
 
+-- ---- what is known where the function begins
+
+abbrev store : tie.Start → Columns
+store s =
+    columnsOf (s .args .ids .now) (s .args .times .now) (s .args .values .now) (s .args .arrivals .now) (s .args .kinds .now)
+    (s .args .meters .now)
+
+shape : (s : tie.Start) → StateShape (s .args .state) (store s)
+shape s = state-facts (s .args .state) (store s) (s .pre .1)
+
+few-lines : (s : tie.Start) → s .args .state .settings .lines ≤ maxLines
+few-lines s = limits-hold (s .args .state .settings) (shape s .limits) .lines
+
+-- ---- the places on the way: the lines' counts are told, the space is ready, the bucket's places are found, they are handed on
+
+abbrev begin : tie.After-kept-of → tie.Start
+begin c = c .before .before .before .before .before .before .before .before .before
+
+abbrev counted : tie.After-space → tie.After-kept-of
+counted c = c .before .before .before
+
+abbrev spaced : tie.After-bucket-places → tie.After-space
+spaced c = c .before .before .before
+
+abbrev chosen : tie.After-places2 → tie.After-bucket-places
+chosen c = c .before .before .before
+
+abbrev start : tie.After-bucket-places → tie.Start
+start c = begin (counted (spaced c))
+
+-- they are no more than the shares have places, and they are read back from the space
+few-places : (c : tie.After-bucket-places) → c .bucket-places .result ≤ maxLines * readingsPerLine
+few-places c =
+    let s = start c in
+    let kept = counted (spaced c) .kept-of in
+    count-few (s .args .state) (store s) (s .pre .0) (shape s) (s .args .j) (kept .result) (c .bucket-places .result) (kept .ensures)
+    (c .bucket-places .ensures .0)
+
+read-back :
+    (c : tie.After-bucket-places) → let s = start c in
+    take (c .bucket-places .result - 0) (c .bucket-places .last .1 .1 .1 .1 .0) ≡ found (s .args .state) (store s) (s .args .j)
+read-back c =
+    let s = start c in
+    let kept = counted (spaced c) .kept-of in
+    found-back (s .args .state) (store s) (s .pre .0) (shape s) (s .args .j) (kept .result) (c .bucket-places .result) (kept .ensures)
+    (c .bucket-places .ensures .0) _ (c .bucket-places .ensures .1)
+
+-- ---- the needs
+
 kept-of-requires : tie.Need-kept-of-requires
-kept-of-requires c κs = search needs
+kept-of-requires c κs = tt
 
 slice-aggregate-counts : tie.Need-slice-aggregate-counts
 slice-aggregate-counts c = search needs
@@ -29,20 +82,13 @@ part-bucket-places-start : tie.Need-part-bucket-places-start
 part-bucket-places-start c = search needs
 
 part-bucket-places-end : tie.Need-part-bucket-places-end
-part-bucket-places-end c =
-    let start = c .before .before .before .before .before .before .before .before .before .before .before .before in
-    let a = start .args in
-    let x : Columns = columnsOf (a .ids .now) (a .times .now) (a .values .now) (a .arrivals .now) (a .kinds .now) (a .meters .now) in
-    let few : a .state .settings .lines ≤ 8 = limits-hold (a .state .settings) (state-facts (a .state) x (start .pre .1) .limits) .lines in
-    search needs
+part-bucket-places-end c = let few = few-lines (begin (counted c)) in search needs
 
 bucket-places-requires : tie.Need-bucket-places-requires
 bucket-places-requires c κs =
-    let start = c .before .before .before .before .before .before .before .before .before .before .before .before .before .before in
-    let a = start .args in
-    let x : Columns = columnsOf (a .ids .now) (a .times .now) (a .values .now) (a .arrivals .now) (a .kinds .now) (a .meters .now) in
-    let kept = c .before .before .before .before .before .kept-of in
-    counts-asked (a .state) x (start .pre .0) (state-facts (a .state) x (start .pre .1)) (a .j) (kept .result) (kept .ensures)
+    let told = counted (c .before .before) in
+    let s = begin told in
+    counts-asked (s .args .state) (store s) (s .pre .0) (shape s) (s .args .j) (told .kept-of .result) (told .kept-of .ensures)
 
 sub-add-places : tie.Need-sub-add-places
 sub-add-places c = search needs
@@ -51,41 +97,23 @@ part-add-places-start : tie.Need-part-add-places-start
 part-add-places-start c = search needs
 
 part-add-places-end : tie.Need-part-add-places-end
-part-add-places-end c =
-    let start = c .before .before .before .before .before .before .before .before .before .before .before .before .before .before .before .before .before .before in
-    let a = start .args in
-    let x : Columns = columnsOf (a .ids .now) (a .times .now) (a .values .now) (a .arrivals .now) (a .kinds .now) (a .meters .now) in
-    let kept = c .before .before .before .before .before .before .before .before .before .kept-of in
-    let chosen = c .before .before .before .bucket-places in
-    let few = count-few (a .state) x (start .pre .0) (state-facts (a .state) x (start .pre .1)) (a .j) (kept .result) (chosen .result) (kept .ensures) (chosen .ensures .0) in
-    search needs
+part-add-places-end c = let few = few-places (chosen c) in search needs
 
 add-places-requires : tie.Need-add-places-requires
 add-places-requires c κs =
-    let start = c .before .before .before .before .before .before .before .before .before .before .before .before .before .before .before .before .before .before .before in
-    let a = start .args in
-    let x : Columns = columnsOf (a .ids .now) (a .times .now) (a .values .now) (a .arrivals .now) (a .kinds .now) (a .meters .now) in
-    let kept = c .before .before .before .before .before .before .before .before .before .before .kept-of in
-    let chosen = c .before .before .before .before .bucket-places in
-    let shape : StateShape (a .state) x = state-facts (a .state) x (start .pre .1) in
-    let few = found-few (a .state) x (start .pre .0) shape (a .j) in
-    rw (found-back (a .state) x (start .pre .0) shape (a .j) (kept .result) (chosen .result) (kept .ensures) (chosen .ensures .0) _ (chosen .ensures .1))
-    (omega arith, found-workable (a .state) x (start .pre .0) shape (a .j), operator-within (a .state) x (start .pre .1))
+    let at = chosen (c .before) in
+    let s = start at in
+    let few = found-few (s .args .state) (store s) (s .pre .0) (shape s) (s .args .j) in
+    rw (read-back at)
+    (omega (arith, few), found-workable (s .args .state) (store s) (s .pre .0) (shape s) (s .args .j), operator-within (s .args .state) (store s) (s .pre .1))
 
 returns : tie.Need-returns
 returns c =
-    let start = c .before .before .before .before .before .before .before .before .before .before .before .before .before .before .before .before .before .before .before .before .before in
-    let a = start .args in
-    let x : Columns = columnsOf (a .ids .now) (a .times .now) (a .values .now) (a .arrivals .now) (a .kinds .now) (a .meters .now) in
-    let kept = c .before .before .before .before .before .before .before .before .before .before .before .before .kept-of in
-    let chosen = c .before .before .before .before .before .before .bucket-places in
-    let shape : StateShape (a .state) x = state-facts (a .state) x (start .pre .1) in
-    let passed = c .before .add-places .ensures in (
-      found-passed (a .state) x (start .pre .0) shape (a .j)
-          (rw (found-back (a .state) x (start .pre .0) shape (a .j) (kept .result) (chosen .result) (kept .ensures) (chosen .ensures .0) _ (chosen .ensures .1)) at
-          (passed .0)),
-      passed .1,
-    )
+    let added = c .before in
+    let at = chosen (added .before .before) in
+    let s = start at in
+    let passed = added .add-places .ensures in
+    (found-passed (s .args .state) (store s) (s .pre .0) (shape s) (s .args .j) (rw (read-back at) at (passed .0)), passed .1)
 
 pub added-spec : {M : Type 1} → statement M
 added-spec =
