@@ -9,7 +9,28 @@ ghost use Rattle.playback_reply.specs.Reply.{longestReply};
 ghost use Rattle.playback_cursor.specs.Cut.{holdsLine, unread, allRead, replied, Ready, Lies, Fetched, Followed};
 ghost use Rattle.playback_cursor.specs.Step.{Advanced};
 
-// Writes all these bytes out; answers whether they were taken, as no bytes always are. A write that a signal interrupts is tried again.
+// Whether a read or a write that moved no byte is to be tried again: a signal interrupted it, or the other side is not ready, for which the
+// program waits and lets others run.
+fn may_try_again() -> bool {
+    let error = os::errno();
+    if error == libc::EAGAIN {
+        libc::sched_yield();
+        return true;
+    }
+    error == libc::EINTR
+}
+
+// Says on standard error that output is lost, and why.
+fn say_unwritten() {
+    os::fail(b"cannot write standard output");
+}
+
+// Says on standard error that no more input is read, and why.
+fn say_unread() {
+    os::fail(b"cannot read standard input");
+}
+
+// Writes all these bytes out; answers whether they were taken, as no bytes always are.
 fn write_out(bytes: &[u8]) -> bool
     ensures { λ r. ⌜ (not r ≡ true → 0 < length (now (bytes .entry))) ⌝ }
 {
@@ -23,7 +44,8 @@ fn write_out(bytes: &[u8]) -> bool
         let rest = &bytes[done..];
         let took = io::count(libc::write(1, rest), rest);
         if took == 0 {
-            if os::errno() != libc::EINTR {
+            if !may_try_again() {
+                say_unwritten();
                 return false;
             }
         }
@@ -32,8 +54,7 @@ fn write_out(bytes: &[u8]) -> bool
     true
 }
 
-// Reads once into this room; answers how many bytes came, 0 at the end of the input or where reading fails. A read that a signal interrupts
-// is tried again.
+// Reads once into this room; answers how many bytes came, 0 at the end of the input or where reading fails.
 fn read_in(room: &mut [u8]) -> usize
     ensures { λ r. ⌜ r ≤ length (now (room .entry)) ⌝ }
 {
@@ -47,7 +68,8 @@ fn read_in(room: &mut [u8]) -> usize
         if got == 0 {
             return 0;
         }
-        if os::errno() != libc::EINTR {
+        if !may_try_again() {
+            say_unread();
             return 0;
         }
         turns -= 1;

@@ -32,8 +32,11 @@ same-length-2 c = search needs
 returns-2 : tie.Need-returns-2 Inv-loop μ-loop
 returns-2 c = search needs
 
-errno-requires : tie.Need-errno-requires Inv-loop μ-loop
-errno-requires c κs = search needs
+may-try-again-requires : tie.Need-may-try-again-requires Inv-loop μ-loop
+may-try-again-requires c κs = search needs
+
+say-unread-requires : tie.Need-say-unread-requires Inv-loop μ-loop
+say-unread-requires c κs = search needs
 
 same-length-3 : tie.Need-same-length-3 Inv-loop μ-loop
 same-length-3 c = search needs
@@ -69,7 +72,8 @@ read-in-spec =
     returns
     same-length-2
     returns-2
-    errno-requires
+    may-try-again-requires
+    say-unread-requires
     same-length-3
     returns-3
     sub-turns

@@ -37,8 +37,11 @@ write-requires c κs = search needs
 count-requires : tie.Need-count-requires Inv-loop μ-loop
 count-requires c κs = search needs
 
-errno-requires : tie.Need-errno-requires Inv-loop μ-loop
-errno-requires c κs = search needs
+may-try-again-requires : tie.Need-may-try-again-requires Inv-loop μ-loop
+may-try-again-requires c κs = search needs
+
+say-unwritten-requires : tie.Need-say-unwritten-requires Inv-loop μ-loop
+say-unwritten-requires c κs = search needs
 
 returns-2 : tie.Need-returns-2 Inv-loop μ-loop
 returns-2 c = search needs
@@ -69,7 +72,8 @@ write-out-spec =
     part-rest-end
     write-requires
     count-requires
-    errno-requires
+    may-try-again-requires
+    say-unwritten-requires
     returns-2
     add-done
     loop-less
