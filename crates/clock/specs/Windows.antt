@@ -9,4 +9,4 @@ closesWindow window j = eqb ((j + 1) % window) 0
 
 -- the start of the window that bucket j closes
 unfoldable pub windowStart : ℕ → ℕ → ℕ → ℕ
-windowStart length window j = (j + 1 - window) * length
+windowStart bucket window j = (j + 1 - window) * bucket
