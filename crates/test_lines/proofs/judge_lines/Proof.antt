@@ -24,7 +24,7 @@ line c =
     let rest = take (length text - at) (drop at text) in
     let size : length rest ≡ length text - at = simp (length-take, length-drop) (omega arith) in
     let some = line-some rest (omega arith) in
-    omega (arith, ap length (c .before .next-line .ensures), line-within rest)
+    omega (arith, ap length (c .before .next-line .ensures .0), line-within rest)
 
 loop-holds : tie.Need-loop-holds Inv-loop μ-loop
 loop-holds c = search needs
