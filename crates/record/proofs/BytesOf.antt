@@ -42,9 +42,10 @@ fieldsOf-bytesOf r w =
 areBytes-word : (a : List ℕ) (width x : ℕ) → AreBytes a → AreBytes (a ++ littleEndian width x)
 areBytes-word a width x h = areBytes-append a (littleEndian width x) h (areBytes-littleEndian width x)
 
-pub areBytes-bytesOf : (r : Record) → Within r → AreBytes (bytesOf r)
+-- the words are bytes whatever they are made of
+pub areBytes-bytesOf : (r : Record) → r .kind < 2 ^ 8 → r .meter < 2 ^ 8 → AreBytes (bytesOf r)
 unfolding bytesOf
-areBytes-bytesOf r w =
+areBytes-bytesOf r kind meter =
     let tag = r .kind ∷ r .meter ∷ 0 ∷ 0 ∷ [] in
     let id = tag ++ littleEndian 4 (r .id) in
     let time = id ++ littleEndian 4 (r .time .0) in
@@ -57,8 +58,8 @@ areBytes-bytesOf r w =
     (areBytes-word time 4 (r .count) (areBytes-word id 4 (r .time .0) (areBytes-word tag 4 (r .id) bytes)))))
   where
     bytes : AreBytes (r .kind ∷ r .meter ∷ 0 ∷ 0 ∷ [])
-    bytes zero = w .kind
-    bytes (suc zero) = w .meter
+    bytes zero = kind
+    bytes (suc zero) = meter
     bytes (suc (suc zero)) = omega arith
     bytes (suc (suc (suc zero))) = omega arith
     bytes (suc (suc (suc (suc i)))) = omega arith

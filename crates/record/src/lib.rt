@@ -9,7 +9,7 @@ ghost use Rattle.record.specs.Kinds.{isStable, isTentative, isResult, is
 ghost use Rattle.record.specs.Layout.{bytesOf};
 ghost use Rattle.record.specs.Markers.{marker};
 ghost use Rattle.record.specs.Fields.{fieldsOf};
-ghost use Rattle.record.specs.Decoded.{isWellFormed, decoded};
+ghost use Rattle.record.specs.Decoded.{isWellFormed, decoded, ExactRecord};
 use clock::ReadingTime;
 
 // Bytes of one record.
@@ -143,9 +143,10 @@ pub fn fields_of(bytes: &[u8]) -> Record
     }
 }
 
-// The record that these bytes are, or that they are none.
+// The record that these bytes are, or refusal 6.
 pub fn decode(bytes: &[u8]) -> Decoded
     ensures { λ r. ⌜ r ≡ decoded (now (bytes .entry)) ⌝ }
+    ensures { λ r. ⌜ ExactRecord (now (bytes .entry)) r ⌝ }
 {
     if is_well_formed(bytes) {
         Decoded::Is(fields_of(bytes))
