@@ -15,8 +15,8 @@ pub extern "C" fn beanmorrow_is_journal_line(line: &[u8]) -> bool
     journal::has_form(line)
 }
 
-// Writes the text of the record that these bytes are into the area, and its length into `written`: 0, or 6 for bytes that are no record, then 5
-// for an area shorter than this text; at both the length is 0 and the area stays as it is.
+// Writes the text of the record that these bytes are into the area, and its length into `written`: 0, or 6 for bytes that are no record,
+// then 5 for an area shorter than this text; at both the length is 0 and the area stays as it is.
 #[no_mangle]
 pub extern "C" fn beanmorrow_record_text(bytes: &[u8], text: &mut [u8], written: &mut usize) -> u32
     ensures { λ r. ⌜ r ≡ textAnswer (decoded (now (bytes .entry))) (now (text .entry)) ⌝ }

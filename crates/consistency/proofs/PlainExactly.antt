@@ -27,7 +27,7 @@ use Rattle.consistency.specs.Runs.{Box, Input, called, left, leftAfter}
 use Rattle.consistency.specs.Demand.{Handed, opening, isOpened, boxOf, remaining, Steps}
 use Rattle.consistency.specs.Plain.{Run, settingsOn, runOf, onlySteps, acceptedOf, leftOn}
 use Rattle.consistency.specs.Exactly.{leftIn, stepsFrom, Exactly}
-use Rattle.consistency.specs.PlainExactly.{stepsIn, stateAfter, leastOf, leftBy, PlainExactly}
+use Rattle.consistency.specs.PlainExactly.{stepsIn, stateAfter, lowestOf, leftBy, PlainExactly}
 use Rattle.consistency.proofs.Refused.{same-box}
 use Rattle.consistency.proofs.Displays.{acknowledgement-aside, fetched-same}
 use Rattle.consistency.proofs.Plain.{boxOn, steps-are, handedOf, opened-left, opened-remaining}
@@ -120,8 +120,8 @@ module _ (k n needed : ℕ) (phase : Phase) where
 
 least-view :
     (n : ℕ) (hs : List LineHead) (rs : List Reading) →
-    leastBoundaryOf (viewLines n hs rs) ≡ leastOf (map (λ (h : LineHead). h .boundary .0) (take n hs))
-unfolding viewLines viewLine leastBoundaryOf leastOf
+    leastBoundaryOf (viewLines n hs rs) ≡ lowestOf (map (λ (h : LineHead). h .boundary .0) (take n hs))
+unfolding viewLines viewLine leastBoundaryOf lowestOf
 least-view zero hs rs = refl
 least-view (suc n) [] rs = refl
 least-view (suc zero) (h ∷ hs) rs = refl

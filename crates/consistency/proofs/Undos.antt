@@ -7,6 +7,8 @@ use mathlib.Core.List.{List, [], _∷_, _++_, map, map-append}
 use lib.Dec.{leb, eqb}
 use Rattle.journal.specs.Kinds.{letterU, letterR}
 use Rattle.record.specs.declared.Record.{Record}
+use Rattle.record.specs.declared.Decoded.the-variants as Decoded
+use Rattle.record.specs.Decoded.{decoded}
 use Rattle.record.specs.Kinds.{isResult, isStable, isTentative}
 use Rattle.record.specs.Layout.{bytesOf}
 use Rattle.store.specs.Lists.{Every, keep}
@@ -17,9 +19,12 @@ use Rattle.protocol.specs.Demand.{itself}
 use Rattle.consistency.specs.Runs.{readAs, recordIn}
 use Rattle.node.proofs.Records.{Decodes}
 
-recordIn-bytesOf : (r : Record) → Decodes r → recordIn (bytesOf r) ≡ r
+pub recordIn-bytesOf : (r : Record) → Decodes r → recordIn (bytesOf r) ≡ r
 unfolding recordIn readAs
 recordIn-bytesOf r d = ap readAs d
+
+pub is-record : (r : Record) → Decodes r → decoded (bytesOf r) ≡ Decoded.Is (recordIn (bytesOf r))
+is-record r d = d ∙ ap Decoded.Is (sym (recordIn-bytesOf r d))
 
 pub records-read : (rs : List Record) → Every Decodes rs → map recordIn (map bytesOf rs) ≡ rs
 records-read [] h = refl

@@ -18,13 +18,13 @@ use Rattle.consistency.specs.Demand.{Handed, isOpened, boxOf, settingsIn, accou
 use Rattle.consistency.specs.Balance.{Heat, plus, heatOf, ofReading, ofMeter, ofResult, countsFor, paysFor}
 use Rattle.consistency.specs.Balance.{sentHeat, paidHeat, openHeat, keptHeat}
 use Rattle.consistency.proofs.Balance.{balance}
-use Rattle.consistency_examples.specs.Given.{bytesIn, storeOf, lentOf, call}
+use Rattle.consistency_examples.specs.Given.{bytesIn, storeOf, lentFilled, call}
 use Rattle.consistency_examples.specs.Balanced.{handed, before, refused, fetches, step, calls, box, heat, Balanced}
 use Rattle.consistency_examples.proofs.Surely.{surely, ran, box-is, account-is, output-is, call-is}
 use Rattle.consistency_examples.proofs.Computed.{heatFrom}
 
 opened : isOpened handed
-unfolding bytesIn storeOf lentOf handed isOpened heatFrom
+unfolding bytesIn storeOf lentFilled handed isOpened heatFrom
 opened = refl
 
 -- ---- what is said of a call, the account, the output and the box, said of what is computed
@@ -60,7 +60,7 @@ abbrev anyResult : List (List ℕ) → Heat
 anyResult bytes = heatOf ofResult (keep (λ (r : Record). eqb (r .meter) 3) (map recordIn bytes))
 
 pub balanced : Balanced
-unfolding bytesIn storeOf lentOf call handed before refused fetches step calls heat sentHeat paidHeat heatFrom
+unfolding bytesIn storeOf lentFilled call handed before refused fetches step calls heat sentHeat paidHeat heatFrom
 balanced =
     record {
       opened = opened;

@@ -10,8 +10,7 @@ use Rattle.signed.specs.Mean.{mean}
 use Rattle.signed.specs.Nearest.{nearest}
 use Rattle.signed.specs.Twos.{twos, signedOf}
 use Rattle.endian.specs.LittleEndian.{littleEndian, numberOf}
-use Rattle.decimal.specs.Spelled as Spelled
-use Rattle.decimal.specs.Spelled.{isDigit, runLength, runValue, misspelled, numberAt, negated, integerAt}
+use Rattle.decimal.specs.Spelled.{isDigit, runLength, runValue, misspelled, numberAt, negated, asInteger, integerAt}
 use Rattle.fields.specs.Field.{startsWith, endsLine, numberField, integerField, withNumber, withInteger}
 use Rattle.settings.specs.declared.Settings.{Settings}
 use Rattle.settings.specs.declared.SettingsRead.{SettingsRead}
@@ -67,11 +66,11 @@ use Rattle.consistency_examples.proofs.Surely.{itself, surely, noted, g
 
 -- texts
 unfoldable pub settingsRead : List ℕ → SettingsRead
-unfolding settingsOf judged limited settingsAt withinLimits startsWith endsLine numberField integerField withNumber withInteger isDigit runLength runValue misspelled numberAt negated integerAt Spelled.asInteger
+unfolding settingsOf judged limited settingsAt withinLimits startsWith endsLine numberField integerField withNumber withInteger isDigit runLength runValue misspelled numberAt negated integerAt asInteger
 settingsRead text = settingsOf text
 
 unfoldable pub callRead : List ℕ → CallRead
-unfolding callOf whole callAt letterAt letterField isLetter startsWith endsLine numberField integerField withNumber withInteger isDigit runLength runValue misspelled numberAt negated integerAt Spelled.asInteger
+unfolding callOf whole callAt letterAt letterField isLetter startsWith endsLine numberField integerField withNumber withInteger isDigit runLength runValue misspelled numberAt negated integerAt asInteger
 callRead text = callOf text
 
 -- a call on the node

@@ -11,7 +11,7 @@ use Rattle.consistency.specs.Runs.{Box, Input, called, left, leftAfter}
 use Rattle.consistency.specs.Demand.{boxOf, remaining, Steps}
 use Rattle.consistency.specs.Exactly.{leftIn, stepsFrom}
 use Rattle.consistency.proofs.Exactly.{exactly}
-use Rattle.consistency_examples.specs.Given.{bytesIn, storeOf, lentOf, settingsLine, handed, call, readings, step, late}
+use Rattle.consistency_examples.specs.Given.{bytesIn, storeOf, lentFilled, settingsLine, handed, call, readings, step, late}
 use Rattle.consistency_examples.specs.Given.{fetches, acknowledges}
 use Rattle.consistency_examples.specs.Counted.{listed, made, Counted}
 use Rattle.consistency_examples.proofs.Surely.{ran, box-is}
@@ -26,7 +26,7 @@ two-steps =
     (one-step passed 0 (fetches ∷ acknowledges ∷ []) second-answer (aside 0 [] (Steps.rest {b = shown}))))
 
 made-answer : called made step .answer ≡ 0
-unfolding bytesIn storeOf lentOf settingsLine handed call step made leftFrom
+unfolding bytesIn storeOf lentFilled settingsLine handed call step made leftFrom
 made-answer = refl
 
 made-step : Steps made 1 (step ∷ [])
@@ -39,7 +39,7 @@ module _ {A : Type 0} (f : Box → A) (is : List Input) (v : A) where
   of-listed e = ap f (box-is handed opened is) ∙ e
 
 pub counted : Counted
-unfolding bytesIn storeOf lentOf settingsLine handed call readings step listed made leftFrom
+unfolding bytesIn storeOf lentFilled settingsLine handed call readings step listed made leftFrom
 counted =
     record {
       stable0 = refl;

@@ -7,6 +7,8 @@ use mathlib.Core.List.{List, [], _∷_, _++_, map}
 use native.Mathlib.Omega.{arith}
 use lib.IntN.{pos}
 use lib.ListN.{replicate}
+use Rattle.signed.specs.Twos.{twos}
+use Rattle.endian.specs.LittleEndian.{littleEndian}
 use Rattle.settings.specs.declared.Settings.{Settings}
 use Rattle.journal.specs.declared.Call.{Call}
 use Rattle.journal.specs.declared.CallRead.the-variants as CallRead
@@ -19,12 +21,13 @@ use Rattle.protocol.specs.Undos.{stableRecords, doneDue}
 use Rattle.node.specs.Calls.{Called}
 use Rattle.consistency.specs.Runs.{Box, Input, called, left, leftAfter, recordIn}
 use Rattle.consistency.specs.Accounts.{Account, sentIn, boundariesIn}
-use Rattle.consistency.specs.Demand.{isOpened, boxOf, settingsIn, accountOf, outputOf, failureFreeBytes, remaining, Clean, Steps, Unchanged}
+use Rattle.consistency.specs.Demand.{isOpened, boxOf, settingsIn, accountOf, outputOf, failureFreeRecords, failureFreeBytes}
+use Rattle.consistency.specs.Demand.{remaining, Clean, Steps, Unchanged}
 use Rattle.consistency.proofs.Theorem.{demand3}
 use Rattle.protocol_examples.specs.Given.{settings}
-use Rattle.consistency_examples.specs.Given.{bytesIn, storeOf, lentOf, settingsLine, arrived, observed, handed, call, readings, step, late}
+use Rattle.consistency_examples.specs.Given.{bytesIn, storeOf, lentFilled, settingsLine, arrived, observed, handed, call, readings, step, late}
 use Rattle.consistency_examples.specs.Given.{fetches, acknowledges, accountShown}
-use Rattle.consistency_examples.specs.Given.{tentative, undo, stable, boundary, corrected, accountBefore, accountBehind}
+use Rattle.consistency_examples.specs.Given.{tentative, undo, stable, boundary, corrected, counting, accountBefore, accountBehind}
 use Rattle.consistency_examples.specs.Given.{twin, twinCall, twinCalls, twinAccount}
 use Rattle.consistency_examples.specs.Listing.{Listing}
 use Rattle.consistency_examples.proofs.Surely.{surely, ran, account-is, output-is, call-is}
@@ -41,56 +44,56 @@ twelve e = omega (arith, e)
 -- ---- the openings, the accounts and the outputs
 
 pub opened : isOpened handed
-unfolding bytesIn storeOf lentOf settingsLine handed ranFrom isOpened
+unfolding bytesIn storeOf lentFilled settingsLine handed ranFrom isOpened
 opened = refl
 
 opens-with : settingsIn handed ≡ settings
-unfolding bytesIn storeOf lentOf settingsLine settings handed ranFrom
+unfolding bytesIn storeOf lentFilled settingsLine settings handed ranFrom
 opens-with = refl
 
 before-ran : ran handed readings .account ≡ accountBefore
-unfolding bytesIn storeOf lentOf settingsLine handed call readings arrived observed accountBefore ranFrom
+unfolding bytesIn storeOf lentFilled settingsLine handed call readings arrived observed accountBefore ranFrom
 before-ran = refl
 
 before-is : accountOf handed readings ≡ accountBefore
 before-is = account-is handed opened readings ∙ before-ran
 
 behind-ran : ran handed (readings ++ step ∷ step ∷ []) .account ≡ accountBehind
-unfolding bytesIn storeOf lentOf settingsLine handed call readings step arrived observed accountBehind ranFrom
+unfolding bytesIn storeOf lentFilled settingsLine handed call readings step arrived observed accountBehind ranFrom
 behind-ran = refl
 
 behind-is : accountOf handed (readings ++ step ∷ step ∷ []) ≡ accountBehind
 behind-is = account-is handed opened (readings ++ step ∷ step ∷ []) ∙ behind-ran
 
 twin-opened : isOpened twin
-unfolding bytesIn storeOf lentOf settingsLine twin ranFrom isOpened
+unfolding bytesIn storeOf lentFilled settingsLine twin ranFrom isOpened
 twin-opened = refl
 
 twin-opens-with : settingsIn twin ≡ settings
-unfolding bytesIn storeOf lentOf settingsLine settings twin ranFrom
+unfolding bytesIn storeOf lentFilled settingsLine settings twin ranFrom
 twin-opens-with = refl
 
 twin-ran : ran twin twinCalls .account ≡ twinAccount
-unfolding bytesIn storeOf lentOf settingsLine twin twinCall twinCalls arrived observed twinAccount ranFrom
+unfolding bytesIn storeOf lentFilled settingsLine twin twinCall twinCalls arrived observed twinAccount ranFrom
 twin-ran = refl
 
 twin-is : accountOf twin twinCalls ≡ twinAccount
 twin-is = account-is twin twin-opened twinCalls ∙ twin-ran
 
 first-bytes : ran handed readings .bytes ≡ tentative ∷ []
-unfolding bytesIn storeOf lentOf settingsLine handed call readings tentative ranFrom
+unfolding bytesIn storeOf lentFilled settingsLine handed call readings tentative ranFrom
 first-bytes = refl
 
 next-bytes : ran handed (readings ++ step ∷ step ∷ []) .bytes ≡ tentative ∷ undo ∷ stable ∷ boundary ∷ []
-unfolding bytesIn storeOf lentOf settingsLine handed call readings step tentative undo stable boundary ranFrom
+unfolding bytesIn storeOf lentFilled settingsLine handed call readings step tentative undo stable boundary ranFrom
 next-bytes = refl
 
 all-bytes : ran handed (readings ++ step ∷ step ∷ step ∷ step ∷ []) .bytes ≡ tentative ∷ undo ∷ stable ∷ boundary ∷ corrected ∷ []
-unfolding bytesIn storeOf lentOf settingsLine handed call readings step tentative undo stable boundary corrected ranFrom
+unfolding bytesIn storeOf lentFilled settingsLine handed call readings step tentative undo stable boundary corrected ranFrom
 all-bytes = refl
 
 twin-bytes : ran twin twinCalls .bytes ≡ stable ∷ boundary ∷ []
-unfolding bytesIn storeOf lentOf settingsLine twin twinCall twinCalls stable boundary ranFrom
+unfolding bytesIn storeOf lentFilled settingsLine twin twinCall twinCalls stable boundary ranFrom
 twin-bytes = refl
 
 pub one-left : remaining handed readings ≡ 1
@@ -126,7 +129,7 @@ unfolding kindOf
 is-step = refl
 
 first-ran : surely (ran handed (readings ++ []) .box) step .answer ≡ 0
-unfolding bytesIn storeOf lentOf settingsLine handed call readings step late fetches acknowledges ranFrom
+unfolding bytesIn storeOf lentFilled settingsLine handed call readings step late fetches acknowledges ranFrom
 first-ran = refl
 
 pub first-answer : called before step .answer ≡ 0
@@ -134,7 +137,7 @@ unfolding leftAfter
 first-answer = ap (λ (r : Called). r .answer) (call-is handed opened readings ([]) step) ∙ first-ran
 
 late-ran : surely (ran handed (readings ++ step ∷ []) .box) late .answer ≡ 12
-unfolding bytesIn storeOf lentOf settingsLine handed call readings step late fetches acknowledges ranFrom
+unfolding bytesIn storeOf lentFilled settingsLine handed call readings step late fetches acknowledges ranFrom
 late-ran = refl
 
 pub late-answer : called first late .answer ≡ 12
@@ -142,7 +145,7 @@ unfolding leftAfter
 late-answer = ap (λ (r : Called). r .answer) (call-is handed opened readings (step ∷ []) late) ∙ late-ran
 
 second-ran : surely (ran handed (readings ++ step ∷ late ∷ []) .box) step .answer ≡ 0
-unfolding bytesIn storeOf lentOf settingsLine handed call readings step late fetches acknowledges ranFrom
+unfolding bytesIn storeOf lentFilled settingsLine handed call readings step late fetches acknowledges ranFrom
 second-ran = refl
 
 pub second-answer : called passed step .answer ≡ 0
@@ -150,7 +153,7 @@ unfolding leftAfter
 second-answer = ap (λ (r : Called). r .answer) (call-is handed opened readings (step ∷ late ∷ []) step) ∙ second-ran
 
 third-ran : surely (ran handed (readings ++ step ∷ late ∷ step ∷ fetches ∷ acknowledges ∷ []) .box) step .answer ≡ 0
-unfolding bytesIn storeOf lentOf settingsLine handed call readings step late fetches acknowledges ranFrom
+unfolding bytesIn storeOf lentFilled settingsLine handed call readings step late fetches acknowledges ranFrom
 third-ran = refl
 
 third-answer : called shown step .answer ≡ 0
@@ -181,7 +184,7 @@ enough-steps =
 -- ---- the refused call, and the display's calls
 
 too-late-ran : surely (ran handed (readings ++ []) .box) late .answer ≡ 12
-unfolding bytesIn storeOf lentOf settingsLine handed call readings late ranFrom
+unfolding bytesIn storeOf lentFilled settingsLine handed call readings late ranFrom
 too-late-ran = refl
 
 too-late : called before late .answer ≡ 12
@@ -189,7 +192,7 @@ unfolding leftAfter
 too-late = ap (λ (r : Called). r .answer) (call-is handed opened readings [] late) ∙ too-late-ran
 
 fetch-ran : surely (ran handed ((readings ++ step ∷ step ∷ []) ++ []) .box) fetches .records ≡ 1
-unfolding bytesIn storeOf lentOf settingsLine handed call readings step fetches ranFrom
+unfolding bytesIn storeOf lentFilled settingsLine handed call readings step fetches ranFrom
 fetch-ran = refl
 
 fetch-gives : called (leftAfter (boxOf handed) (readings ++ step ∷ step ∷ [])) fetches .records ≡ 1
@@ -197,23 +200,35 @@ unfolding leftAfter
 fetch-gives = ap (λ (r : Called). r .records) (call-is handed opened (readings ++ step ∷ step ∷ []) [] fetches) ∙ fetch-ran
 
 shown-ran : ran handed (readings ++ step ∷ step ∷ fetches ∷ acknowledges ∷ []) .account ≡ accountShown
-unfolding bytesIn storeOf lentOf settingsLine handed call readings step fetches acknowledges ranFrom arrived observed accountBehind accountShown
+unfolding bytesIn storeOf lentFilled settingsLine handed call readings step fetches acknowledges ranFrom arrived observed accountBehind accountShown
 shown-ran = refl
 
 shown-bytes :
     ran handed (readings ++ step ∷ step ∷ fetches ∷ acknowledges ∷ step ∷ []) .bytes ≡ tentative ∷ undo ∷ stable ∷ boundary ∷ corrected ∷ []
-unfolding bytesIn storeOf lentOf settingsLine handed call readings step fetches acknowledges tentative undo stable boundary corrected ranFrom
+unfolding bytesIn storeOf lentFilled settingsLine handed call readings step fetches acknowledges tentative undo stable boundary corrected ranFrom
 shown-bytes = refl
 
 -- ---- whole
 
 none-owed : failureFreeBytes handed readings ≡ []
-unfolding failureFreeBytes failureFree accountBefore
+unfolding failureFreeRecords failureFreeBytes failureFree accountBefore
 none-owed = ap₂ (λ (s : Settings) (a : Account). map bytesOf (failureFree s (a .stables) (a .monitor .d) .records)) opens-with before-is
 
+one-record : failureFreeRecords handed (readings ++ step ∷ step ∷ []) ≡ counting 2 ∷ []
+unfolding failureFreeRecords failureFree settings arrived accountBehind counting ranFrom
+one-record = ap₂ (λ (s : Settings) (a : Account). failureFree s (a .stables) (a .monitor .d) .records) opens-with behind-is
+
 one-owed : failureFreeBytes handed (readings ++ step ∷ step ∷ []) ≡ stable ∷ []
-unfolding failureFreeBytes failureFree settings arrived accountBehind stable ranFrom
-one-owed = ap₂ (λ (s : Settings) (a : Account). map bytesOf (failureFree s (a .stables) (a .monitor .d) .records)) opens-with behind-is
+unfolding failureFreeBytes counting bytesOf littleEndian twos stable
+one-owed = ap (map bytesOf) one-record
+
+read-back : recordIn (bytesOf (counting 2)) ≡ counting 2
+unfolding counting bytesOf littleEndian twos readFrom
+read-back = refl
+
+cut-to-0 : recordIn (bytesOf (counting 4294967296)) ≡ counting 0
+unfolding counting bytesOf littleEndian twos readFrom
+cut-to-0 = refl
 
 none-left : remaining handed (readings ++ step ∷ step ∷ []) ≡ 0
 unfolding remaining leftToWork stableBuckets leastBoundary settings observed accountBehind
@@ -231,11 +246,11 @@ twin-sent-is : sentIn twinAccount ≡ arrived 0 0
 unfolding sentIn withoutArrival arrived twinAccount
 twin-sent-is = refl
 
-boundaries-are : boundariesIn accountBehind ≡ 100 ∷ 100 ∷ []
+boundaries-are : boundariesIn accountBehind ≡ record { 0 = 100 } ∷ record { 0 = 100 } ∷ []
 unfolding boundariesIn observed accountBehind
 boundaries-are = refl
 
-twin-boundaries-are : boundariesIn twinAccount ≡ 100 ∷ 100 ∷ []
+twin-boundaries-are : boundariesIn twinAccount ≡ record { 0 = 100 } ∷ record { 0 = 100 } ∷ []
 unfolding boundariesIn observed twinAccount
 twin-boundaries-are = refl
 
@@ -260,12 +275,17 @@ listing =
       isTentativeNow = refl;
       dueAgain = refl;
       notEvery = λ every. false≢true (every .1 .0);
+      records = (refl, (refl, (refl, (refl, (refl, tt)))));
+      zeros = refl;
       before = before-is;
       behind = behind-is;
       oneLeft = one-left;
       noneOwed = none-owed;
       noneLeft = none-left;
       oneOwed = one-owed;
+      owedRecord = one-record;
+      uncut = read-back;
+      cut = cut-to-0;
       lateAnswer = too-late;
       fetchGives = fetch-gives;
       shown = account-is handed opened (readings ++ step ∷ step ∷ fetches ∷ acknowledges ∷ []) ∙ shown-ran;

@@ -14,8 +14,8 @@ use Rattle.node.specs.declared.State.{State}
 use Rattle.node.specs.Calls.{Called}
 use Rattle.consistency.specs.Runs.{Box, Input, leftAfter}
 use Rattle.consistency.specs.Accounts.{Account}
-use Rattle.consistency.specs.Demand.{isOpened, settingsIn, accountOf, failureFreeBytes}
-use Rattle.consistency.specs.SentBack.{lastIn, leastIn, newestIn, placeIn, Stored, Fetched, Quiet, IsStep, LacksPlaces, boxAfter}
+use Rattle.consistency.specs.Demand.{isOpened, settingsIn, accountOf, failureFreeRecords, failureFreeBytes}
+use Rattle.consistency.specs.SentBack.{lastIn, leastIn, newestIn, placeIn, Stored, FetchedFrom, Quiet, IsStep, LacksPlaces, boxAfter}
 use Rattle.consistency.proofs.SentBack.{sentBack}
 use Rattle.consistency_examples.specs.Given.{bytesIn, storeOf, call}
 use Rattle.consistency_examples.specs.SentBack.{handed, worked, first, second, third, acknowledges, fetches, two, one, late, then, sent}
@@ -90,7 +90,7 @@ unfolding bytesIn storeOf call handed worked acknowledges two one leastIn ranFro
 least-then = of-account one (λ (a : Account). leastOf (a .acknowledged)) 1 refl
 
 newest-then : newestIn handed one ≡ 3
-unfolding bytesIn storeOf call handed worked acknowledges two one newestIn failureFreeBytes failureFree ranFrom
+unfolding bytesIn storeOf call handed worked acknowledges two one newestIn failureFreeRecords failureFreeBytes failureFree ranFrom
 newest-then = of-account one (λ (a : Account). length (free a)) 3 refl
 
 -- what is not right
@@ -106,14 +106,14 @@ not-stored t =
     omega (arith, same)
 
 three-there : failureFreeBytes handed two ≡ first ∷ second ∷ third ∷ []
-unfolding bytesIn storeOf call handed worked first second third acknowledges two failureFreeBytes failureFree ranFrom
+unfolding bytesIn storeOf call handed worked first second third acknowledges two failureFreeRecords failureFreeBytes failureFree ranFrom
 three-there = of-account two free (first ∷ second ∷ third ∷ []) refl
 
 three-given : pieces (then two (fetches 1 1) .records) (then two (fetches 1 1) .area) ≡ first ∷ second ∷ third ∷ []
 unfolding bytesIn storeOf call handed worked first second third acknowledges fetches two ranFrom
 three-given = of-call two (λ (r : Called). pieces (r .records) (r .area)) (fetches 1 1) (first ∷ second ∷ third ∷ []) refl
 
-not-fetched : Fetched handed two 2 (replicate 2080 9) (then two (fetches 1 1)) → ⊥
+not-fetched : FetchedFrom handed two 2 (replicate 2080 9) (then two (fetches 1 1)) → ⊥
 not-fetched f =
     let same : _≡_ {A = ℕ} 3 2 =
     ap length (sym three-given ∙ f .records ∙ ap (λ (bs : List (List ℕ)). take 64 (drop 1 bs)) three-there) in
@@ -133,7 +133,7 @@ not-quiet q =
     omega (arith, same, clock-moved, clock-before)
 
 pub resent : Resent
-unfolding bytesIn storeOf call handed worked first second third acknowledges fetches two one newestIn lastIn leastIn failureFreeBytes failureFree placeIn ranFrom
+unfolding bytesIn storeOf call handed worked first second third acknowledges fetches two one newestIn lastIn leastIn failureFreeRecords failureFreeBytes failureFree placeIn ranFrom
 resent =
     record {
       opened = opened;

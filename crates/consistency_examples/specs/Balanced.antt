@@ -17,13 +17,13 @@ use Rattle.node.specs.Opening.{closedState}
 use Rattle.consistency.specs.Runs.{Box, Input, called, leftAfter, recordIn}
 use Rattle.consistency.specs.Demand.{Handed, isOpened, boxOf, settingsIn, outputOf}
 use Rattle.consistency.specs.Balance.{Heat, plus, heatOf, ofReading, ofMeter, ofResult, countsFor, sentHeat, paidHeat, openHeat, keptHeat}
-use Rattle.consistency_examples.specs.Given.{bytesIn, lentOf, call}
+use Rattle.consistency_examples.specs.Given.{bytesIn, lentFilled, call}
 
 unfoldable pub handed : Handed
 handed =
     record {
       state = closedState;
-      lent = lentOf 512 16384 0;
+      lent = lentFilled 512 16384 0;
       text = bytesIn "lines=2 bucket=100 window=2 hold=50 low=-1000 high=1000 displays=1\n";
     }
 

@@ -9,6 +9,7 @@ use mathlib.Core.Bool.{true, false}
 use mathlib.Core.List.{List, [], _∷_, _++_}
 use lib.IntN.{pos, negℤ}
 use lib.ListN.{replicate}
+use Rattle.record.specs.declared.Record.{Record}
 use Rattle.store.specs.declared.Reading.{Reading}
 use Rattle.store.specs.Columns.{Columns}
 use Rattle.protocol.specs.Monitor.{LineMonitor}
@@ -36,8 +37,8 @@ storeOf places n =
     }
 
 -- what is lent to a box: that store, and a send-back store of so many bytes, the same number in all of them
-unfoldable pub lentOf : ℕ → ℕ → ℕ → Lent
-lentOf places bytes n = record { readings = storeOf places n; sent = replicate bytes n }
+unfoldable pub lentFilled : ℕ → ℕ → ℕ → Lent
+lentFilled places bytes n = record { readings = storeOf places n; sent = replicate bytes n }
 
 unfoldable pub settingsLine : List ℕ
 settingsLine = bytesIn "lines=2 bucket=100 window=1 hold=50 low=-1000 high=1000 displays=1\n"
@@ -51,13 +52,13 @@ arrived a b =
 -- and what the monitor then knows of the lines, their boundaries being 100
 unfoldable pub observed : ℕ → ℕ → List LineMonitor
 observed a b =
-    record { boundary = 100; entries = record { id = 1; time = 10; arrival = a } ∷ [] } ∷
-    record { boundary = 100; entries = record { id = 1; time = 99; arrival = b } ∷ [] } ∷ []
+    record { boundary = record { 0 = 100 }; entries = record { id = 1; time = record { 0 = 10 }; arrival = record { 0 = a } } ∷ [] } ∷
+    record { boundary = record { 0 = 100 }; entries = record { id = 1; time = record { 0 = 99 }; arrival = record { 0 = b } } ∷ [] } ∷ []
 
 -- ---- the listing
 
 unfoldable pub handed : Handed
-handed = record { state = closedState; lent = lentOf 512 16384 0; text = settingsLine }
+handed = record { state = closedState; lent = lentFilled 512 16384 0; text = settingsLine }
 
 unfoldable pub call : String → Input
 call s = Input.journal (bytesIn s) (replicate 2080 0)
@@ -107,6 +108,20 @@ boundary = 66 ∷ 0 ∷ 0 ∷ 0 ∷ 0 ∷ 0 ∷ 0 ∷ 0 ∷ 100 ∷ replicate 23
 unfoldable pub corrected : List ℕ
 corrected = 82 ∷ replicate 31 0
 
+-- the stable result as a record, if it were of so many readings
+unfoldable pub counting : ℕ → Record
+counting n =
+    record {
+      sum = pos 5;
+      id = 1;
+      time = record { 0 = 0 };
+      count = n;
+      mean = pos 2;
+      last = negℤ (pos 2);
+      kind = 83;
+      meter = 3;
+    }
+
 -- its account before the corrections, and behind the stable result; behind the display's calls
 unfoldable pub accountBefore : Account
 accountBefore =
@@ -122,7 +137,7 @@ accountShown = record { monitor = accountBehind .monitor; stables = accountBehin
 -- ---- the twin
 
 unfoldable pub twin : Handed
-twin = record { state = leftAfter (boxOf handed) readings .state; lent = lentOf 600 17000 9; text = settingsLine }
+twin = record { state = leftAfter (boxOf handed) readings .state; lent = lentFilled 600 17000 9; text = settingsLine }
 
 unfoldable pub twinCall : String → Input
 twinCall s = Input.journal (bytesIn s) (replicate 2112 255)

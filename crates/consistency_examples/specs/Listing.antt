@@ -5,15 +5,21 @@ use Prim.Native.Nat.{ℕ, _+_}
 use mathlib.Core.Path.{_≡_}
 use mathlib.Core.Bool.{true, false}
 use mathlib.Core.List.{List, [], _∷_, _++_}
+use lib.ListN.{replicate}
+use Rattle.record.specs.declared.Decoded.the-variants as Decoded
+use Rattle.record.specs.Layout.{bytesOf}
+use Rattle.record.specs.Decoded.{decoded}
 use Rattle.record.specs.Kinds.{isTentative}
 use Rattle.store.specs.Lists.{Every}
 use Rattle.protocol.specs.Undos.{applied, struck, stableRecords, doneDue}
 use Rattle.consistency.specs.Runs.{called, leftAfter, recordIn}
 use Rattle.consistency.specs.Accounts.{sentIn, boundariesIn}
-use Rattle.consistency.specs.Demand.{isOpened, boxOf, settingsIn, accountOf, outputOf, failureFreeBytes, remaining, Steps}
+use Rattle.consistency.specs.Demand.{isOpened, boxOf, settingsIn, accountOf, outputOf, failureFreeRecords, failureFreeBytes}
+use Rattle.consistency.specs.Demand.{remaining, Steps}
 use Rattle.protocol_examples.specs.Given.{settings}
 use Rattle.consistency_examples.specs.Given.{arrived, handed, readings, step, late, fetches, acknowledges}
-use Rattle.consistency_examples.specs.Given.{tentative, undo, stable, boundary, corrected, accountBefore, accountBehind, accountShown}
+use Rattle.consistency_examples.specs.Given.{tentative, undo, stable, boundary, corrected, counting}
+use Rattle.consistency_examples.specs.Given.{accountBefore, accountBehind, accountShown}
 use Rattle.consistency_examples.specs.Given.{twin, twinCalls, twinAccount}
 
 pub record Listing : Type 0 where
@@ -39,6 +45,9 @@ pub record Listing : Type 0 where
   pub isTentativeNow : isTentative (recordIn stable .kind) ≡ false
   pub dueAgain : doneDue recordIn false (undo ∷ corrected ∷ undo ∷ []) ≡ true
   pub notEvery : Every (λ (b : List ℕ). isTentative (recordIn b .kind) ≡ true) (tentative ∷ stable ∷ []) → ⊥
+  -- every piece is read as a record; 32 zero bytes are none
+  pub records : Every (λ (b : List ℕ). decoded b ≡ Decoded.Is (recordIn b)) (tentative ∷ undo ∷ stable ∷ boundary ∷ corrected ∷ [])
+  pub zeros : decoded (replicate 32 0) ≡ Decoded.Malformed
   -- the monitor: d is 0 and then 1, t is 1
   pub before : accountOf handed readings ≡ accountBefore
   pub behind : accountOf handed (readings ++ step ∷ step ∷ []) ≡ accountBehind
@@ -47,6 +56,10 @@ pub record Listing : Type 0 where
   pub noneOwed : failureFreeBytes handed readings ≡ []
   pub noneLeft : remaining handed (readings ++ step ∷ step ∷ []) ≡ 0
   pub oneOwed : failureFreeBytes handed (readings ++ step ∷ step ∷ []) ≡ stable ∷ []
+  -- as a record it is read off its bytes; a count of 2^32 would be cut to 0
+  pub owedRecord : failureFreeRecords handed (readings ++ step ∷ step ∷ []) ≡ counting 2 ∷ []
+  pub uncut : recordIn (bytesOf (counting 2)) ≡ counting 2
+  pub cut : recordIn (bytesOf (counting 4294967296)) ≡ counting 0
   -- a reading that is late is refused
   pub lateAnswer : called (leftAfter (boxOf handed) readings) late .answer ≡ 12
   -- the display is given the record, but the output is not, and the monitor passes the calls over
@@ -65,7 +78,7 @@ pub record Listing : Type 0 where
   pub twinBehind : accountOf twin twinCalls ≡ twinAccount
   pub sent : sentIn (accountOf handed (readings ++ step ∷ step ∷ [])) ≡ arrived 0 0
   pub twinSent : sentIn (accountOf twin twinCalls) ≡ arrived 0 0
-  pub boundaries : boundariesIn (accountOf handed (readings ++ step ∷ step ∷ [])) ≡ 100 ∷ 100 ∷ []
-  pub twinBoundaries : boundariesIn (accountOf twin twinCalls) ≡ 100 ∷ 100 ∷ []
+  pub boundaries : boundariesIn (accountOf handed (readings ++ step ∷ step ∷ [])) ≡ record { 0 = 100 } ∷ record { 0 = 100 } ∷ []
+  pub twinBoundaries : boundariesIn (accountOf twin twinCalls) ≡ record { 0 = 100 } ∷ record { 0 = 100 } ∷ []
   pub twinNoneLeft : remaining twin twinCalls ≡ 0
   pub twinOutput : outputOf twin twinCalls ≡ stable ∷ boundary ∷ []

@@ -16,7 +16,7 @@ use Rattle.node.specs.Opening.{closedState}
 use Rattle.consistency.specs.Runs.{Input, called}
 use Rattle.consistency.specs.Accounts.{Account}
 use Rattle.consistency.specs.Demand.{Handed, isOpened, settingsIn, failureFreeBytes}
-use Rattle.consistency.specs.SentBack.{lastIn, leastIn, newestIn, IsDisplay, IsHeld, placeIn, Stored, Answers, Fetched, Quiet}
+use Rattle.consistency.specs.SentBack.{lastIn, leastIn, newestIn, IsDisplay, IsHeld, placeIn, Stored, Answers, FetchedFrom, Quiet}
 use Rattle.consistency.specs.SentBack.{IsStep, LacksPlaces, boxAfter}
 use Rattle.consistency_examples.specs.Given.{bytesIn, storeOf, call}
 
@@ -105,7 +105,7 @@ readingsTo (suc b) = readingsTo b ++ readingsIn b 64
 unfoldable pub crowded : ℕ → Account
 crowded d =
     record {
-      monitor = record { d = d; t = d; mark = false; lines = record { boundary = 900; entries = [] } ∷ [] };
+      monitor = record { d = d; t = d; mark = false; lines = record { boundary = record { 0 = 900 }; entries = [] } ∷ [] };
       stables = readingsTo 9 ∷ [];
       acknowledged = 500 ∷ 0 ∷ [];
     }
@@ -158,7 +158,7 @@ pub record Resent : Type 0 where
   -- the clock
   pub notStored : Stored handed one (sent two) → ⊥
   pub notAnswers : Answers (replicate 2080 9) (IsDisplay handed 3) (IsHeld handed one 2) 17 → ⊥
-  pub notFetched : Fetched handed two 2 (replicate 2080 9) (then two (fetches 1 1)) → ⊥
+  pub notFetched : FetchedFrom handed two 2 (replicate 2080 9) (then two (fetches 1 1)) → ⊥
   pub notQuiet : Quiet (boxAfter handed two) (replicate 2080 0) (then two late) → ⊥
   -- eight crowded buckets fill the store, and the ninth finds no place
   pub isStep : IsStep (record { 0 = 3 }) step

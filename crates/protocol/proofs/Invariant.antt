@@ -233,7 +233,7 @@ module _ (s : Settings) (room : 0 < s .bucket) (t : Trace) (v : Invariant s t) w
   called-kept k Kind.P e h =
       rw (
         no-new-stable k,
-        monitor-step s (t .monitor) (k .now .0),
+        monitor-step s (t .monitor) (k .now),
         ← (same-rule s room (t .node) (t .monitor) (t .stables) (k .now) (v .some) (v .same-c) (v .same-p) (v .same-mark) (v .order) (v .lines)),
       )
       (step-kept (k .now))

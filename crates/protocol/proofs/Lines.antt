@@ -38,7 +38,7 @@ isStableReading r = not (isTentativeReading r)
 
 -- what the monitor has of a reading
 unfoldable pub entryOfReading : Reading → Entry
-entryOfReading r = record { id = r .id; time = r .time .0; arrival = r .arrival .0 }
+entryOfReading r = record { id = r .id; time = r .time; arrival = r .arrival }
 
 -- a line's stable readings, after an accepted call of this kind
 unfoldable pub withStable : Call → Kind → List Reading → List Reading
@@ -53,7 +53,7 @@ withStable k Kind.P rs = rs
 pub record Agrees (s : Settings) (c : ℕ) (l : Line) (g : LineMonitor) (stables : List Reading) : Type 0 where
   -- accepted and not undone
   pub all : List Reading
-  pub boundary : l .boundary .0 ≡ g .boundary
+  pub boundary : l .boundary ≡ g .boundary
   pub entries : g .entries ≡ map entryOfReading all
   pub kept : l .kept ≡ keep (isFrom (s .bucket) c) all
   pub stable : keep isStableReading all ≡ stables

@@ -9,6 +9,7 @@ use native.Mathlib.Nat.{le-div-iff-mul-le, not-suc-le-zero}
 use lib.Dec.{leb, ltb}
 use lib.ListN.{length}
 use borrow.Author.Tests.{leb-true, le-leb}
+use Rattle.clock.specs.declared.ReadingTime.{ReadingTime}
 use Rattle.clock.specs.declared.ArrivalTick.{ArrivalTick}
 use Rattle.clock.specs.Buckets.{bucketOf, bucketEnd, finishes}
 use Rattle.clock.specs.Hold.{isDue}
@@ -30,7 +31,7 @@ use Rattle.protocol.proofs.Places.{Each, done, more}
 use Rattle.protocol.proofs.Lines.{isFrom, entryOfReading, Agrees}
 
 -- the rule that the monitor's tests give, and what it does to the monitor
-unfoldable pub monitorRule : Settings → Monitor → ℕ → Rule
+unfoldable pub monitorRule : Settings → Monitor → ArrivalTick → Rule
 monitorRule s y now = firstRule (ltb (y .d) (stableBuckets s y)) (ltb (y .d) (y .t)) (y .mark) (anyDue s (y .t) now (y .lines))
 
 unfoldable pub monitorAct : Monitor → Rule → Monitor
@@ -58,7 +59,7 @@ by-tests y false b true d = refl
 by-tests y false b false true = refl
 by-tests y false b false false = refl
 
-pub monitor-step : (s : Settings) (y : Monitor) (now : ℕ) → observeStep s y now ≡ monitorAct y (monitorRule s y now)
+pub monitor-step : (s : Settings) (y : Monitor) (now : ArrivalTick) → observeStep s y now ≡ monitorAct y (monitorRule s y now)
 unfolding observeStep monitorAct monitorRule
 monitor-step s y now = by-tests y (ltb (y .d) (stableBuckets s y)) (ltb (y .d) (y .t)) (y .mark) (anyDue s (y .t) now (y .lines))
 
@@ -93,8 +94,8 @@ module _ (s : Settings) (c : ℕ) where
   pub same-least : {ls : List Line} {gs : List LineMonitor} {zs : List (List Reading)} → Each (Agrees s c) ls gs zs → leastBoundaryOf ls ≡ leastBoundary gs
   unfolding leastBoundaryOf leastBoundary
   same-least done = refl
-  same-least (more r done) = r .boundary
-  same-least (more r (more q rs)) = ap₂ min (r .boundary) (same-least (more q rs))
+  same-least (more r done) = ap (λ (b : ReadingTime). b .0) (r .boundary)
+  same-least (more r (more q rs)) = ap₂ min (ap (λ (b : ReadingTime). b .0) (r .boundary)) (same-least (more q rs))
 
   overdue-from : (p : ℕ) (now : ArrivalTick) → c ≤ p → (rs : List Reading) → Every (λ (r : Reading). isOverdue s p now r ≡ true → isFrom (s .bucket) c r ≡ true) rs
   unfolding isOverdue isFrom
@@ -104,12 +105,12 @@ module _ (s : Settings) (c : ℕ) where
       let g : p ≤ bucketOf (s .bucket) (r .time) = leb-true _ _ (and-parts _ _ e .0) in
       le-leb c (bucketOf (s .bucket) (r .time)) (omega arith))
 
-  entries-due : (p : ℕ) (now : ArrivalTick) (rs : List Reading) → someOf (entryDue s p (now .0)) (map entryOfReading rs) ≡ someOf (isOverdue s p now) rs
+  entries-due : (p : ℕ) (now : ArrivalTick) (rs : List Reading) → someOf (entryDue s p now) (map entryOfReading rs) ≡ someOf (isOverdue s p now) rs
   unfolding entryDue isOverdue entryOfReading bucketOf isDue
-  entries-due p now rs = some-map entryOfReading (entryDue s p (now .0)) rs
+  entries-due p now rs = some-map entryOfReading (entryDue s p now) rs
 
   -- an overdue reading of bucket p or later is kept
-  pub overdue-kept : {ls : List Line} {gs : List LineMonitor} {zs : List (List Reading)} (p : ℕ) (now : ArrivalTick) → c ≤ p → Each (Agrees s c) ls gs zs → someOverdue s p now ls ≡ anyDue s p (now .0) gs
+  pub overdue-kept : {ls : List Line} {gs : List LineMonitor} {zs : List (List Reading)} (p : ℕ) (now : ArrivalTick) → c ≤ p → Each (Agrees s c) ls gs zs → someOverdue s p now ls ≡ anyDue s p now gs
   unfolding someOf someOverdue anyDue
   overdue-kept p now h done = refl
   overdue-kept p now h (more {b = g} r rs) =
@@ -117,10 +118,10 @@ module _ (s : Settings) (c : ℕ) where
       (ap (someOf (isOverdue s p now)) (r .kept) ∙
       some-kept (isOverdue s p now) (isFrom (s .bucket) c) (r .all) (overdue-from p now h (r .all)) ∙
       sym (entries-due p now (r .all)) ∙
-      ap (someOf (entryDue s p (now .0))) (sym (r .entries)))
+      ap (someOf (entryDue s p now)) (sym (r .entries)))
       (overdue-kept p now h rs)
 
-pub same-rule : (s : Settings) → 0 < s .bucket → (n : Node) (y : Monitor) (zs : List (List Reading)) (now : ArrivalTick) → 0 < length (n .lines) → n .c ≡ y .d → n .p ≡ y .t → isCorrecting (n .phase) ≡ y .mark → n .c ≤ n .p → Each (Agrees s (n .c)) (n .lines) (y .lines) zs → ruleOf s n now ≡ monitorRule s y (now .0)
+pub same-rule : (s : Settings) → 0 < s .bucket → (n : Node) (y : Monitor) (zs : List (List Reading)) (now : ArrivalTick) → 0 < length (n .lines) → n .c ≡ y .d → n .p ≡ y .t → isCorrecting (n .phase) ≡ y .mark → n .c ≤ n .p → Each (Agrees s (n .c)) (n .lines) (y .lines) zs → ruleOf s n now ≡ monitorRule s y now
 unfolding ruleOf monitorRule stableBuckets
 same-rule s room n y zs now h same-c same-p same-mark order v =
     rw (

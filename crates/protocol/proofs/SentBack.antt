@@ -28,7 +28,7 @@ use Rattle.protocol.specs.Monitor.{leastBoundary, stableBuckets}
 use Rattle.protocol.specs.FailureFree.{failureFree}
 use Rattle.protocol.specs.Runs.{Event, Trace, start, next, after}
 use Rattle.protocol.specs.Demand.{stableResults}
-use Rattle.protocol.specs.SentBack.{Held, SentBack}
+use Rattle.protocol.specs.SentBack.{HeldTrace, TraceSentBack}
 use Rattle.protocol.proofs.Rules.{rule-cases, stable-least, same-least}
 use Rattle.protocol.proofs.Acceptance.{refused-15}
 use Rattle.protocol.proofs.Counts.{failureFree-count, failureFree-consecutive}
@@ -163,7 +163,7 @@ module _ (s : Settings) (room : 0 < s .bucket) (t : Trace) (v : Kept s t) where
   refused-full : (k : Call) → answerTo s (t .node) k ≡ 15 → (kindOf (k .kind) ≡ Kind.P) × Full
   refused-full k e = let r = refused-15 s (t .node) k .0 e in (r .0, lacking-full (k .now) (r .2))
 
-  pub held-after : Held s t
+  pub held-after : HeldTrace s t
   unfolding stableResults
   held-after =
       record {
@@ -180,5 +180,5 @@ module _ (s : Settings) (room : 0 < s .bucket) (t : Trace) (v : Kept s t) where
         full = λ k e. let r = refused-full k e in (r .0, r .1 .0, r .1 .1, r .1 .2);
       }
 
-pub sentBack : SentBack
+pub sentBack : TraceSentBack
 sentBack = record { held = λ s room h es. held-after s room (after s (start s) es) (kept-after s room h es) }

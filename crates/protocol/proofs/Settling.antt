@@ -23,7 +23,7 @@ use Rattle.protocol.specs.Monitor.{stableBuckets, leftToWork}
 use Rattle.protocol.specs.Undos.{doneDue}
 use Rattle.protocol.specs.Runs.{Event, Trace, next}
 use Rattle.protocol.specs.StepCount.{stepsNeeded, leastBoundaryOf, bucketsLeft}
-use Rattle.protocol.specs.Demand.{itself, Steps, rest, step, aside}
+use Rattle.protocol.specs.Demand.{itself, TraceSteps, rest, step, aside}
 use Rattle.protocol.proofs.Rules.{rule-cases, stable-least, same-least}
 use Rattle.protocol.proofs.Invariant.{Invariant, next-kept}
 
@@ -134,7 +134,7 @@ module _ (s : Settings) (room : 0 < s .bucket) where
   unfolding leftToWork stableBuckets bucketsLeft
   left-same {t} v = sym (ap₂ (λ (m c : ℕ). m / s .bucket - c) (same-least s (t .node .c) (v .lines)) (v .same-c))
 
-  steps-take : {n : ℕ} {t u : Trace} → Steps s t n u → Invariant s t → Invariant s u × (stepsAhead s (u .node) ≡ stepsAhead s (t .node) - n)
+  steps-take : {n : ℕ} {t u : Trace} → TraceSteps s t n u → Invariant s t → Invariant s u × (stepsAhead s (u .node) ≡ stepsAhead s (t .node) - n)
   unfolding next acknowledgedBy stepsAhead bucketsLeft
   steps-take rest v = (v, omega arith)
   steps-take {u} (step {t = t} {n = n} k e a q) v =
@@ -153,7 +153,7 @@ module _ (s : Settings) (room : 0 < s .bucket) where
       (none-out s (t .node) (invariant-level v)))
 
   pub settled :
-      {n : ℕ} (t u : Trace) → Invariant s t → Steps s t n u → stepsAhead s (t .node) ≤ n →
+      {n : ℕ} (t u : Trace) → Invariant s t → TraceSteps s t n u → stepsAhead s (t .node) ≤ n →
       (leftToWork s (u .monitor) ≡ 0) × (doneDue itself false (u .output) ≡ false)
   unfolding stepsAhead
   settled {n} t u v q enough =

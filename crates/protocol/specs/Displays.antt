@@ -68,7 +68,8 @@ answerToAcknowledgement s n display id =
 unfoldable pub answerToFetch : Settings → Node → ℕ → ℕ → ℕ
 answerToFetch s n display from =
     firstFailed
-    (record { fails = wrongDisplay s display; number = Answer.wrongDisplay } ∷ record { fails = wrongFetch n from; number = Answer.wrongResultId } ∷ [])
+    (record { fails = wrongDisplay s display; number = Answer.wrongDisplay } ∷
+    record { fails = wrongFetch n from; number = Answer.wrongResultId } ∷ [])
 
 -- this display's last id is this one
 unfoldable pub acknowledging : List ℕ → ℕ → ℕ → List ℕ

@@ -17,10 +17,10 @@ use Rattle.protocol.specs.Refusals.{callTests, lineTests, stepTests, testsOf, a
 use Rattle.protocol.specs.Displays.{leastOf, givenUpTo, freePlaces, lacksPlaces, wrongDisplay, lastOf, wrongAcknowledgement, wrongFetch}
 use Rattle.protocol.specs.Displays.{answerToAcknowledgement, answerToFetch, acknowledging, fetchCount}
 use Rattle.protocol.specs.Calls.{acknowledgedAfter, acknowledgedBy}
-use Rattle.protocol_examples.specs.SendBack.{two, quiet, holding, node, meter, step, SendBack}
+use Rattle.protocol_examples.specs.SendBack.{two, quiet, nodeHolding, node, meter, step, SendBack}
 
 pub sendBack : SendBack
-unfolding two quiet holding node meter step firstFailed leastOf givenUpTo freePlaces lacksPlaces wrongDisplay lastOf wrongAcknowledgement wrongFetch answerToAcknowledgement answerToFetch acknowledging fetchCount acknowledgedAfter acknowledgedBy placeOf answerTo testsOf callTests lineTests stepTests kindOf uses isStep namedLine wrongLine isZero unusedField wrongMeter wrongId tooEarly isHeldBack isFull ruleOf firstRule isStableBucket allOf finishes bucketEnd worked work keptOf inBucket gather keep sort addAll closesWindow close windowResults windowStart results hasResult result
+unfolding two quiet nodeHolding node meter step firstFailed leastOf givenUpTo freePlaces lacksPlaces wrongDisplay lastOf wrongAcknowledgement wrongFetch answerToAcknowledgement answerToFetch acknowledging fetchCount acknowledgedAfter acknowledgedBy placeOf answerTo testsOf callTests lineTests stepTests kindOf uses isStep namedLine wrongLine isZero unusedField wrongMeter wrongId tooEarly isHeldBack isFull ruleOf firstRule isStableBucket allOf finishes bucketEnd worked work keptOf inBucket gather keep sort addAll closesWindow close windowResults windowStart results hasResult result
 sendBack =
     record {
       held = refl;

@@ -24,8 +24,8 @@ unfoldable pub quiet : ℕ → Line
 quiet boundary = record { boundary = record { 0 = boundary }; lastId = 0; lastStableId = 0; kept = [] }
 
 -- a node with this newest stable id whose displays have acknowledged up to 10 and 5; these meters are open; bucket 0 is stable
-unfoldable pub holding : ℕ → List Meter → Node
-holding newest meters =
+unfoldable pub nodeHolding : ℕ → List Meter → Node
+nodeHolding newest meters =
     record {
       clock = record { 0 = 0 };
       c = 0;
@@ -38,7 +38,7 @@ holding newest meters =
     }
 
 unfoldable pub node : Node
-node = holding 20 []
+node = nodeHolding 20 []
 
 -- a meter with a result
 unfoldable pub meter : Meter
@@ -59,7 +59,7 @@ pub record SendBack : Type 0 where
   -- as many as there are, up to 64
   pub all : fetchCount node 6 ≡ 15
   pub none : fetchCount node 21 ≡ 0
-  pub most : fetchCount (holding 100 []) 6 ≡ 64
+  pub most : fetchCount (nodeHolding 100 []) 6 ≡ 64
   -- an acknowledgement: not below the display's last, not above the newest
   pub below : answerToAcknowledgement two node 1 9 ≡ 17
   pub same : answerToAcknowledgement two node 1 10 ≡ 0
@@ -72,11 +72,11 @@ pub record SendBack : Type 0 where
   pub some : givenUpTo (acknowledgedBy two node 2 7) ≡ 7
   pub other : givenUpTo (acknowledgedBy two node 2 15) ≡ 10
   pub free : freePlaces node ≡ 497
-  pub full : freePlaces (holding 517 []) ≡ 0
+  pub full : freePlaces (nodeHolding 517 []) ≡ 0
   -- a window with two results: as many places as results are enough, one is not; without a result it needs none
-  pub enough : answerTo two (holding 515 (meter ∷ meter ∷ [])) step ≡ 0
-  pub short : answerTo two (holding 516 (meter ∷ meter ∷ [])) step ≡ 15
-  pub nothing : answerTo two (holding 517 []) step ≡ 0
+  pub enough : answerTo two (nodeHolding 515 (meter ∷ meter ∷ [])) step ≡ 0
+  pub short : answerTo two (nodeHolding 516 (meter ∷ meter ∷ [])) step ≡ 15
+  pub nothing : answerTo two (nodeHolding 517 []) step ≡ 0
   -- places
   pub first : placeOf 1 ≡ 0
   pub last : placeOf 512 ≡ 511
