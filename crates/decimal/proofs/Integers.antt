@@ -93,7 +93,7 @@ integer-complete s at (negsuc n) r e o f =
     let q = number-complete (2 ^ 31) s (at + 1) (suc n) r t o (omega arith) (omega arith) in
     integer-minus s at (sym (head-drop at s) ∙ rw e) ∙ ap negated q ∙ negated-suc n (at + 1 + length (digits (suc n))) ∙ ap (Integer.Value (negsuc n)) (omega arith)
 
--- a whole number behind any text reads back as written
+-- a claim of its own: a whole number behind any text reads back as written
 pub integer-reads-back : (p : List ℕ) (z : ℤ) (r : List ℕ) → NoDigit r → SFits w32 z → integerAt (p ++ (decimal z ++ r)) (length p) ≡ Integer.Value z (length p + length (decimal z))
 integer-reads-back p z r n f =
     integer-complete (p ++ (decimal z ++ r)) (length p) z r (drop-append-seam p (decimal z ++ r)) n f

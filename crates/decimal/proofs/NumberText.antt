@@ -120,12 +120,12 @@ number-complete most s at v r e n h l =
     λ q. let o : v ≡ 0 = p .2 (rw e at q) in omega (arith, ap length (digits-one v (omega arith))) in
     cc (number-value most s at (well-spelled t (omega (arith, digits-some v)) z) (omega arith))
 
--- a number behind any text reads back as written
+-- claims of their own: a number behind any text reads back as written
 pub number-reads-back : (most : ℕ) (p : List ℕ) (v : ℕ) (r : List ℕ) → NoDigit r → v ≤ most → most < 2 ^ 64 → numberAt most (p ++ (digits v ++ r)) (length p) ≡ Number.Value v (length p + length (digits v))
 number-reads-back most p v r n h l =
     number-complete most (p ++ (digits v ++ r)) (length p) v r (drop-append-seam p (digits v ++ r)) n h l
 
--- two numbers have one text only where they are equal
+-- and two numbers have one text only where they are equal
 pub digits-injective : (m n : ℕ) → m < 2 ^ 64 → n < 2 ^ 64 → digits m ≡ digits n → m ≡ n
 unfolding runValue
 digits-injective m n h l e =

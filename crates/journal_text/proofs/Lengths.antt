@@ -44,6 +44,7 @@ longestCall =
       meter = 255;
     }
 
+-- a claim of its own: the longest line is no shorter than the bound
 pub longest-journal-line : length (lineText longestCall) ≡ longestJournalLine
 unfolding lineText lineOf field decimal digits digitsWithin
 longest-journal-line = refl

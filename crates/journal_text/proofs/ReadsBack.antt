@@ -11,7 +11,7 @@ use Rattle.journal.specs.declared.Call.{Call}
 use Rattle.journal.specs.declared.CallRead.the-variants as CallRead
 use Rattle.journal.proofs.Exact.{exact-call}
 
--- the line in front of the area
+-- a claim of its own: the line in front of the area
 pub reads-back : (c : Call) (area : List ℕ) → CallFits c → callOf (take (length (lineText c)) (inFront (lineText c) area)) ≡ CallRead.Accepted c
 unfolding inFront
 reads-back c area fit =

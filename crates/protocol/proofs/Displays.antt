@@ -166,7 +166,7 @@ module _ (s : Settings) (n : Node) (display id : ℕ) where
         known = ltb-false _ _ (id-fits .1);
       }
 
-  -- and one that is so is accepted
+  -- a claim of its own: one that is so is accepted
   pub acknowledgement-accepted : AcknowledgementFits s n display id → answerToAcknowledgement s n display id ≡ 0
   unfolding answerToAcknowledgement wrongDisplay wrongAcknowledgement firstFailed
   acknowledgement-accepted v =
@@ -226,6 +226,7 @@ module _ (s : Settings) (n : Node) (display from : ℕ) where
         near = ltb-false _ _ (inside .1);
       }
 
+  -- a claim of its own, as for an acknowledgement
   pub fetch-accepted : FetchFits s n display from → answerToFetch s n display from ≡ 0
   unfolding answerToFetch wrongDisplay wrongFetch firstFailed
   fetch-accepted v =

@@ -51,7 +51,7 @@ module _ (s : Settings) (n : Node) (k : Call) where
   pub passed : answerTo s n k ≡ 0 → Passed s n k (kindOf (k .kind))
   passed = passed-as (kindOf (k .kind)) refl
 
-  -- and a call that passes them all is accepted
+  -- a claim of its own: a call that passes them all is accepted
   pub accepted-if-passed : Passed s n k (kindOf (k .kind)) → answerTo s n k ≡ 0
   unfolding answerTo testsOf callTests lineTests stepTests firstFailed
   accepted-if-passed p =

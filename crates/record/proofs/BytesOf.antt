@@ -64,6 +64,7 @@ areBytes-bytesOf r kind meter =
     bytes (suc (suc (suc zero))) = omega arith
     bytes (suc (suc (suc (suc i)))) = omega arith
 
+-- a claim of its own: no two records have the same bytes
 pub bytesOf-injective : (r s : Record) → Within r → Within s → bytesOf r ≡ bytesOf s → r ≡ s
 bytesOf-injective r s v w e = sym (fieldsOf-bytesOf r v) ∙ ap fieldsOf e ∙ fieldsOf-bytesOf s w
 

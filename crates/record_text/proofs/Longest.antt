@@ -38,7 +38,7 @@ tail-short r w = simp length-append
 pub text-short : (r : Record) → Within r → length (recordText r) ≤ longestRecordText
 text-short r w = rw (recordText-parts r, length-append) (omega (arith, head-short r w, tail-short r w))
 
--- the greatest unsigned numbers and the least signed ones
+-- a claim of its own: the greatest unsigned numbers and the least signed ones have a text as long as the bound
 abbrev pub longest : Record
 longest =
     record {

@@ -34,6 +34,7 @@ recordText-parts r =
       append-assoc (decimal (pos (r .time .0))) meter tail,
     )
 
+-- a claim of its own: the text that is written of a record's bytes is the record's
 pub textOf-bytesOf : (r : Record) → Within r → isRecord (r .kind) ≡ true → textOf (decoded (bytesOf r)) ≡ recordText r
 unfolding textOf
 textOf-bytesOf r w k = rw (decoded-bytesOf r w k)

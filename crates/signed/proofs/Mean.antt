@@ -17,7 +17,7 @@ use Rattle.signed.proofs.Nearest.{nearest-none, nearest-nearest, neares
 
 -- ---- the mean
 
--- of a sum that is not below zero, and of one below
+-- claims of their own, which say what the mean is: of a sum that is not below zero, of one below, and of no value
 pub mean-nearest : (a n : ℕ) → 0 < n → (q : ℕ) × (mean (pos a) n ≡ pos q) × IsNearest a n q
 unfolding mean
 mean-nearest a n p = (nearest a n, refl, nearest-nearest a n p)
