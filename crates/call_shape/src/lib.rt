@@ -5,6 +5,7 @@ ghost use mathlib.Core.List.{List};
 ghost use Prim.Native.Nat.{ℕ, _+_, _*_, _-_, _≤_};
 ghost use lib.Dec.{leb, eqb};
 ghost use lib.ListN.{length, take};
+ghost use Rattle.settings.specs.Limits.{maxLines, maxDisplays};
 ghost use Rattle.store.specs.Sizes.{readingsPerLine};
 ghost use Rattle.store.specs.Lists.{allOf};
 ghost use Rattle.store.specs.Columns.{Columns, columnsOf, rows};
@@ -13,7 +14,7 @@ ghost use Rattle.node.specs.Sizes.{lastBucket, resultsPerBucket};
 ghost use Rattle.protocol.specs.Displays.{leastOf};
 ghost use Rattle.retransmission.specs.Sizes.{heldBytes};
 ghost use Rattle.retransmission.specs.Places.{placesOf, placesOk};
-ghost use Rattle.node.specs.View.{lentOf, viewLines};
+ghost use Rattle.node.specs.View.{lentOf, viewLines, places};
 ghost use Rattle.node.specs.Shape.{headOk, keptOk, phaseOk, displayOk, stateInShape};
 ghost use Rattle.node.specs.Opening.{sharesShort};
 ghost use Rattle.node.specs.Calls.{hostTests};
@@ -22,17 +23,17 @@ use node::LineHead;
 use node::State;
 use protocol::Phase;
 
-// Bytes of an output area that no call is refused for: 65 records.
-pub const AREA_BYTES: usize = 2080;
+// Bytes of an output area that no call is refused for.
+pub const AREA_BYTES: usize = node::RECORDS_PER_CALL * record::RECORD_BYTES;
 
-// Bytes of a send-back store that no call is refused for: 512 records.
-pub const HELD_BYTES: usize = 16_384;
+// Bytes of a send-back store that no call is refused for.
+pub const HELD_BYTES: usize = retransmission::HELD_RESULTS as usize * record::RECORD_BYTES;
 
 // The last bucket that c and p may name.
 const LAST_BUCKET: u32 = 42_949_673;
 
-// Results that one bucket can give.
-const RESULTS_PER_BUCKET: u64 = 64;
+// Results that one bucket can give: one for each meter.
+const RESULTS_PER_BUCKET: u64 = operator::METERS as u64;
 
 // Whether some column has no room for the shares of so many lines.
 pub fn is_short(
@@ -64,7 +65,8 @@ fn is_head_ok(h: LineHead) -> bool
 
 // Whether a share's n readings from `base` on are S or T, of known meters, with rising ids.
 fn is_share_ok(ids: &[u32], kinds: &[u8], meters: &[u8], base: usize, n: usize) -> bool
-    requires { ⌜ (base + n ≤ length (now ids)) × (base + n ≤ length (now kinds)) × (base + n ≤ length (now meters)) ⌝ }
+    requires { let end = base + n in
+        ⌜ (end ≤ length (now ids)) × (end ≤ length (now kinds)) × (end ≤ length (now meters)) ⌝ }
     ensures { λ r. ⌜ r ≡ shareOk base n (now (ids .entry)) (now (kinds .entry)) (now (meters .entry)) ⌝ }
 {
     (store_columns::are_readings(kinds, base, n)
@@ -80,17 +82,11 @@ fn are_lines_ok(
     kinds: &[u8],
     meters: &[u8],
 ) -> bool
-    requires { ⌜
-        (lines ≤ 8) ×
-        (lines * readingsPerLine ≤ length (now ids)) ×
-        (lines * readingsPerLine ≤ length (now kinds)) ×
-        (lines * readingsPerLine ≤ length (now meters))
-        ⌝ }
-    ensures { λ r. ⌜ (
-        (x : Columns) →
-        Lends x lines (now (ids .entry)) (now (kinds .entry)) (now (meters .entry)) →
-        r ≡ (allOf headOk (take lines heads) && allOf keptOk (viewLines lines heads (rows x (lines * readingsPerLine))))
-        ) ⌝ }
+    requires { let end = lines * readingsPerLine in
+        ⌜ (lines ≤ maxLines) × (end ≤ length (now ids)) × (end ≤ length (now kinds)) × (end ≤ length (now meters)) ⌝ }
+    ensures { λ r.
+        ⌜ ((x : Columns) → Lends x lines (now (ids .entry)) (now (kinds .entry)) (now (meters .entry)) →
+        r ≡ (allOf headOk (take lines heads) && allOf keptOk (viewLines lines heads (rows x (lines * readingsPerLine))))) ⌝ }
 {
     let mut i = 0;
     while i < lines {
@@ -133,16 +129,11 @@ fn are_numbers_ok(stable: u64, newest: u64, c: u32, p: u32) -> bool
 
 // Whether state and store are in shape, where the store is long enough.
 fn is_in_shape(state: State, ids: &[u32], kinds: &[u8], meters: &[u8]) -> bool
-    requires { ⌜
-        (state .settings .lines * readingsPerLine ≤ length (now ids)) ×
-        (state .settings .lines * readingsPerLine ≤ length (now kinds)) ×
-        (state .settings .lines * readingsPerLine ≤ length (now meters))
-        ⌝ }
-    ensures { λ r. ⌜ (
-        (x : Columns) →
-        Lends x (state .settings .lines) (now (ids .entry)) (now (kinds .entry)) (now (meters .entry)) →
-        r ≡ stateInShape state x
-        ) ⌝ }
+    requires { let end = places state in
+        ⌜ (end ≤ length (now ids)) × (end ≤ length (now kinds)) × (end ≤ length (now meters)) ⌝ }
+    ensures { λ r.
+        ⌜ ((x : Columns) → Lends x (state .settings .lines) (now (ids .entry)) (now (kinds .entry)) (now (meters .entry)) →
+        r ≡ stateInShape state x) ⌝ }
 {
     let settings = state.settings;
     if !settings::within_limits(settings) {
@@ -161,7 +152,7 @@ fn is_in_shape(state: State, ids: &[u32], kinds: &[u8], meters: &[u8]) -> bool
 
 // Whether the displays' last ids and the held places are in shape, where the send-back store is long enough.
 fn are_displays_ok(ids: [u64; node::DISPLAYS], displays: usize, newest: u64, sent: &[u8]) -> bool
-    requires { ⌜ (1 ≤ displays) × (displays ≤ 4) × (heldBytes ≤ length (now sent)) ⌝ }
+    requires { ⌜ (1 ≤ displays) × (displays ≤ maxDisplays) × (heldBytes ≤ length (now sent)) ⌝ }
     ensures { λ r.
         let own = take displays ids in
         let least = leastOf own in

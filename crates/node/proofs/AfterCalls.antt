@@ -22,8 +22,8 @@ use Rattle.record.specs.Layout.{allBytes}
 use Rattle.node.specs.declared.LineHead.{LineHead}
 use Rattle.node.specs.declared.State.{State}
 use Rattle.node.proofs.Limits.{limits-hold}
-use Rattle.node.proofs.View.{Fits, Sized, view-sized, view-put, fits-put, storeLength-put, settings-put, length-heads-put}
-use Rattle.node.proofs.Shape.{HeadShape, StateShape, state-facts, state-in-shape}
+use Rattle.node.proofs.View.{Fits, Sized, view-sized, view-put, fits-put, settings-put, length-heads-put}
+use Rattle.node.proofs.Shape.{HeadShape, StateShape, state-facts}
 use Rattle.node.proofs.Outcomes.{outcome-lines, outcome-kept}
 use Rattle.node.proofs.Calls.{AcceptedOn, either-way}
 
@@ -39,10 +39,6 @@ shape-fits st x h d room e =
       room = room;
       displays = omega (arith, d, limits-hold (st .settings) (f .limits) .displays);
     }
-
--- so what an accepted call was handed fits
-pub accepted-fitted : (st : State) (x : Lent) (text area : List ℕ) → length (st .heads) ≡ maxLines → length (st .acknowledged) ≡ maxDisplays → AcceptedOn st x text area → Fits st (x .readings)
-accepted-fitted st x text area h d v = shape-fits st (x .readings) h d (v .host .room) (state-in-shape st x (v .host .shape))
 
 -- an outcome fits as what it was got from
 pub outcome-sized : (st : State) (x : Lent) (k : Call) → Fits st (x .readings) → Sized (st .settings) (outcomeOf (st .settings) (view st (x .readings)) k .node)
@@ -87,9 +83,6 @@ module _ (st : State) (x : Lent) (text area : List ℕ) (v : AcceptedOn st x tex
     pub accepted-fits : Fits (calledOn st x text area .state) (calledOn st x text area .lent .readings)
     accepted-fits = rw (accepted-state, accepted-columns) (fits-put st (x .readings) f after (outcome-sized st x (v .call) f))
 
-    pub accepted-storeLength : storeLength (calledOn st x text area .lent .readings) ≡ storeLength (x .readings)
-    accepted-storeLength = ap storeLength accepted-columns ∙ storeLength-put st (x .readings) f after (outcome-sized st x (v .call) f)
-
   pub accepted-settings : calledOn st x text area .state .settings ≡ st .settings
   accepted-settings = ap (λ (t : State). t .settings) accepted-state ∙ settings-put st after
 
@@ -111,8 +104,3 @@ module _ (st : State) (x : Lent) (text area : List ℕ) where
   pub called-heads : length (calledOn st x text area .state .heads) ≡ length (st .heads)
   called-heads =
       either-way st x text area (λ (r : Called). length (r .state .heads) ≡ length (st .heads)) (λ u. rw (u .state)) (accepted-heads st x text area)
-
-  pub called-storeLength : Fits st (x .readings) → storeLength (calledOn st x text area .lent .readings) ≡ storeLength (x .readings)
-  called-storeLength f =
-      either-way st x text area (λ (r : Called). storeLength (r .lent .readings) ≡ storeLength (x .readings)) (λ u. rw (u .lent))
-      (λ v. accepted-storeLength st x text area v f)

@@ -198,7 +198,6 @@ pub opened-on : (st : State) (x : Lent) (text : List ℕ) → openedOn st x text
 unfolding openedOn
 opened-on st x text e = opened-read st x text (settingsOf text) refl e
 
--- a refused opening changes nothing
 refused-read : (st : State) (x : Lent) (r : SettingsRead) → (openedWith st x r .answer ≡ 0 → ⊥) → (openedWith st x r .state ≡ st) × (openedWith st x r .lent ≡ x)
 unfolding openedWith
 refused-read st x (SettingsRead.Accepted s) e =
@@ -211,6 +210,7 @@ refused-read st x (SettingsRead.Accepted s) e =
 refused-read st x SettingsRead.Malformed e = (refl, refl)
 refused-read st x SettingsRead.OutsideLimits e = (refl, refl)
 
+-- a refused opening changes nothing (document 01, section 'Refusal by whom'): a claim of its own, which no proof needs
 pub refused-opening : (st : State) (x : Lent) (text : List ℕ) → (openedOn st x text .answer ≡ 0 → ⊥) → (openedOn st x text .state ≡ st) × (openedOn st x text .lent ≡ x)
 unfolding openedOn
 refused-opening st x text e = refused-read st x (settingsOf text) e
@@ -246,8 +246,6 @@ module _ (st : State) (x : Lent) (text : List ℕ) (o : OpenedOn st x text) wher
   pub opened-heads : length (openedOn st x text .state .heads) ≡ maxLines
   opened-heads = ap (λ (t : State). length (t .heads)) opened-state ∙ length-heads-fresh (o .settings)
 
+  -- no line keeps anything (document 01, section 'Buckets and the operator'): a claim of its own, which no proof needs
   pub opened-empty : Every (λ (h : LineHead). h .kept ≡ 0) (openedOn st x text .state .heads)
   opened-empty = rw opened-state (empty-fresh (o .settings))
-
-  pub opened-storeLength : storeLength (openedOn st x text .lent .readings) ≡ storeLength (x .readings)
-  opened-storeLength = ap storeLength opened-columns ∙ storeLength-zeroed (o .settings) (x .readings) (o .room)

@@ -1,5 +1,6 @@
--- The store place by place after a node is laid down: what a line keeps stands first in its share, places given up are
--- zeroed, and every other place is as it was. Share by share, each by its own law.
+-- The store place by place after a node is laid down: what a line keeps stands first in its share, places given up are zeroed, and every
+-- other place is as it was. Share by share, each by its own law. The laws on heads and places are claims of their own, on what document 01
+-- says of the store (section 'Store and output area'): no proof needs them.
 use Prim.Native.Nat.{ℕ, zero, suc, _+_, _*_, _≤_, _<_}
 use mathlib.Core.Path.{_≡_, _∙_, ap, subst}
 use mathlib.Core.List.{List, [], _∷_, _++_}

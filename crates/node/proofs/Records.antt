@@ -17,7 +17,7 @@ use Rattle.journal.specs.Kinds.{letterS, letterT, letterB, letterU, letterR}
 use Rattle.record.specs.declared.Record.{Record}
 use Rattle.record.specs.declared.Decoded.the-variants as Decoded
 use Rattle.record.specs.Kinds.{isRecord, isResult, isStable, isTentative}
-use Rattle.record.specs.Layout.{bytesOf, allBytes}
+use Rattle.record.specs.Layout.{bytesOf}
 use Rattle.record.specs.Decoded.{decoded}
 use Rattle.record.proofs.Decoding.{decoded-bytesOf}
 use Rattle.store.specs.Order.{inBucket}
@@ -33,9 +33,8 @@ use Rattle.protocol.specs.Refusals.{answerTo}
 use Rattle.store.specs.Sizes.{readingsPerLine}
 use Rattle.protocol.specs.Calls.{input, done, accepted, outcomeOf}
 use Rattle.protocol.proofs.Rules.{rule-cases}
-use Rattle.node.specs.Sizes.{resultsPerBucket, recordsPerCall, areaBytes, lastBucket}
+use Rattle.node.specs.Sizes.{resultsPerBucket, recordsPerCall, lastBucket}
 use Rattle.operator.specs.Bounds.{countLimit}
-use Rattle.record.proofs.AllBytes.{length-allBytes}
 use Rattle.node.proofs.Limits.{limits-hold}
 use Rattle.operator.proofs.Meters.{Counted}
 use Rattle.node.proofs.Gathered.{length-inBucket}
@@ -176,7 +175,3 @@ Decodes r = decoded (bytesOf r) ≡ Decoded.Is r
 
 pub readable-decodes : (rs : List Record) → Every Readable rs → Every Decodes rs
 readable-decodes rs h = every-to rs (λ (r : Record) (g : Readable r). decoded-bytesOf r (g .0) (g .1)) h
-
--- they all have room in an area that no call is refused for
-pub given-room : (rs : List Record) → Given rs → length (allBytes rs) ≤ areaBytes
-given-room rs h = omega (arith, h .0, length-allBytes rs)

@@ -49,10 +49,6 @@ pub settings-put : (st : State) (n : Node) → putState st n .settings ≡ st .s
 unfolding putState
 settings-put st n = refl
 
-pub places-put : (st : State) (n : Node) → places (putState st n) ≡ places st
-unfolding putState places
-places-put st n = refl
-
 pub length-heads-put : (st : State) (n : Node) → length (putState st n .heads) ≡ length (st .heads)
 unfolding putState
 length-heads-put st n = length-headsWith (st .heads) (n .lines)

@@ -7,6 +7,7 @@ use native.Mathlib.Omega.{arith}
 use borrow.Author.Needs.{needs}
 use lib.ListN.{length, take}
 use lib.Seq.{length-take-le}
+use Rattle.settings.specs.Limits.{maxDisplays}
 use Rattle.store.specs.Lists.{allOf}
 use Rattle.operator.proofs.FromPlace.{length-mapped}
 use Rattle.node.specs.Shape.{displayOk}
@@ -28,7 +29,7 @@ own a = take (start a .args .displays) (start a .args .ids)
 some : (a : tie.After-span-of) → 0 < length (own a)
 some a =
     let s = start a in
-    let size : length (s .args .ids) ≡ 4 = search (needs, length-mapped) in
+    let size : length (s .args .ids) ≡ maxDisplays = search (needs, length-mapped) in
     omega (arith, length-take-le (s .args .displays) (s .args .ids) (omega arith), s .pre)
 
 least : (a : tie.After-span-of) → a .span-of .result .least ≡ leastOf (own a)

@@ -1,9 +1,9 @@
 -- `call_shape::is_in_shape` meets its contract: the parts' tests, joined as the definition joins them.
-use mathlib.Core.Path.{sym, _∙_}
-use Prim.Native.Nat.{_≤_}
+use mathlib.Core.Path.{_≡_, sym, _∙_}
+use mathlib.Core.Bool.{true}
 use borrow.Author.Needs.{needs}
 use borrow.Author.Tests.{not-true, not-false}
-use Rattle.settings.specs.Limits.{maxLines}
+use Rattle.settings.specs.Limits.{withinLimits}
 use Rattle.node.specs.View.{places, view}
 use Rattle.node.specs.Shape.{bucketsOk, numbersOk}
 use Rattle.node.proofs.Limits.{limits-hold}
@@ -11,26 +11,44 @@ use Rattle.call_shape.proofs.Whole.{wrong-settings, parts-in-shape}
 use Rattle.call_shape.proofs.is_in_shape.Statement.{statement}
 use Rattle.call_shape.proofs.is_in_shape.Tie as tie
 
+-- ---- what is known at the places on the way; each place names the one that it goes back to
+
+-- the settings, once they are tested
+abbrev start : tie.After-within-limits → tie.Start
+start w = w .before .before .before .before .before
+
+abbrev entry : tie.Else1 → tie.Start
+entry e = start (e .before)
+
+limited : (e : tie.Else1) → withinLimits (entry e .args .state .settings) ≡ true
+limited e = sym (e .before .within-limits .ensures) ∙ not-false _ (e .if1 .left)
+
+-- the lines, once they are tested, and the last part behind them
+abbrev lined : tie.After-are-lines-ok → tie.Else1
+lined l = l .before .before .before .before .before
+
+abbrev all : tie.After-is-within-bounds2 → tie.After-are-lines-ok
+all c = c .before .before .before .before
+
+-- ---- the needs
+
 within-limits-requires : tie.Need-within-limits-requires
 within-limits-requires c κs = search needs
 
 returns : tie.Need-returns
 returns c =
-    let s = c .before .before .before .before .before .before in
     λ x lent.
-    wrong-settings (s .args .state) x (sym (c .before .within-limits .ensures) ∙ not-true _ (c .if1 .taken))
+    wrong-settings (start (c .before) .args .state) x (sym (c .before .within-limits .ensures) ∙ not-true _ (c .if1 .taken))
 
 cast-lines : tie.Need-cast-lines
 cast-lines c = search needs
 
 are-lines-ok-requires : tie.Need-are-lines-ok-requires
+unfolding places
 are-lines-ok-requires c κs =
-    let s = c .before .before .before .before .before .before .before .before .before .before in
-    let few : s .args .state .settings .lines ≤ maxLines =
-    limits-hold (s .args .state .settings)
-    (sym (c .before .before .before .before .before .within-limits .ensures) ∙ not-false _ (c .before .before .before .before .if1 .left))
-    .lines in
-    (few, s .pre .0, s .pre .1, s .pre .2)
+    let e = c .before .before .before .before in
+    let s = entry e in
+    (limits-hold (s .args .state .settings) (limited e) .lines, s .pre .0, s .pre .1, s .pre .2)
 
 are-buckets-ok-requires : tie.Need-are-buckets-ok-requires
 are-buckets-ok-requires c κs = search needs
@@ -47,12 +65,10 @@ is-within-bounds-requires-2 c κs = search needs
 returns-2 : tie.Need-returns-2
 unfolding places view bucketsOk numbersOk
 returns-2 c =
-    let s = c .before .before .before .before .before .before .before .before .before .before .before .before .before .before .before in
-    let settings = c .before .before .before .before .before .before .before .before .before .before .within-limits in
+    let e = lined (all c) in
     λ x lent.
-    parts-in-shape (s .args .state) x
-    (sym (settings .ensures) ∙ not-false _ (c .before .before .before .before .before .before .before .before .before .if1 .left)) _ _ _ _ _
-    (c .before .before .before .before .are-lines-ok .ensures x lent)
+    parts-in-shape (entry e .args .state) x (limited e) _ _ _ _ _
+    (all c .are-lines-ok .ensures x lent)
     (c .before .before .before .are-buckets-ok .ensures)
     (c .before .before .are-numbers-ok .ensures)
     (c .before .is-within-bounds .ensures)
