@@ -16,6 +16,7 @@ use Rattle.journal.specs.declared.Call.{Call}
 use Rattle.journal.specs.Kinds.{letterS, letterT, letterB, letterU, letterR}
 use Rattle.store.specs.Sizes.{readingsPerLine}
 use Rattle.store_columns.specs.Shape.{isReadingKind}
+use Rattle.operator.specs.Meters.{meterCount}
 use Rattle.protocol.specs.Kinds.{Kind, kindOf, uses, isStep}
 use Rattle.protocol.specs.Node.{Line, keepsTentative}
 use Rattle.protocol.specs.Refusals.{wrongLine, isZero, unusedField, wrongMeter, wrongId, tooEarly, isHeldBack, isFull}
@@ -70,9 +71,9 @@ unused-field k {noValue} e =
     let other : Bool → Bool = λ v. not (eqb (k .id) 0 && (eqb (k .time .0) 0 && (eqb (k .meter) 0 && v))) in
     by-kind (λ s t b u r kind. cond (s || t) false (cond b (boundary noValue) (cond u (undo noValue) (other noValue))) ≡ unusedField k kind) refl refl (ap boundary (sym e)) (ap undo (sym e)) (ap other (sym e)) (ap other (sym e))
 
-pub wrong-meter : (meter letter : ℕ) → isReadingKind letter && leb 64 meter ≡ wrongMeter meter (kindOf letter)
+pub wrong-meter : (meter letter : ℕ) → isReadingKind letter && leb meterCount meter ≡ wrongMeter meter (kindOf letter)
 unfolding isReadingKind wrongMeter uses
-wrong-meter meter = by-kind (λ s t b u r kind. (s || t) && leb 64 meter ≡ wrongMeter meter kind) refl refl refl refl refl refl
+wrong-meter meter = by-kind (λ s t b u r kind. (s || t) && leb meterCount meter ≡ wrongMeter meter kind) refl refl refl refl refl refl
 
 -- ---- its line, of which the code knows these numbers
 

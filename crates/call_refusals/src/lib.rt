@@ -1,9 +1,10 @@
-// Refusals 7 to 14: what is wrong with a call that was read, whatever rule applies; and the number of 15, which asks for the rule.
+// Refusals 7 to 14: what is wrong with a call that was read, whatever rule applies.
 ghost use mathlib.Core.Path.{_≡_};
 ghost use mathlib.Core.List.{_++_};
 ghost use Prim.Native.Nat.{_+_, _-_, _*_, _≤_};
 ghost use lib.Dec.{eqb};
 ghost use lib.ListN.{length, take, getD};
+ghost use Rattle.settings.specs.Limits.{maxLines};
 ghost use Rattle.journal.specs.Kinds.{letterT};
 ghost use Rattle.store.specs.Lists.{Every, someOf};
 ghost use Rattle.store.specs.Sizes.{readingsPerLine};
@@ -12,12 +13,13 @@ ghost use Rattle.store.specs.Parts.{share};
 ghost use Rattle.store_columns.specs.Shape.{isReadingKind};
 ghost use Rattle.protocol.specs.Kinds.{Kind, kindOf, isStep};
 ghost use Rattle.protocol.specs.Node.{Line, noLine, keepsTentative};
-ghost use Rattle.protocol.specs.Refusals.{firstFailed, namedLine, wrongLine, unusedField, wrongMeter, wrongId, tooEarly, isHeldBack, isFull};
-ghost use Rattle.protocol.specs.Refusals.{callTests, lineTests};
+ghost use Rattle.protocol.specs.Refusals.{namedLine, wrongLine, unusedField, wrongMeter, wrongId, tooEarly, isHeldBack, isFull};
+ghost use Rattle.protocol.specs.Refusals.{firstFailed, callTests, lineTests};
 ghost use Rattle.node.specs.declared.State.{State as Whole};
 ghost use Rattle.node.specs.View.{headOf, view};
 ghost use Rattle.call_refusals.specs.Tests.{StandsIn};
 use clock::ArrivalTick;
+use clock::ReadingTime;
 use journal::Call;
 use node::LineHead;
 use settings::Settings;
@@ -83,10 +85,10 @@ fn is_wrong_id(head: LineHead, id: u32, kind: u8) -> bool
 }
 
 // Refusal 12: earlier than the line's boundary allows.
-fn is_too_early(head: LineHead, time: u32, kind: u8) -> bool
-    ensures { λ r. ⌜ ((l : Line) → l .boundary ≡ head .boundary → r ≡ tooEarly l time (kindOf kind)) ⌝ }
+fn is_too_early(head: LineHead, time: ReadingTime, kind: u8) -> bool
+    ensures { λ r. ⌜ ((l : Line) → l .boundary ≡ head .boundary → r ≡ tooEarly l (time .0) (kindOf kind)) ⌝ }
 {
-    (is_reading(kind) | (kind == journal::BOUNDARY)) & (time < head.boundary.0)
+    (is_reading(kind) | (kind == journal::BOUNDARY)) & (time.0 < head.boundary.0)
 }
 
 // Refusal 13: tentative readings must be undone first.
@@ -137,7 +139,8 @@ fn line_refusal(head: LineHead, kinds: &[u8], base: usize, k: Call) -> u32
     if is_wrong_id(head, k.id, k.kind) {
         return answer::WRONG_ID;
     }
-    if is_too_early(head, k.time.0, k.kind) {
+    let time = k.time;
+    if is_too_early(head, time, k.kind) {
         return answer::TOO_EARLY;
     }
     if is_held_back(head, kinds, base, k.kind) {
@@ -153,7 +156,7 @@ fn line_refusal(head: LineHead, kinds: &[u8], base: usize, k: Call) -> u32
 // looked at.
 fn named_line_refusal(heads: [LineHead; node::HEADS], kinds: &[u8], k: Call) -> u32
     requires { let i = k .line - 1 in
-        ⌜ (1 ≤ k .line) × (k .line ≤ 8) × (i * readingsPerLine + getD heads i (headOf noLine) .kept ≤ length (now kinds)) ⌝ }
+        ⌜ (1 ≤ k .line) × (k .line ≤ maxLines) × (i * readingsPerLine + getD heads i (headOf noLine) .kept ≤ length (now kinds)) ⌝ }
     ensures { λ r.
         let i = k .line - 1 in
         ⌜ ((l : Line) → StandsIn (getD heads i (headOf noLine)) (now (kinds .entry)) (i * readingsPerLine) l →
@@ -172,7 +175,7 @@ pub fn refusal(
     kinds: &[u8],
     k: Call,
 ) -> u32
-    requires { ⌜ (s .lines ≤ 8) × (s .lines * readingsPerLine ≤ length (now kinds)) ×
+    requires { ⌜ (s .lines ≤ maxLines) × (s .lines * readingsPerLine ≤ length (now kinds)) ×
         Every (λ h. h .kept ≤ readingsPerLine) (take (s .lines) heads) ⌝ }
     ensures { λ r.
         let kind : Kind = kindOf (k .kind) in

@@ -10,8 +10,8 @@ is-reading-requires c κs = search needs
 returns : tie.Need-returns
 returns c =
     λ l e.
-    let a = c .before .before .args in
-    rw (c .before .is-reading .ensures) (too-early l e (a .time) (a .kind))
+    let a = c .before .before .before .args in
+    rw (c .before .before .is-reading .ensures) (too-early l e (a .time .0) (a .kind))
 
 pub is-too-early-spec : {M : Type 1} → statement M
 is-too-early-spec = tie.close (tie.spec is-reading-requires returns)
