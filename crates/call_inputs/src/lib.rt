@@ -5,11 +5,11 @@ ghost use Prim.Native.Nat.{_+_, _≤_, _<_};
 ghost use lib.Dec.{eqb};
 ghost use Rattle.journal.specs.Kinds.{letterS, letterB};
 ghost use Rattle.store.specs.Sizes.{readingsPerLine};
-ghost use Rattle.store.specs.Columns.{columnsOf, storeLength, rowsFrom};
+ghost use Rattle.store.specs.Columns.{Columns, columnsOf, storeLength, rowsFrom};
 ghost use Rattle.store.specs.Parts.{withKept, share};
 ghost use Rattle.store_columns.specs.Shape.{rises};
 ghost use Rattle.protocol.specs.Kinds.{kindOf};
-ghost use Rattle.protocol.specs.Node.{onLine, readingOf};
+ghost use Rattle.protocol.specs.Node.{Line, onLine, readingOf};
 ghost use Rattle.protocol.specs.Refusals.{isFull};
 ghost use Rattle.node.specs.View.{viewLine, headOf};
 use journal::Call;
@@ -35,7 +35,9 @@ fn reading_of(k: Call) -> Reading
 // The head of a line that keeps one reading more, this call's.
 fn head_with(head: LineHead, k: Call) -> LineHead
     requires { ⌜ head .kept < readingsPerLine ⌝ }
-    ensures { λ r. ⌜ r ≡ record { boundary = head .boundary; «last_id» = k .id; «last_stable_id» = cond (eqb (k .kind) letterS) (k .id) (head .«last_stable_id»); kept = head .kept + 1 } ⌝ }
+    ensures { λ r.
+        let stable = cond (eqb (k .kind) letterS) (k .id) (head .«last_stable_id») in
+        ⌜ r ≡ record { boundary = head .boundary; «last_id» = k .id; «last_stable_id» = stable; kept = head .kept + 1 } ⌝ }
 {
     let mut next = head;
     next.last_id = k.id;
@@ -49,7 +51,8 @@ fn head_with(head: LineHead, k: Call) -> LineHead
 // The head of a line of which an undo to this id left `kept` readings.
 fn head_cut(head: LineHead, id: u32, kept: usize) -> LineHead
     requires { ⌜ kept ≤ readingsPerLine ⌝ }
-    ensures { λ r. ⌜ r ≡ record { boundary = head .boundary; «last_id» = id; «last_stable_id» = head .«last_stable_id»; kept = kept } ⌝ }
+    ensures { λ r.
+        ⌜ r ≡ record { boundary = head .boundary; «last_id» = id; «last_stable_id» = head .«last_stable_id»; kept = kept } ⌝ }
 {
     let mut next = head;
     next.last_id = id;
@@ -59,7 +62,9 @@ fn head_cut(head: LineHead, id: u32, kept: usize) -> LineHead
 
 // The head of a line after an input that leaves its readings: a boundary's time is its new boundary.
 fn head_at(head: LineHead, k: Call) -> LineHead
-    ensures { λ r. ⌜ r ≡ record { boundary = cond (eqb (k .kind) letterB) (k .time) (head .boundary); «last_id» = head .«last_id»; «last_stable_id» = head .«last_stable_id»; kept = head .kept } ⌝ }
+    ensures { λ r.
+        let boundary = cond (eqb (k .kind) letterB) (k .time) (head .boundary) in
+        ⌜ r ≡ record { boundary = boundary; «last_id» = head .«last_id»; «last_stable_id» = head .«last_stable_id»; kept = head .kept } ⌝ }
 {
     let mut next = head;
     if k.kind == journal::BOUNDARY {
@@ -81,9 +86,19 @@ pub fn input(
     base: usize,
     k: Call,
 ) -> LineHead
-    requires { ⌜ (base + readingsPerLine ≤ storeLength (columnsOf (now ids) (now times) (now values) (now arrivals) (now kinds) (now meters))) × (head .kept ≤ readingsPerLine) × (isFull (viewLine head (rowsFrom (columnsOf (now ids) (now times) (now values) (now arrivals) (now kinds) (now meters)) base readingsPerLine)) (kindOf (k .kind)) ≡ false) × (rises (share base (head .kept) (now ids)) ≡ true) ⌝ }
-    ensures { λ r. ⌜ r ≡ headOf (onLine k (kindOf (k .kind)) (viewLine head (rowsFrom (columnsOf (now (ids .entry)) (now (times .entry)) (now (values .entry)) (now (arrivals .entry)) (now (kinds .entry)) (now (meters .entry))) base readingsPerLine))) ⌝ }
-    ensures { λ _. ⌜ columnsOf (now (ids .exit)) (now (times .exit)) (now (values .exit)) (now (arrivals .exit)) (now (kinds .exit)) (now (meters .exit)) ≡ withKept (columnsOf (now (ids .entry)) (now (times .entry)) (now (values .entry)) (now (arrivals .entry)) (now (kinds .entry)) (now (meters .entry))) base (head .kept) (onLine k (kindOf (k .kind)) (viewLine head (rowsFrom (columnsOf (now (ids .entry)) (now (times .entry)) (now (values .entry)) (now (arrivals .entry)) (now (kinds .entry)) (now (meters .entry))) base readingsPerLine)) .kept) ⌝ }
+    requires { let x : Columns = columnsOf (now ids) (now times) (now values) (now arrivals) (now kinds) (now meters) in
+        let line : Line = viewLine head (rowsFrom x base readingsPerLine) in
+        ⌜ (base + readingsPerLine ≤ storeLength x) × (head .kept ≤ readingsPerLine) × (isFull line (kindOf (k .kind)) ≡ false) ×
+        (rises (share base (head .kept) (now ids)) ≡ true) ⌝ }
+    ensures { λ r.
+        let before : Columns =
+        columnsOf (now (ids .entry)) (now (times .entry)) (now (values .entry)) (now (arrivals .entry)) (now (kinds .entry))
+        (now (meters .entry)) in
+        let after : Columns =
+        columnsOf (now (ids .exit)) (now (times .exit)) (now (values .exit)) (now (arrivals .exit)) (now (kinds .exit))
+        (now (meters .exit)) in
+        let line : Line = onLine k (kindOf (k .kind)) (viewLine head (rowsFrom before base readingsPerLine)) in
+        ⌜ (r ≡ headOf line) × (after ≡ withKept before base (head .kept) (line .kept)) ⌝ }
 {
     let kept = head.kept as usize;
     if (k.kind == journal::STABLE) | (k.kind == journal::TENTATIVE) {
