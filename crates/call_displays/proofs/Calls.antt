@@ -6,6 +6,7 @@ use native.Mathlib.Omega.{arith}
 use borrow.Author.Tests.{ne-eqb}
 use lib.ListN.{take, set}
 use Rattle.area.specs.Laid.{inFront}
+use Rattle.settings.specs.Limits.{maxDisplays}
 use Rattle.record.specs.Layout.{allBytes}
 use Rattle.retransmission.specs.Sizes.{fetchLimit}
 use Rattle.retransmission.specs.Places.{placesOf, withPlaces, givenUp, heldBehind}
@@ -24,7 +25,7 @@ use Rattle.node.proofs.Displays.{accepts-acknowledgement, acknowledged-view, ac
 -- what is known of a state that passed the host's tests
 pub record Ready (st : State) : Type 0 where
   pub some : 1 ≤ st .settings .displays
-  pub few : st .settings .displays ≤ 4
+  pub few : st .settings .displays ≤ maxDisplays
   pub newest : st .checkpoint .number + 1 < 2 ^ 64
 
 pub ready : (st : State) (x : Lent) (area : List ℕ) → HostPassed st x area → Ready st

@@ -4,10 +4,12 @@ ghost use mathlib.Core.Path.{_≡_};
 ghost use Prim.Native.Nat.{_+_, _^_, _≤_, _<_};
 ghost use lib.ListN.{take};
 ghost use Rattle.settings.specs.declared.Settings.{Settings};
-ghost use Rattle.store.specs.Columns.{columnsOf};
+ghost use Rattle.settings.specs.Limits.{maxDisplays};
+ghost use Rattle.store.specs.Columns.{Columns, columnsOf};
 ghost use Rattle.protocol.specs.Node.{Node};
 ghost use Rattle.protocol.specs.Displays.{givenUpTo, newestStable, answerToAcknowledgement, answerToFetch};
-ghost use Rattle.node.specs.View.{lentOf};
+ghost use Rattle.node.specs.View.{Lent, lentOf};
+ghost use Rattle.node.specs.Calls.{calledOf};
 ghost use Rattle.node.specs.Displays.{acknowledgedOn, fetchedOn};
 use node::CallReply;
 use node::State;
@@ -20,7 +22,7 @@ fn acknowledgement_answer(
     display: u32,
     id: u64,
 ) -> u32
-    requires { ⌜ displays ≤ 4 ⌝ }
+    requires { ⌜ displays ≤ maxDisplays ⌝ }
     ensures { λ r. ⌜ (
         (s : Settings) (n : Node) →
         s .displays ≡ displays →
@@ -76,15 +78,11 @@ pub fn acknowledge(
     area: &[u8],
 ) -> CallReply
     ensures { λ r.
-        let readings = columnsOf (now (ids .entry)) (now (times .entry)) (now (values .entry))
-        (now (arrivals .entry)) (now (kinds .entry)) (now (meters .entry)) in
-        ⌜ record {
-          answer = r .answer;
-          records = r .records;
-          state = r .state;
-          lent = lentOf readings (now (sent .exit));
-          area = now (area .entry);
-        } ≡ acknowledgedOn state (lentOf readings (now (sent .entry))) display id (now (area .entry)) ⌝ }
+        let readings : Columns =
+        columnsOf (now (ids .entry)) (now (times .entry)) (now (values .entry)) (now (arrivals .entry)) (now (kinds .entry))
+        (now (meters .entry)) in
+        ⌜ calledOf r (lentOf readings (now (sent .exit))) (now (area .entry)) ≡
+        acknowledgedOn state (lentOf readings (now (sent .entry))) display id (now (area .entry)) ⌝ }
 {
     let host = call_shape::host_refusal(
         state,
@@ -98,22 +96,14 @@ pub fn acknowledge(
         area.len(),
     );
     if host != 0 {
-        return CallReply {
-            state: state,
-            records: 0,
-            answer: host,
-        };
+        return node::refused(state, host);
     }
     let settings = state.settings;
     let checkpoint = state.checkpoint;
     let before = state.acknowledged;
     let answer = acknowledgement_answer(before, settings.displays, checkpoint.number, display, id);
     if answer != 0 {
-        return CallReply {
-            state: state,
-            records: 0,
-            answer: answer,
-        };
+        return node::refused(state, answer);
     }
     let mut next = state;
     next.acknowledged[display as usize - 1] = id;
@@ -144,16 +134,12 @@ pub fn fetch(
     area: &mut [u8],
 ) -> CallReply
     ensures { λ r.
-        let readings = columnsOf (now (ids .entry)) (now (times .entry)) (now (values .entry))
-        (now (arrivals .entry)) (now (kinds .entry)) (now (meters .entry)) in
-        let lent = lentOf readings (now (sent .entry)) in
-        ⌜ record {
-          answer = r .answer;
-          records = r .records;
-          state = r .state;
-          lent = lent;
-          area = now (area .exit);
-        } ≡ fetchedOn state lent display from (now (area .entry)) ⌝ }
+        let x : Lent =
+        lentOf
+        (columnsOf (now (ids .entry)) (now (times .entry)) (now (values .entry)) (now (arrivals .entry)) (now (kinds .entry))
+        (now (meters .entry)))
+        (now (sent .entry)) in
+        ⌜ calledOf r x (now (area .exit)) ≡ fetchedOn state x display from (now (area .entry)) ⌝ }
 {
     let host = call_shape::host_refusal(
         state,
@@ -167,11 +153,7 @@ pub fn fetch(
         area.len(),
     );
     if host != 0 {
-        return CallReply {
-            state: state,
-            records: 0,
-            answer: host,
-        };
+        return node::refused(state, host);
     }
     let settings = state.settings;
     let stable = state.checkpoint;
@@ -181,11 +163,7 @@ pub fn fetch(
     let least = call_acknowledgements::least(acknowledged, displays);
     let answer = fetch_answer(least, settings.displays, newest, display, from);
     if answer != 0 {
-        return CallReply {
-            state: state,
-            records: 0,
-            answer: answer,
-        };
+        return node::refused(state, answer);
     }
     let mut n = newest + 1 - from;
     if retransmission::FETCH_LIMIT < n {

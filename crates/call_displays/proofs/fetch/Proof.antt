@@ -1,6 +1,6 @@
 -- `call_displays::fetch` meets its contract: each way out is the law of what was refused first, or of what is laid down.
 use Prim.Native.Nat.{ℕ, _+_, _-_, _≤_, min}
-use mathlib.Core.Path.{_≡_, refl, sym, _∙_}
+use mathlib.Core.Path.{_≡_, refl, sym, _∙_, ap}
 use mathlib.Core.Logic.{⊎-elim}
 use native.Mathlib.Omega.{arith}
 use borrow.Author.Needs.{needs}
@@ -10,7 +10,8 @@ use Rattle.protocol.specs.Tests.{firstFailed}
 use Rattle.protocol.specs.Displays.{givenUpTo, answerToFetch}
 use Rattle.protocol.proofs.Displays.{fetch-fits}
 use Rattle.node.specs.View.{Lent, lentOf, view}
-use Rattle.node.specs.Calls.{hostTests}
+use Rattle.node.specs.declared.CallReply.{CallReply}
+use Rattle.node.specs.Calls.{calledOf, hostTests}
 use Rattle.node.proofs.Calls.{HostPassed, host-passed}
 use Rattle.call_displays.proofs.Calls.{Ready, ready, fetch-host-refused, fetch-refused, fetch-done}
 use Rattle.call_displays.proofs.fetch.Statement.{statement}
@@ -41,9 +42,16 @@ passed e = let s = entry e in host-passed (s .args .state) (lent s) (s .args .ar
 within : (e : tie.Else1) → Ready (entry e .args .state)
 within e = let s = entry e in ready (s .args .state) (lent s) (s .args .area .now) (passed e)
 
+-- the least id, once it is known
+abbrev seen : tie.After-struct-known → tie.Else1
+seen k = k .before .before .before .before
+
+abbrev counted : tie.After-least → tie.Else1
+counted l = seen (l .before)
+
 -- the call's own tests, once they are made
 abbrev past : tie.After-fetch-answer → tie.Else1
-past a = a .before .before .before .before .before .before
+past a = counted (a .before)
 
 abbrev own : tie.Start → ℕ
 own s = let a = s .args in answerToFetch (a .state .settings) (view (a .state) (lent s .readings)) (a .display) (a .from)
@@ -87,31 +95,48 @@ count j =
     (λ w. w .1 ∙ (let z : left ≡ min fetchLimit left = omega (arith, w .0 .left) in z))
     (j .if3 .came)
 
+-- the records that it lays down
+abbrev asking : tie.After-copy-out-arg → tie.Joined3
+asking a = a .before .before
+
+abbrev laid : tie.After-slice-known2 → tie.After-copy-out
+laid c = c .before .before
+
 -- ---- the needs
 
 host-refusal-requires : tie.Need-host-refusal-requires
 host-refusal-requires c κs = search needs
 
+refused-requires : tie.Need-refused-requires
+refused-requires c κs = search needs
+
 returns : tie.Need-returns
 returns c =
-    let s = asked (c .before) in
-    fetch-host-refused (s .args .state) (lent s) (s .args .area .now) (s .args .display) (s .args .from) (host (c .before)) (c .if1 .taken)
+    let t = c .before in
+    let s = asked (t .before) in
+    ap (λ (r : CallReply). calledOf r (lent s) (s .args .area .now)) (c .refused .ensures) ∙
+    fetch-host-refused (s .args .state) (lent s) (s .args .area .now) (s .args .display) (s .args .from) (host (t .before)) (t .if1 .taken)
 
 cast-displays : tie.Need-cast-displays
 cast-displays c = search needs
 
 least-requires : tie.Need-least-requires
-least-requires c κs = let r = within (c .before .before .before .before) in omega (arith, r .some, r .few)
+least-requires c κs = let r = within (seen c) in (r .some, r .few)
 
 fetch-answer-requires : tie.Need-fetch-answer-requires
-fetch-answer-requires c κs = within (c .before .before .before .before .before) .newest
+fetch-answer-requires c κs = within (counted c) .newest
+
+refused-requires-2 : tie.Need-refused-requires-2
+refused-requires-2 c κs = search needs
 
 returns-2 : tie.Need-returns-2
 returns-2 c =
-    let e = past (c .before) in
+    let t = c .before in
+    let e = past (t .before) in
     let s = entry e in
-    fetch-refused (s .args .state) (lent s) (s .args .area .now) (s .args .display) (s .args .from) (passed e) (answered (c .before))
-    (c .if2 .taken)
+    ap (λ (r : CallReply). calledOf r (lent s) (s .args .area .now)) (c .refused2 .ensures) ∙
+    fetch-refused (s .args .state) (lent s) (s .args .area .now) (s .args .display) (s .args .from) (passed e) (answered (t .before))
+    (t .if2 .taken)
 
 add-n : tie.Need-add-n
 add-n c = omega (arith, within (past (c .before)) .newest)
@@ -127,29 +152,31 @@ sub-copy-out c = fits (c .before .before) .some
 
 copy-out-requires : tie.Need-copy-out-requires
 copy-out-requires c κs =
-    let j = c .before .before in
+    let j = asking c in
     let h = passed (past (j .before .before)) in
     (h .sent, omega (arith, count j, h .bytes), omega (arith, count j, fits (j .before) .near, within (past (j .before .before)) .newest))
 
 same-length : tie.Need-same-length
-same-length c = search needs
+same-length c = laid c .copy-out .kept .1 .1 .1 .0
 
 returns-3 : tie.Need-returns-3
 returns-3 c =
-    let j = c .before .before .before .before .before in
+    let j = asking (laid c .before) in
     let s = whole j in
     fetch-done (s .args .state) (lent s) (s .args .area .now) (s .args .display) (s .args .from) (passed (past (j .before .before)))
-    (accepted (j .before)) (count j) (c .before .before .copy-out .ensures)
+    (accepted (j .before)) (count j) (laid c .copy-out .ensures)
 
 pub fetch-spec : {M : Type 1} → statement M
 fetch-spec =
     tie.close
     (tie.spec
     host-refusal-requires
+    refused-requires
     returns
     cast-displays
     least-requires
     fetch-answer-requires
+    refused-requires-2
     returns-2
     add-n
     sub-n
