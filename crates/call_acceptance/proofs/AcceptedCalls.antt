@@ -24,11 +24,10 @@ use Rattle.store.proofs.Pairs.{every-index}
 use Rattle.store.proofs.Columns.{length-rowsFrom, take-rows}
 use Rattle.store_columns.specs.Shape.{rises}
 use Rattle.store_columns.proofs.Rows.{ids-share}
-use Rattle.retransmission.specs.Places.{placesOf, withPlaces, holding}
+use Rattle.retransmission.specs.Places.{holding}
 use Rattle.retransmission.proofs.Stores.{with-same}
 use Rattle.protocol.specs.Kinds.{Kind, kindOf, uses, isStep}
 use Rattle.protocol.specs.Node.{Line, Node, noLine, onLine}
-use Rattle.protocol.specs.declared.Rule.{Rule}
 use Rattle.protocol.specs.Rules.{Outcome, ruleOf, act}
 use Rattle.protocol.specs.Refusals.{firstFailed, namedLine, wrongLine, isFull, answerTo}
 use Rattle.protocol.specs.Calls.{input, done, accepted}
@@ -38,7 +37,7 @@ use Rattle.protocol.proofs.Acceptance.{accepted-is-done}
 use Rattle.node.specs.declared.LineHead.{LineHead}
 use Rattle.node.specs.declared.State.{State}
 use Rattle.node.specs.View.{Lent, lentOf, viewLine, places, view, headOf, putState, putColumns}
-use Rattle.node.specs.Calls.{Called, hostTests, putLent, calledWith}
+use Rattle.node.specs.Calls.{Called, hostTests, putLent, laidOutcome, calledWith}
 use Rattle.node.proofs.Limits.{limits-hold}
 use Rattle.node.proofs.Shares.{SmallLine}
 use Rattle.node.proofs.View.{Fits, view-sized}
@@ -46,7 +45,6 @@ use Rattle.node.proofs.Shape.{Rising, KeptShape, StateShape, state-facts, state
 use Rattle.node.proofs.Outcomes.{onLine-small}
 use Rattle.node.proofs.Calls.{HostPassed, host-passed}
 use Rattle.node.proofs.OneLine.{line-of, head-small, heads-line, putColumns-line}
-use Rattle.step_outcome.specs.Done.{RuleDone}
 use Rattle.step_corrections.proofs.LinesStay.{Kept, fits, acknowledged-stay}
 
 -- ---- step or input
@@ -113,16 +111,10 @@ withHead st i head =
       acknowledged = st .acknowledged;
     }
 
--- an outcome laid down, and the clock set
-abbrev laidAt : State → Lent → List ℕ → ArrivalTick → Outcome → Called
-laidAt st x area now o =
-    record {
-      answer = 0;
-      records = length (o .records);
-      state = atTick (putState st (o .node)) now;
-      lent = putLent st x o;
-      area = inFront (allBytes (o .records)) area;
-    }
+-- what a call leaves, with the clock set
+abbrev setClock : ArrivalTick → Called → Called
+setClock now r =
+    record { answer = r .answer; records = r .records; state = atTick (r .state) now; lent = r .lent; area = r .area }
 
 module _ (st : State) (x : Lent) (area : List ℕ) (k : Call) (ok : answerTo (st .settings) (view st (x .readings)) k ≡ 0) where
   abbrev node : Node
@@ -130,32 +122,19 @@ module _ (st : State) (x : Lent) (area : List ℕ) (k : Call) (ok : answerTo (st
 
   called-laid :
       (o : Outcome) → done (st .settings) node k (kindOf (k .kind)) ≡ o →
-      calledWith st x area (CallRead.Accepted k) ≡ laidAt st x area (k .now) o
+      calledWith st x area (CallRead.Accepted k) ≡ setClock (k .now) (laidOutcome st x area o)
   unfolding calledWith accepted putState putColumns putLent
   called-laid o e = rw (eq-eqb (answerTo (st .settings) node k) 0 ok, accepted-is-done (st .settings) node k ok, e)
 
-  abbrev rule : Rule
-  rule = ruleOf (st .settings) node (k .now)
+  abbrev stepped : Outcome
+  stepped = act (st .settings) node (ruleOf (st .settings) node (k .now))
 
-  -- what the functions of a step and of the results held ensure is what the call leaves
+  -- a step laid down is what the call leaves, but for the clock
   pub step-laid :
-      k .line ≡ 0 → {next : State} {n : ℕ} {y : Columns} {sent bytes : List ℕ} → RuleDone rule st (x .readings) area next y bytes n →
-      sent ≡ withPlaces (x .sent) (holding (placesOf (x .sent)) (act (st .settings) node rule .records)) →
-      record { answer = 0; records = n; state = atTick next (k .now); lent = lentOf y sent; area = bytes } ≡
-      calledWith st x area (CallRead.Accepted k)
-  unfolding putLent
-  step-laid z acted held =
-      (λ t.
-      record {
-        answer = 0;
-        records = acted .count t;
-        state = atTick (acted .state t) (k .now);
-        lent = lentOf (acted .columns t) (held t);
-        area = acted .bytes t;
-      }) ∙
-      sym
-      (called-laid (act (st .settings) node rule)
-      (step-done (st .settings) node k (kindOf (k .kind)) (line-passed (st .settings) node k ok) z))
+      k .line ≡ 0 → {r : Called} → r ≡ laidOutcome st x area stepped → setClock (k .now) r ≡ calledWith st x area (CallRead.Accepted k)
+  step-laid z laid =
+      ap (setClock (k .now)) laid ∙
+      sym (called-laid stepped (step-done (st .settings) node k (kindOf (k .kind)) (line-passed (st .settings) node k ok) z))
 
 -- ---- an input
 
@@ -196,9 +175,8 @@ module _
   line-last : k .line - 1 < st .settings .lines
   line-last = omega (arith, on-line .0)
 
-  pub line-below : k .line - 1 < 8
-  line-below =
-      omega (arith, line-last, limits-hold (st .settings) (shape .limits) .lines)
+  pub line-below : k .line - 1 < maxLines
+  line-below = omega (arith, line-last, limits-hold (st .settings) (shape .limits) .lines)
 
   abbrev head : LineHead
   head = getD (st .heads) (k .line - 1) (headOf noLine)

@@ -1,13 +1,12 @@
 // What an accepted call does: a step, or an input on the line that it names.
 ghost use mathlib.Core.Path.{_≡_};
 ghost use Rattle.journal.specs.declared.CallRead.the-variants as Read;
-ghost use Rattle.store.specs.Columns.{Columns, columnsOf};
-ghost use Rattle.retransmission.specs.Places.{placesOf, withPlaces, holding};
+ghost use Rattle.store.specs.Columns.{columnsOf};
+ghost use Rattle.protocol.specs.Node.{Node};
 ghost use Rattle.protocol.specs.Rules.{ruleOf, act};
 ghost use Rattle.protocol.specs.Refusals.{firstFailed, answerTo};
 ghost use Rattle.node.specs.View.{Lent, lentOf, view};
-ghost use Rattle.node.specs.Calls.{hostTests, calledWith};
-ghost use Rattle.step_outcome.specs.Done.{RuleDone};
+ghost use Rattle.node.specs.Calls.{calledOf, hostTests, laidOutcome, calledWith};
 use clock::ArrivalTick;
 use journal::Call;
 use node::CallReply;
@@ -27,19 +26,23 @@ fn step_and_hold(
     tick: ArrivalTick,
     area: &mut [u8],
 ) -> StepOutcome
-    requires { ⌜ (let x : Columns = columnsOf (now ids) (now times) (now values) (now arrivals) (now kinds) (now meters) in
-        firstFailed (hostTests state (lentOf x (now sent)) (now area)) ≡ 0) ⌝ }
-    ensures { λ r. ⌜ (let x : Columns = columnsOf (now (ids .entry)) (now (times .entry)) (now (values .entry)) (now (arrivals .entry))
-        (now (kinds .entry)) (now (meters .entry)) in
-        let x′ : Columns = columnsOf (now (ids .exit)) (now (times .exit)) (now (values .exit)) (now (arrivals .exit))
-        (now (kinds .exit)) (now (meters .exit)) in
-        RuleDone (ruleOf (state .settings) (view state x) tick) state x (now (area .entry)) (r .state) x′ (now (area .exit)) (r .records)) ⌝ }
-    ensures { λ _. ⌜ (let x : Columns = columnsOf (now (ids .entry)) (now (times .entry)) (now (values .entry)) (now (arrivals .entry))
-        (now (kinds .entry)) (now (meters .entry)) in
-        now (sent .exit) ≡
-        withPlaces (now (sent .entry))
-        (holding (placesOf (now (sent .entry)))
-        (act (state .settings) (view state x) (ruleOf (state .settings) (view state x) tick) .records))) ⌝ }
+    requires { let x : Lent =
+        lentOf (columnsOf (now ids) (now times) (now values) (now arrivals) (now kinds) (now meters)) (now sent) in
+        ⌜ firstFailed (hostTests state x (now area)) ≡ 0 ⌝ }
+    ensures { λ r.
+        let before : Lent =
+        lentOf
+        (columnsOf (now (ids .entry)) (now (times .entry)) (now (values .entry)) (now (arrivals .entry)) (now (kinds .entry))
+        (now (meters .entry)))
+        (now (sent .entry)) in
+        let after : Lent =
+        lentOf
+        (columnsOf (now (ids .exit)) (now (times .exit)) (now (values .exit)) (now (arrivals .exit)) (now (kinds .exit))
+        (now (meters .exit)))
+        (now (sent .exit)) in
+        let n : Node = view state (before .readings) in
+        ⌜ record { answer = 0; records = r .records; state = r .state; lent = after; area = now (area .exit) } ≡
+        laidOutcome state before (now (area .entry)) (act (state .settings) n (ruleOf (state .settings) n tick)) ⌝ }
 {
     let old = state.checkpoint;
     let done = step::step(
@@ -72,14 +75,21 @@ pub fn accept(
     area: &mut [u8],
     k: Call,
 ) -> CallReply
-    requires { ⌜ (let x : Columns = columnsOf (now ids) (now times) (now values) (now arrivals) (now kinds) (now meters) in
-        (firstFailed (hostTests state (lentOf x (now sent)) (now area)) ≡ 0) × (answerTo (state .settings) (view state x) k ≡ 0)) ⌝ }
-    ensures { λ r. ⌜ (let x : Lent = lentOf (columnsOf (now (ids .entry)) (now (times .entry)) (now (values .entry)) (now (arrivals .entry))
-        (now (kinds .entry)) (now (meters .entry))) (now (sent .entry)) in
-        let x′ : Lent = lentOf (columnsOf (now (ids .exit)) (now (times .exit)) (now (values .exit)) (now (arrivals .exit))
-        (now (kinds .exit)) (now (meters .exit))) (now (sent .exit)) in
-        record { answer = r .answer; records = r .records; state = r .state; lent = x′; area = now (area .exit) } ≡
-        calledWith state x (now (area .entry)) (Read.Accepted k)) ⌝ }
+    requires { let x : Lent =
+        lentOf (columnsOf (now ids) (now times) (now values) (now arrivals) (now kinds) (now meters)) (now sent) in
+        ⌜ (firstFailed (hostTests state x (now area)) ≡ 0) × (answerTo (state .settings) (view state (x .readings)) k ≡ 0) ⌝ }
+    ensures { λ r.
+        let before : Lent =
+        lentOf
+        (columnsOf (now (ids .entry)) (now (times .entry)) (now (values .entry)) (now (arrivals .entry)) (now (kinds .entry))
+        (now (meters .entry)))
+        (now (sent .entry)) in
+        let after : Lent =
+        lentOf
+        (columnsOf (now (ids .exit)) (now (times .exit)) (now (values .exit)) (now (arrivals .exit)) (now (kinds .exit))
+        (now (meters .exit)))
+        (now (sent .exit)) in
+        ⌜ calledOf r after (now (area .exit)) ≡ calledWith state before (now (area .entry)) (Read.Accepted k) ⌝ }
 {
     let now = k.now;
     if k.line == 0 {

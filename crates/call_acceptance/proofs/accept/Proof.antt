@@ -12,15 +12,15 @@ use Rattle.call_acceptance.proofs.AcceptedCalls.{step-laid, line-below,
 use Rattle.call_acceptance.proofs.accept.Statement.{statement}
 use Rattle.call_acceptance.proofs.accept.Tie as tie
 
--- ---- what is known at the places on the way
+-- ---- what is known at the places on the way; each place names the one that it goes back to
 
--- the columns as they are lent
-abbrev store : tie.Start → Columns
-store s =
-    columnsOf (s .args .ids .now) (s .args .times .now) (s .args .values .now) (s .args .arrivals .now) (s .args .kinds .now) (s .args .meters .now)
-
+-- what is lent
 abbrev lent : tie.Start → Lent
-lent s = lentOf (store s) (s .args .sent .now)
+lent s =
+    lentOf
+    (columnsOf (s .args .ids .now) (s .args .times .now) (s .args .values .now) (s .args .arrivals .now) (s .args .kinds .now)
+    (s .args .meters .now))
+    (s .args .sent .now)
 
 -- the entry, from where the line's number is tested
 abbrev entry : tie.After-struct-known → tie.Start
@@ -33,24 +33,38 @@ heads s = let owned = s .good .0 .1 .1 .1 .1 .0 in search (needs, length-mapped)
 displays : (s : tie.Start) → length (s .args .state .acknowledged) ≡ maxDisplays
 displays s = let owned = s .good .0 .1 .1 .1 .1 .1 .1 .1 .1 in search (needs, length-mapped)
 
+-- the step, once it is done
+abbrev stepping : tie.After-step-and-hold → tie.Then1
+stepping d = d .before .before .before .before .before .before .before .before .before
+
+abbrev stepped : tie.After-next → tie.After-step-and-hold
+stepped c = c .before .before .before .before .before .before .before .before .before .before .before .before .before .before .before .before
+
 -- the line that is named has a head
-below : (e : tie.Else1) → entry (e .before) .args .k .line - 1 < 8
+below : (e : tie.Else1) → entry (e .before) .args .k .line - 1 < maxLines
 below e =
     let s = entry (e .before) in
     line-below (s .args .state) (lent s) (s .args .area .now) (s .args .k) (s .pre .1) (s .pre .0) (e .if1 .left)
+
+-- the input, once it is taken in
+abbrev named : tie.After-struct-known2 → tie.Else1
+named i = i .before
+
+abbrev asking : tie.After-input-arg6 → tie.Else1
+asking a = named (a .before .before .before .before .before .before .before)
+
+abbrev taken : tie.After-slice-known19 → tie.After-input
+taken c = c .before .before .before .before .before .before .before .before .before .before .before
+
+abbrev takenStore : tie.After-input → Columns
+takenStore d =
+    columnsOf (d .input .last .1 .0) (d .input .last .1 .1 .0) (d .input .last .1 .1 .1 .0) (d .input .last .1 .1 .1 .1 .0)
+    (d .input .last .1 .1 .1 .1 .1 .0) (d .input .last .1 .1 .1 .1 .1 .1 .0)
 
 -- ---- the needs
 
 step-and-hold-requires : tie.Need-step-and-hold-requires
 step-and-hold-requires c κs = search needs
-
--- the step, once it is done
-abbrev stepped : tie.After-next → tie.After-step-and-hold
-stepped c = c .before .before .before .before .before .before .before .before .before .before .before .before .before .before .before .before
-
-abbrev steppedStore : tie.After-step-and-hold → Columns
-steppedStore d =
-    columnsOf (d .step-and-hold .last .1 .0) (d .step-and-hold .last .1 .1 .0) (d .step-and-hold .last .1 .1 .1 .0) (d .step-and-hold .last .1 .1 .1 .1 .0) (d .step-and-hold .last .1 .1 .1 .1 .1 .0) (d .step-and-hold .last .1 .1 .1 .1 .1 .1 .0)
 
 same-length : tie.Need-same-length
 same-length c = stepped c .step-and-hold .kept .1 .0
@@ -79,10 +93,9 @@ same-length-8 c = stepped c .step-and-hold .kept .1 .1 .1 .1 .1 .1 .1 .1 .1 .0
 returns : tie.Need-returns
 returns c =
     let done = stepped c in
-    let t = done .before .before .before .before .before .before .before .before .before in
+    let t = stepping done in
     let s = entry (t .before) in
-    step-laid (s .args .state) (lent s) (s .args .area .now) (s .args .k) (s .pre .1) (t .if1 .taken) {y = steppedStore done}
-    (done .step-and-hold .ensures .0) (done .step-and-hold .ensures .1)
+    step-laid (s .args .state) (lent s) (s .args .area .now) (s .args .k) (s .pre .1) (t .if1 .taken) (done .step-and-hold .ensures)
 
 cast-i : tie.Need-cast-i
 cast-i c = search needs
@@ -97,28 +110,20 @@ mul-head : tie.Need-mul-head
 mul-head c = search needs
 
 element-copy-out-head : tie.Need-element-copy-out-head
-element-copy-out-head c = below (c .before)
+element-copy-out-head c = below (named c)
 
 input-requires : tie.Need-input-requires
 unfolding headOf noLine
 input-requires c κs =
-    let e = c .before .before .before .before .before .before .before .before in
+    let e = asking c in
     let s = entry (e .before) in
     input-ready (s .args .state) (lent s) (s .args .area .now) (s .args .k) (s .pre .1) (s .pre .0) (e .if1 .left) (heads s) (displays s)
 
 mul-after : tie.Need-mul-after
 mul-after c = search needs
 
--- the input, once it is taken in
-abbrev taken : tie.After-slice-known19 → tie.After-input
-taken c = c .before .before .before .before .before .before .before .before .before .before .before
-
 element-set-from-after : tie.Need-element-set-from-after
-element-set-from-after c = below (taken c .before .before .before .before .before .before .before .before .before)
-
-abbrev takenStore : tie.After-input → Columns
-takenStore d =
-    columnsOf (d .input .last .1 .0) (d .input .last .1 .1 .0) (d .input .last .1 .1 .1 .0) (d .input .last .1 .1 .1 .1 .0) (d .input .last .1 .1 .1 .1 .1 .0) (d .input .last .1 .1 .1 .1 .1 .1 .0)
+element-set-from-after c = below (asking (taken c .before))
 
 same-length-9 : tie.Need-same-length-9
 same-length-9 c = taken c .input .kept .1 .0
@@ -142,9 +147,10 @@ returns-2 : tie.Need-returns-2
 unfolding headOf noLine
 returns-2 c =
     let done = taken c in
-    let e = done .before .before .before .before .before .before .before .before .before in
+    let e = asking (done .before) in
     let s = entry (e .before) in
-    input-laid (s .args .state) (lent s) (s .args .area .now) (s .args .k) (s .pre .1) (s .pre .0) (e .if1 .left) (heads s) (displays s) {y = takenStore done} (done .input .ensures .0) (done .input .ensures .1)
+    input-laid (s .args .state) (lent s) (s .args .area .now) (s .args .k) (s .pre .1) (s .pre .0) (e .if1 .left) (heads s) (displays s)
+    {y = takenStore done} (done .input .ensures .0) (done .input .ensures .1)
 
 pub accept-spec : {M : Type 1} → statement M
 accept-spec =

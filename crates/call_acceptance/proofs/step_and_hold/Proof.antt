@@ -8,13 +8,14 @@ use Rattle.store.specs.Columns.{Columns, columnsOf}
 use Rattle.operator.specs.Meters.{meterCount}
 use Rattle.operator.proofs.FromPlace.{length-mapped}
 use Rattle.node.specs.View.{lentOf}
+use Rattle.node.specs.Calls.{putLent}
 use Rattle.node.proofs.Shape.{StateShape, state-facts, state-in-shape}
 use Rattle.node.proofs.Calls.{HostPassed, host-passed}
 use Rattle.call_acceptance.proofs.Held.{stables, number-moves, results-fit, results-held}
 use Rattle.call_acceptance.proofs.step_and_hold.Statement.{statement}
 use Rattle.call_acceptance.proofs.step_and_hold.Tie as tie
 
--- ---- what is known where the function begins
+-- ---- what is known at the places on the way; each place names the one that it goes back to
 
 abbrev store : tie.Start → Columns
 store s =
@@ -32,10 +33,12 @@ shape s =
 all-meters : (s : tie.Start) → length (s .args .state .operator .meters) ≡ meterCount
 all-meters s = let owned = s .good .0 .1 .1 .0 .1 .1 .0 in search (needs, length-mapped)
 
--- ---- the step, once it is done
+-- the step, once it is done
+abbrev asked : tie.After-step-arg7 → tie.Start
+asked a = a .before .before .before .before .before .before .before .before .before .before .before .before .before .before .before
 
 abbrev begin : tie.After-step → tie.Start
-begin d = d .before .before .before .before .before .before .before .before .before .before .before .before .before .before .before .before
+begin d = asked (d .before)
 
 -- the numbering of stable results moved on by the step's
 moved :
@@ -47,29 +50,32 @@ moved d =
     let s = begin d in
     number-moves (s .args .state) (store s) (shape s) (s .args .tick) (d .step .result .state) (d .step .ensures .state)
 
--- the places behind it: where its results were told apart, and where they were held
-abbrev told : tie.After-struct-known2 → tie.After-step
-told c = c .before .before .before .before .before .before .before .before .before .before .before .before .before .before .before .before
+-- its results, once they are counted, and once they are held
+abbrev counted : tie.After-struct-known2 → tie.After-step
+counted c = c .before .before .before .before .before .before .before .before .before .before .before .before .before .before .before .before
+
+abbrev holding : tie.After-hold-arg2 → tie.After-step
+holding a = counted (a .before .before)
 
 abbrev holds : tie.After-slice-known14 → tie.After-hold
 holds c = c .before .before
 
 abbrev stepped : tie.After-slice-known14 → tie.After-step
-stepped c = told (holds c .before .before .before)
+stepped c = holding (holds c .before)
 
 -- ---- the needs
 
 step-requires : tie.Need-step-requires
 step-requires c κs =
-    let s = c .before .before .before .before .before .before .before .before .before .before .before .before .before .before .before in
+    let s = asked c in
     (host s .room, state-in-shape (s .args .state) (lentOf (store s) (s .args .sent .now)) (host s .shape), host s .bytes)
 
 sub-results : tie.Need-sub-results
-sub-results c = omega (arith, moved (told c))
+sub-results c = omega (arith, moved (counted c))
 
 hold-requires : tie.Need-hold-requires
 hold-requires c κs =
-    let d = told (c .before .before) in
+    let d = holding c in
     let s = begin d in
     let fit = results-fit (s .args .state) (store s) (shape s) (s .args .tick) (all-meters s) (s .args .area .now) (host s .bytes) in
     let same = d .step .kept .1 .1 .1 .1 .1 .1 .1 .1 .0 in
@@ -100,6 +106,7 @@ same-length-8 : tie.Need-same-length-8
 same-length-8 c = stepped c .step .kept .1 .1 .1 .1 .1 .1 .1 .1 .0
 
 returns : tie.Need-returns
+unfolding putLent
 returns c =
     let d = stepped c in
     let s = begin d in
@@ -107,7 +114,16 @@ returns c =
     let held =
     results-held (s .args .state) (store s) (shape s) (s .args .tick) (s .args .sent .now) (s .args .area .now) _ results
     (d .step .ensures .bytes) (omega (arith, moved d)) in
-    (d .step .ensures, holds c .hold .ensures ∙ held)
+    let done = d .step .ensures in
+    let sent = holds c .hold .ensures ∙ held in
+    λ t.
+    record {
+      answer = 0;
+      records = done .count t;
+      state = done .state t;
+      lent = lentOf (done .columns t) (sent t);
+      area = done .bytes t;
+    }
 
 pub step-and-hold-spec : {M : Type 1} → statement M
 step-and-hold-spec =

@@ -1,4 +1,5 @@
 -- `call_opening::open` meets its contract: each way out is the law of what the text was read as.
+use Prim.Native.Nat.{_*_, _≤_}
 use mathlib.Core.Path.{_≡_, refl, sym, _∙_, ap}
 use mathlib.Core.Bool.{Bool, true, false, _||_}
 use native.Mathlib.Omega.{arith}
@@ -8,7 +9,8 @@ use lib.ListN.{length}
 use Rattle.settings.specs.declared.Settings.{Settings}
 use Rattle.settings.specs.declared.SettingsRead.the-variants as SettingsRead
 use Rattle.settings.specs.ReadLine.{settingsOf}
-use Rattle.store.specs.Columns.{Columns, columnsOf}
+use Rattle.store.specs.Sizes.{readingsPerLine}
+use Rattle.store.specs.Columns.{Columns, columnsOf, storeLength}
 use Rattle.retransmission.specs.Sizes.{heldBytes}
 use Rattle.node.specs.View.{Lent, lentOf}
 use Rattle.node.specs.Opening.{isShort}
@@ -58,6 +60,33 @@ short t = sym (tested (t .before)) ∙ t .if1 .taken
 room : (e : tie.Else1) → isShort (settings (measured (e .before)) .lines) (stores (entry (measured (e .before)))) ≡ false
 room e = sym (tested (e .before)) ∙ e .if1 .left
 
+long :
+    (e : tie.Else1) → let r = measured (e .before) in
+    (settings r .lines * readingsPerLine ≤ storeLength (stores (entry r) .readings)) × (heldBytes ≤ length (stores (entry r) .sent))
+long e = let r = measured (e .before) in not-short (settings r .lines) (stores (entry r)) (room e)
+
+-- the shares, once they are zeroed
+abbrev zeroing : tie.After-zero-arg6 → tie.Else1
+zeroing z = z .before .before .before .before .before .before .before
+
+abbrev tested-before : tie.After-zero → tie.Else1
+tested-before z = zeroing (z .before)
+
+abbrev zeroedStore : tie.After-zero → Columns
+zeroedStore z =
+    columnsOf (z .zero .last .0) (z .zero .last .1 .0) (z .zero .last .1 .1 .0) (z .zero .last .1 .1 .1 .0)
+    (z .zero .last .1 .1 .1 .1 .0) (z .zero .last .1 .1 .1 .1 .1 .0)
+
+-- and then the places
+abbrev zeroed-before : tie.After-zero-u8-arg → tie.After-zero
+zeroed-before e = e .before .before .before .before .before .before .before .before .before .before .before .before
+
+abbrev emptied : tie.After-fresh-state → tie.After-zero-u8
+emptied c = c .before .before .before
+
+abbrev zeroed : tie.After-fresh-state → tie.After-zero
+zeroed c = zeroed-before (emptied c .before)
+
 -- ---- the needs
 
 read-settings-requires : tie.Need-read-settings-requires
@@ -106,22 +135,10 @@ mul-end : tie.Need-mul-end
 mul-end c = search needs
 
 zero-requires : tie.Need-zero-requires
-zero-requires c κs =
-    let e = c .before .before .before .before .before .before .before in
-    let r = measured (e .before) in
-    let long = not-short (settings r .lines) (stores (entry r)) (room e) .0 in
-    (omega arith, omega (arith, long))
-
--- the shares, once they are zeroed
-abbrev tested-before : tie.After-zero → tie.Else1
-tested-before z = z .before .before .before .before .before .before .before .before
+zero-requires c κs = (omega arith, omega (arith, long (zeroing c) .0))
 
 zero-u8-requires : tie.Need-zero-u8-requires
-zero-u8-requires c κs =
-    let e = tested-before (c .before .before .before .before .before .before .before .before .before .before .before .before) in
-    let r = measured (e .before) in
-    let long = not-short (settings r .lines) (stores (entry r)) (room e) .1 in
-    (omega arith, omega (arith, long))
+zero-u8-requires c κs = (omega arith, omega (arith, long (tested-before (zeroed-before c)) .1))
 
 fresh-state-requires : tie.Need-fresh-state-requires
 fresh-state-requires c κs = search needs
@@ -137,18 +154,6 @@ returns-3 c =
     let t = c .before .before in
     let s = asked t in
     opening-outside (s .args .state) (stores s) (s .args .text .now) (sym (t .read-settings .ensures .0) ∙ c .enum-told2 .given .1)
-
--- and then the places
-abbrev emptied : tie.After-fresh-state → tie.After-zero-u8
-emptied c = c .before .before .before
-
-abbrev zeroed : tie.After-fresh-state → tie.After-zero
-zeroed c = emptied c .before .before .before .before .before .before .before .before .before .before .before .before .before
-
-abbrev zeroedStore : tie.After-zero → Columns
-zeroedStore z =
-    columnsOf (z .zero .last .0) (z .zero .last .1 .0) (z .zero .last .1 .1 .0) (z .zero .last .1 .1 .1 .0)
-    (z .zero .last .1 .1 .1 .1 .0) (z .zero .last .1 .1 .1 .1 .1 .0)
 
 same-length-7 : tie.Need-same-length-7
 same-length-7 c = zeroed c .zero .kept .0
