@@ -19,7 +19,7 @@ use Rattle.store.specs.declared.Reading.{Reading}
 use Rattle.store.specs.Lists.{Every}
 use Rattle.store.proofs.Choices.{and-parts}
 use Rattle.store.proofs.Pairs.{every-to}
-use Rattle.protocol.specs.Kinds.{Kind, kindOf, uses, isStep}
+use Rattle.protocol.specs.Kinds.{Kind, kindOf}
 use Rattle.protocol.specs.Monitor.{stableBuckets, leftToWork}
 use Rattle.protocol.specs.FailureFree.{withoutArrival, failureFree}
 use Rattle.protocol.specs.Undos.{applied, struck, stableRecords, doneDue}
@@ -32,7 +32,7 @@ use Rattle.consistency.specs.Accounts.{Account, emptyAccount, accountWit
 use Rattle.consistency.specs.Demand.{Handed, opening, isOpened, boxOf, settingsIn, accountOf, outputOf, remaining}
 use Rattle.consistency.specs.Demand.{failureFreeRecords, failureFreeBytes, Steps, Unchanged, Demand3}
 use Rattle.consistency.specs.Plain.{Run, cut, noted, counted, begun, answered, passedOver, continued, settingsOn, runOf}
-use Rattle.consistency.specs.Plain.{readsAsStep, onlySteps, acceptedOf, Sent, sentAs, sentOn, boundariesOn, leftOn}
+use Rattle.consistency.specs.Plain.{isP, readsAsStep, onlySteps, acceptedOf, Sent, sentAs, sentOn, boundariesOn, leftOn}
 use Rattle.consistency.specs.Plain.{resultsOn, owed, HasForm, HasRoom, LeftAlone, Neither3Nor4, Plain}
 use Rattle.consistency.proofs.Forms.{form-of, room-of}
 
@@ -106,8 +106,8 @@ bytes-are s y (Input.fetch display from area ∷ is) =
 
 -- ---- plain steps are steps
 
-step-kind : (kind : Kind) → isStep kind ≡ true → kind ≡ Kind.P
-unfolding isStep uses
+step-kind : (kind : Kind) → isP kind ≡ true → kind ≡ Kind.P
+unfolding isP
 step-kind Kind.S e = absurd (false≢true e)
 step-kind Kind.T e = absurd (false≢true e)
 step-kind Kind.B e = absurd (false≢true e)

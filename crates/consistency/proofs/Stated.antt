@@ -13,7 +13,6 @@ use Rattle.record.specs.Kinds.{isTentative}
 use Rattle.store.specs.declared.Reading.{Reading}
 use Rattle.store.specs.Lists.{Every}
 use Rattle.store.proofs.Pairs.{every-to, every-both, every-keep, every-mapped}
-use Rattle.protocol.specs.Kinds.{uses, isStep}
 use Rattle.protocol.specs.Monitor.{stableBuckets}
 use Rattle.protocol.specs.FailureFree.{withoutArrival, failureFree}
 use Rattle.protocol.specs.Undos.{applied, struck, stableRecords, doneDue}
@@ -22,7 +21,7 @@ use Rattle.consistency.specs.Runs.{Box, Input, called, areaOf, left, lef
 use Rattle.consistency.specs.Accounts.{Account, sentIn}
 use Rattle.consistency.specs.Demand.{Handed, opening, isOpened, boxOf, settingsIn, remaining}
 use Rattle.consistency.specs.Demand.{failureFreeRecords, failureFreeBytes, Steps, Unchanged, Demand3}
-use Rattle.consistency.specs.Plain.{Run, settingsOn, runOf, readsAsStep, onlySteps, acceptedOf, sentAs, sentOn}
+use Rattle.consistency.specs.Plain.{Run, settingsOn, runOf, isP, readsAsStep, onlySteps, acceptedOf, sentAs, sentOn}
 use Rattle.consistency.specs.Plain.{resultsOn, owed, HasForm, HasRoom, LeftAlone, Neither3Nor4, Plain}
 use Rattle.consistency.proofs.Forms.{form-read, room-back}
 use Rattle.consistency.proofs.Plain.{boxOn, accountOn, opened-left, opened-account, opened-bytes}
@@ -32,7 +31,7 @@ use Rattle.consistency.proofs.Plain.{opened-remaining, opened-boundarie
 pub steps-count :
     {b : Box} {n : ℕ} {is : List Input} → Steps b n is →
     (onlySteps (b .state) (b .lent) is ≡ true) × (acceptedOf (b .state) (b .lent) is ≡ n)
-unfolding onlySteps acceptedOf readsAsStep isStep uses called left
+unfolding onlySteps acceptedOf readsAsStep isP called left
 steps-count Steps.rest = (refl, refl)
 steps-count (Steps.step text area k read kind accepted more) =
     let rest = steps-count more in (rw (accepted, read, kind, rest .0), rw (accepted, rest .1))

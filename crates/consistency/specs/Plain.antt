@@ -19,7 +19,7 @@ use Rattle.record.specs.Layout.{bytesOf}
 use Rattle.record.specs.Kinds.{isTentative, isRecord}
 use Rattle.store.specs.declared.Reading.{Reading}
 use Rattle.store.specs.Lists.{Every}
-use Rattle.protocol.specs.Kinds.{kindOf, isStep}
+use Rattle.protocol.specs.Kinds.{Kind, kindOf}
 use Rattle.protocol.specs.Monitor.{LineMonitor, Monitor, freshMonitor, observe, leastBoundary}
 use Rattle.protocol.specs.FailureFree.{stableAfter, failureFree}
 use Rattle.protocol.specs.Undos.{applied, struck, stableRecords, doneDue}
@@ -95,8 +95,17 @@ runOf st x text is = continued (settingsOn st x text) (begun st x text) is
 
 -- ---- steps
 
+-- of the six kinds only P is a step
+unfoldable pub isP : Kind → Bool
+isP Kind.S = false
+isP Kind.T = false
+isP Kind.B = false
+isP Kind.U = false
+isP Kind.R = false
+isP Kind.P = true
+
 unfoldable pub readsAsStep : CallRead → Bool
-readsAsStep (CallRead.Accepted k) = isStep (kindOf (k .kind))
+readsAsStep (CallRead.Accepted k) = isP (kindOf (k .kind))
 readsAsStep CallRead.Malformed = false
 
 -- whether every journal call is refused or a step; a display's call may stand anywhere, accepted or not

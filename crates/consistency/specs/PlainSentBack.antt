@@ -14,7 +14,7 @@ use Rattle.journal.specs.declared.CallRead.the-variants as CallRead
 use Rattle.journal.specs.ReadLine.{callOf}
 use Rattle.record.specs.declared.Record.{Record}
 use Rattle.record.specs.Layout.{allBytes}
-use Rattle.protocol.specs.Kinds.{kindOf, isStep}
+use Rattle.protocol.specs.Kinds.{kindOf}
 use Rattle.protocol.specs.Refusals.{isZero}
 use Rattle.protocol.specs.FailureFree.{failureFree}
 use Rattle.node.specs.declared.State.{State}
@@ -23,7 +23,7 @@ use Rattle.node.specs.Opening.{openedOn}
 use Rattle.node.specs.Calls.{Called, calledOn}
 use Rattle.node.specs.Displays.{acknowledgedOn, fetchedOn}
 use Rattle.consistency.specs.Runs.{Input}
-use Rattle.consistency.specs.Plain.{Run, settingsOn, runOf, leftOn, resultsOn}
+use Rattle.consistency.specs.Plain.{Run, settingsOn, runOf, isP, leftOn, resultsOn}
 
 -- ---- what was acknowledged
 
@@ -69,7 +69,7 @@ answerIf s area display fits =
 -- a step's text with nothing in it but a `now` that is not before the clock
 unfoldable pub isBareStep : ArrivalTick → CallRead → Bool
 isBareStep clock (CallRead.Accepted k) =
-    (isStep (kindOf (k .kind)) && leb (clock .0) (k .now .0)) &&
+    (isP (kindOf (k .kind)) && leb (clock .0) (k .now .0)) &&
     (eqb (k .line) 0 && (eqb (k .id) 0 && (eqb (k .time .0) 0 && (eqb (k .meter) 0 && isZero (k .value)))))
 isBareStep clock CallRead.Malformed = false
 

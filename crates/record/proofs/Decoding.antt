@@ -48,10 +48,10 @@ pub wellFormed-only :
     (b : List ℕ) → isWellFormed b ≡ true → (length b ≡ 32) × (isRecord (getD b 0 0) ≡ true) × (getD b 2 0 ≡ 0) × (getD b 3 0 ≡ 0)
 unfolding isWellFormed
 wellFormed-only b e =
-    let size = and-eq-true-iff (eqb (length b) 32) (isRecord (getD b 0 0) && (eqb (getD b 2 0) 0 && eqb (getD b 3 0) 0)) .0 e in
-    let kind = and-eq-true-iff (isRecord (getD b 0 0)) (eqb (getD b 2 0) 0 && eqb (getD b 3 0) 0) .0 (size .1) in
-    let zeros = and-eq-true-iff (eqb (getD b 2 0) 0) (eqb (getD b 3 0) 0) .0 (kind .1) in
-    (eqb-true (length b) 32 (size .0), kind .0, eqb-true (getD b 2 0) 0 (zeros .0), eqb-true (getD b 3 0) 0 (zeros .1))
+    let size = and-eq-true-iff _ _ .0 e in
+    let kind = and-eq-true-iff _ _ .0 (size .1) in
+    let zeros = and-eq-true-iff _ _ .0 (kind .1) in
+    (eqb-true _ _ (size .0), kind .0, eqb-true _ _ (zeros .0), eqb-true _ _ (zeros .1))
 
 pub decoded-only :
     (b : List ℕ) (r : Record) → AreBytes b → decoded b ≡ Decoded.Is r → (b ≡ bytesOf r) × Within r × (isRecord (r .kind) ≡ true)
