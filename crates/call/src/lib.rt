@@ -2,26 +2,10 @@
 ghost use mathlib.Core.Path.{_≡_};
 ghost use Rattle.store.specs.Columns.{columnsOf};
 ghost use Rattle.node.specs.View.{Lent, lentOf};
-ghost use Rattle.node.specs.Calls.{calledOn};
+ghost use Rattle.node.specs.Calls.{calledOf, calledOn};
 use call_decision::Decision;
 use node::CallReply;
 use node::State;
-
-// What a refused call gives.
-const NO_RECORDS: u32 = 0;
-
-// What a refused call answers.
-fn refused(state: State, answer: u32) -> CallReply
-    ensures { λ r. ⌜ r .state ≡ state ⌝ }
-    ensures { λ r. ⌜ r .records ≡ 0 ⌝ }
-    ensures { λ r. ⌜ r .answer ≡ answer ⌝ }
-{
-    CallReply {
-        state: state,
-        records: NO_RECORDS,
-        answer: answer,
-    }
-}
 
 // Answers one call: it is refused, or it is done.
 pub fn call(
@@ -36,12 +20,18 @@ pub fn call(
     text: &[u8],
     area: &mut [u8],
 ) -> CallReply
-    ensures { λ r. ⌜ (let x : Lent = lentOf (columnsOf (now (ids .entry)) (now (times .entry)) (now (values .entry)) (now (arrivals .entry))
-        (now (kinds .entry)) (now (meters .entry))) (now (sent .entry)) in
-        let x′ : Lent = lentOf (columnsOf (now (ids .exit)) (now (times .exit)) (now (values .exit)) (now (arrivals .exit))
-        (now (kinds .exit)) (now (meters .exit))) (now (sent .exit)) in
-        record { answer = r .answer; records = r .records; state = r .state; lent = x′; area = now (area .exit) } ≡
-        calledOn state x (now (text .entry)) (now (area .entry))) ⌝ }
+    ensures { λ r.
+        let before : Lent =
+        lentOf
+        (columnsOf (now (ids .entry)) (now (times .entry)) (now (values .entry)) (now (arrivals .entry)) (now (kinds .entry))
+        (now (meters .entry)))
+        (now (sent .entry)) in
+        let after : Lent =
+        lentOf
+        (columnsOf (now (ids .exit)) (now (times .exit)) (now (values .exit)) (now (arrivals .exit)) (now (kinds .exit))
+        (now (meters .exit)))
+        (now (sent .exit)) in
+        ⌜ calledOf r after (now (area .exit)) ≡ calledOn state before (now (text .entry)) (now (area .entry)) ⌝ }
 {
     let read = journal::read_call(text);
     let decided = call_decision::decide(
@@ -57,7 +47,7 @@ pub fn call(
         area.len(),
     );
     match decided {
-        Decision::Refused(answer) => refused(state, answer),
+        Decision::Refused(answer) => node::refused(state, answer),
         Decision::Accepted(k) => call_acceptance::accept(
             state,
             ids,

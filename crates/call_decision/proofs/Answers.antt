@@ -11,6 +11,7 @@ use Rattle.journal.specs.declared.CallRead.the-variants as CallRead
 use Rattle.journal.specs.JournalLine.{callAnswer}
 use Rattle.journal.specs.ReadLine.{callOf}
 use lib.ListN.{length, take}
+use Rattle.settings.specs.Limits.{maxLines}
 use Rattle.store.specs.Sizes.{readingsPerLine}
 use Rattle.store.specs.Lists.{Every}
 use Rattle.store.specs.Columns.{storeLength}
@@ -25,13 +26,13 @@ use Rattle.node.specs.Calls.{hostTests, refusedWith, calledWith, calledOn}
 use Rattle.node.proofs.Limits.{limits-hold}
 use Rattle.node.proofs.Shape.{HeadShape, InShape, inShape-facts, state-in-shape, displays-in-shape}
 use Rattle.node.proofs.Calls.{HostPassed, host-passed}
-use Rattle.call_decision.specs.Deciding.{judgedWith, decidedOn}
+use Rattle.call_decision.specs.Deciding.{decidedWith, decidedOn}
 use Rattle.call_decision.specs.declared.Decision.{Decision}
 use Rattle.call_decision.specs.declared.Decision.the-variants as Decision
 
 -- what the call's tests ask of state and stores
 pub record RefusalReady (st : State) (x : Lent) : Type 0 where
-  pub lines : st .settings .lines ≤ 8
+  pub lines : st .settings .lines ≤ maxLines
   pub room : st .settings .lines * readingsPerLine ≤ storeLength (x .readings)
   pub kinds : st .settings .lines * readingsPerLine ≤ length (x .readings .kinds)
   pub shape : stateInShape st (x .readings) ≡ true
@@ -60,23 +61,23 @@ module _ (st : State) (x : Lent) (read : CallRead) (area : List ℕ) where
   host-refused e h = rw (e, ne-eqb (firstFailed (hostTests st x area)) 0 (λ z. h (e ∙ z)))
 
   module _ (host : firstFailed (hostTests st x area) ≡ 0) where
-    past-host : {r : CallRead} → read ≡ r → judgedWith st x r ≡ decidedOn st x read area
+    past-host : {r : CallRead} → read ≡ r → decidedWith st x r ≡ decidedOn st x read area
     unfolding decidedOn
     past-host e = rw (host, e)
 
     pub text-refused : read ≡ CallRead.Malformed → Decision.Refused 6 ≡ decidedOn st x read area
-    unfolding judgedWith callAnswer
+    unfolding decidedWith callAnswer
     text-refused e = past-host e
 
     module _ (k : Call) (is : read ≡ CallRead.Accepted k) where
       pub call-refused :
           {n : ℕ} → n ≡ answerTo (st .settings) (view st (x .readings)) k → (n ≡ 0 → ⊥) →
           Decision.Refused n ≡ decidedOn st x read area
-      unfolding judgedWith
+      unfolding decidedWith
       call-refused e h = rw e (rw (ne-eqb (answerTo (st .settings) (view st (x .readings)) k) 0 (λ z. h (e ∙ z))) at (past-host is))
 
       pub call-accepted : answerTo (st .settings) (view st (x .readings)) k ≡ 0 → Decision.Accepted k ≡ decidedOn st x read area
-      unfolding judgedWith
+      unfolding decidedWith
       call-accepted e = rw e at (past-host is)
 
 -- ---- what is decided is what a call answers
@@ -97,8 +98,8 @@ module _ (st : State) (x : Lent) (text area : List ℕ) where
     unfolding calledOn
     left-to-text e = rw (host, e)
 
-    answered-with : (r : CallRead) → callOf text ≡ r → Answered st x text area (judgedWith st x r)
-    unfolding judgedWith Answered calledWith
+    answered-with : (r : CallRead) → callOf text ≡ r → Answered st x text area (decidedWith st x r)
+    unfolding decidedWith Answered calledWith
     answered-with (CallRead.Accepted k) e =
         let answer : ℕ = answerTo (st .settings) (view st (x .readings)) k in
         (elim (eqb answer 0) as
@@ -113,7 +114,7 @@ module _ (st : State) (x : Lent) (text area : List ℕ) where
   answered =
       let host : ℕ = firstFailed (hostTests st x area) in
       (elim (eqb host 0) as
-      (λ b. eqb host 0 ≡ b → Answered st x text area (cond b (judgedWith st x (callOf text)) (Decision.Refused host))) [
+      (λ b. eqb host 0 ≡ b → Answered st x text area (cond b (decidedWith st x (callOf text)) (Decision.Refused host))) [
         | true ↦ λ t. answered-with (eqb-true _ _ t) (callOf text) refl
         | false ↦ λ t. rw t
       ]) refl

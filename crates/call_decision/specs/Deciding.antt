@@ -15,13 +15,13 @@ use Rattle.call_decision.specs.declared.Decision.{Decision}
 use Rattle.call_decision.specs.declared.Decision.the-variants as Decision
 
 -- refusal 6, then 7 to 15
-unfoldable pub judgedWith : State → Lent → CallRead → Decision
-judgedWith st x (CallRead.Accepted k) =
+unfoldable pub decidedWith : State → Lent → CallRead → Decision
+decidedWith st x (CallRead.Accepted k) =
     let answer : ℕ = answerTo (st .settings) (view st (x .readings)) k in
     cond (eqb answer 0) (Decision.Accepted k) (Decision.Refused answer)
-judgedWith st x CallRead.Malformed = Decision.Refused (callAnswer CallRead.Malformed)
+decidedWith st x CallRead.Malformed = Decision.Refused (callAnswer CallRead.Malformed)
 
 -- refusals 3 to 5 come first
 unfoldable pub decidedOn : State → Lent → CallRead → List ℕ → Decision
 decidedOn st x read area =
-    let host : ℕ = firstFailed (hostTests st x area) in cond (eqb host 0) (judgedWith st x read) (Decision.Refused host)
+    let host : ℕ = firstFailed (hostTests st x area) in cond (eqb host 0) (decidedWith st x read) (Decision.Refused host)

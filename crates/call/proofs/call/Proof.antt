@@ -1,13 +1,11 @@
 -- `call::call` meets its contract: a call that is decided refused changes nothing, and what an accepted one leaves is what `accept` ensures.
-use Prim.Native.Nat.{ℕ}
 use mathlib.Core.Path.{_≡_, refl, sym, ap, subst, _∙_}
-use mathlib.Core.List.{List}
 use native.Mathlib.Omega.{arith}
 use borrow.Author.Needs.{needs}
 use Rattle.store.specs.Columns.{columnsOf}
-use Rattle.node.specs.declared.State.{State}
+use Rattle.node.specs.declared.CallReply.{CallReply}
 use Rattle.node.specs.View.{Lent, lentOf}
-use Rattle.node.specs.Calls.{refusedWith, calledOn}
+use Rattle.node.specs.Calls.{calledOf, refusedWith, calledOn}
 use Rattle.journal.specs.declared.CallRead.{CallRead}
 use Rattle.call_decision.specs.declared.Decision.{Decision}
 use Rattle.call_decision.specs.Deciding.{decidedOn}
@@ -15,20 +13,15 @@ use Rattle.call_decision.proofs.Answers.{Passed, Answered, answered}
 use Rattle.call.proofs.call.Statement.{statement}
 use Rattle.call.proofs.call.Tie as tie
 
--- what a refused call answers and leaves
-refused-same :
-    (x : Lent) (area : List ℕ) {st next : State} {n answer records : ℕ} → next ≡ st → records ≡ 0 → answer ≡ n →
-    record { answer = answer; records = records; state = next; lent = x; area = area } ≡ refusedWith n st x area
-unfolding refusedWith
-refused-same x area e f g = λ t. record { answer = g t; records = f t; state = e t; lent = x; area = area }
-
 -- ---- what is known at the places on the way; each place names the one that it goes back to
 
 -- what is lent
 abbrev store : tie.Start → Lent
 store s =
-    lentOf (columnsOf (s .args .ids .now) (s .args .times .now) (s .args .values .now) (s .args .arrivals .now) (s .args .kinds .now)
-    (s .args .meters .now)) (s .args .sent .now)
+    lentOf
+    (columnsOf (s .args .ids .now) (s .args .times .now) (s .args .values .now) (s .args .arrivals .now) (s .args .kinds .now)
+    (s .args .meters .now))
+    (s .args .sent .now)
 
 -- what the text is read as
 abbrev reading : tie.After-decide → tie.After-read-call
@@ -44,7 +37,8 @@ Decided s r = Answered (s .args .state) (store s) (s .args .text .now) (s .args 
 decided : (j : tie.After-decide) (r : Decision) → j .decide .result ≡ r → Decided (asked j) r
 decided j r e =
     let s = asked j in
-    let same = ap (λ (read : CallRead). decidedOn (s .args .state) (store s) read (s .args .area .now)) (reading j .read-call .ensures .0) in
+    let same =
+    ap (λ (read : CallRead). decidedOn (s .args .state) (store s) read (s .args .area .now)) (reading j .read-call .ensures .0) in
     subst (Decided s) (sym (j .decide .ensures (s .args .area .now) (omega arith) ∙ same) ∙ e)
     (answered (s .args .state) (store s) (s .args .text .now) (s .args .area .now))
 
@@ -52,17 +46,29 @@ decided j r e =
 abbrev refusal : tie.After-decided → tie.Start
 refusal r = asked (r .before .before)
 
-refused : (r : tie.After-decided) → refusedWith (r .decided .given .0 .0) (refusal r .args .state) (store (refusal r)) (refusal r .args .area .now) ≡ calledOn (refusal r .args .state) (store (refusal r)) (refusal r .args .text .now) (refusal r .args .area .now)
+refused :
+    (r : tie.After-decided) → let s = refusal r in
+    refusedWith (r .decided .given .0 .0) (s .args .state) (store s) (s .args .area .now) ≡
+    calledOn (s .args .state) (store s) (s .args .text .now) (s .args .area .now)
 unfolding Answered
 refused r = decided (r .before .before) _ (r .decided .given .1)
 
 -- an accepted one
-abbrev entry : tie.After-judged2 → tie.Start
+abbrev entry : tie.After-decided2 → tie.Start
 entry a = asked (a .before .before)
 
-passed : (a : tie.After-judged2) → Passed (entry a .args .state) (store (entry a)) (entry a .args .text .now) (entry a .args .area .now) (a .judged2 .given .0 .0)
+passed :
+    (a : tie.After-decided2) → let s = entry a in
+    Passed (s .args .state) (store s) (s .args .text .now) (s .args .area .now) (a .decided2 .given .0 .0)
 unfolding Answered
-passed a = decided (a .before .before) _ (a .judged2 .given .1)
+passed a = decided (a .before .before) _ (a .decided2 .given .1)
+
+-- and once it is done
+abbrev accepting : tie.After-accept-arg8 → tie.After-decided2
+accepting a = a .before .before .before .before .before .before .before .before .before
+
+abbrev done : tie.After-slice-known14 → tie.After-accept
+done c = c .before .before .before .before .before .before .before .before .before .before .before .before .before .before .before
 
 -- ---- the needs
 
@@ -82,9 +88,7 @@ enum-known-decided-2 : tie.Need-enum-known-decided-2
 enum-known-decided-2 c = search needs
 
 accept-requires : tie.Need-accept-requires
-accept-requires c κs =
-    let a = c .before .before .before .before .before .before .before .before .before in
-    (passed a .host, passed a .call)
+accept-requires c κs = let p = passed (accepting c) in (p .host, p .call)
 
 same-length : tie.Need-same-length
 same-length c = refl
@@ -108,14 +112,11 @@ same-length-7 : tie.Need-same-length-7
 same-length-7 c = refl
 
 returns : tie.Need-returns
+unfolding refusedWith
 returns c =
     let r = c .before .before in
     let s = refusal r in
-    refused-same (store s) (s .args .area .now) (c .refused .ensures .0) (c .refused .ensures .1 .0) (c .refused .ensures .1 .1) ∙ refused r
-
--- the accepted call, once it is done
-abbrev done : tie.After-slice-known14 → tie.After-accept
-done c = c .before .before .before .before .before .before .before .before .before .before .before .before .before .before .before
+    ap (λ (q : CallReply). calledOf q (store s) (s .args .area .now)) (c .refused .ensures) ∙ refused r
 
 same-length-8 : tie.Need-same-length-8
 same-length-8 c = done c .accept .kept .1 .0
@@ -142,8 +143,7 @@ same-length-15 : tie.Need-same-length-15
 same-length-15 c = done c .accept .kept .1 .1 .1 .1 .1 .1 .1 .1 .0
 
 returns-2 : tie.Need-returns-2
-returns-2 c =
-    done c .accept .ensures ∙ passed (done c .before .before .before .before .before .before .before .before .before .before) .done
+returns-2 c = done c .accept .ensures ∙ passed (accepting (done c .before)) .done
 
 pub call-spec : {M : Type 1} → statement M
 call-spec =

@@ -68,8 +68,11 @@ read : (r : tie.After-read) → entry r .args .read ≡ CallRead.Accepted (call 
 read r = r .read .given .1
 
 -- its refusals, once they are asked for
+abbrev asking : tie.After-heads → tie.After-read
+asking h = h .before .before .before .before
+
 abbrev decided : tie.After-refusal → tie.After-read
-decided f = f .before .before .before .before .before
+decided f = asking (f .before)
 
 answer :
     (f : tie.After-refusal) → let s = entry (decided f) in
@@ -125,7 +128,7 @@ returns-2 c area l =
 
 refusal-requires : tie.Need-refusal-requires
 refusal-requires c κs =
-    let r = ready (past (c .before .before .before .before)) in
+    let r = ready (past (asking c)) in
     (r .lines, r .kinds, r .small)
 
 returns-3 : tie.Need-returns-3

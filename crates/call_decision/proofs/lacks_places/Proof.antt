@@ -8,6 +8,7 @@ use borrow.Author.Tests.{not-true, not-false}
 use lib.Dec.{ltb}
 use lib.ListN.{length, take}
 use lib.Seq.{length-take-le}
+use Rattle.settings.specs.Limits.{maxDisplays}
 use Rattle.journal.specs.Kinds.{letterS}
 use Rattle.store.specs.Columns.{Columns, columnsOf}
 use Rattle.retransmission.specs.Sizes.{heldResults}
@@ -51,7 +52,7 @@ near :
 unfolding displaysOk
 near s =
     let st = s .args .state in
-    let size : length (st .acknowledged) ≡ 4 =
+    let size : length (st .acknowledged) ≡ maxDisplays =
     let owned = s .good .0 .1 .1 .1 .1 .1 .1 .1 .1 in search (needs, length-mapped) in
     let some : 0 < length (take (st .settings .displays) (st .acknowledged)) =
     omega (arith, length-take-le (st .settings .displays) (st .acknowledged) (omega (arith, limits s)), limits s) in
@@ -63,6 +64,28 @@ start a = a .before .before .before .before .before .before
 
 step : (e : tie.Else1) → isStep (kindOf (start (e .before) .args .k .kind)) ≡ true
 step e = sym (e .before .is-step .ensures) ∙ not-false _ (e .if1 .left)
+
+-- the least id, once it is known
+abbrev seen : tie.After-struct-known → tie.Else1
+seen k = k .before .before .before
+
+abbrev counted : tie.After-least → tie.Else1
+counted l = seen (l .before)
+
+abbrev entry : tie.After-least → tie.Start
+entry l = start (counted l .before)
+
+free : (l : tie.After-least) → heldResults - (entry l .args .state .checkpoint .number - l .least .result) ≡ freeIn (entry l .args .state)
+free l = ap (λ (least : ℕ). heldResults - (entry l .args .state .checkpoint .number - least)) (l .least .ensures)
+
+-- the rule, once it is asked for
+abbrev measured : tie.After-rule-of → tie.After-least
+measured r = r .before .before .before .before
+
+second :
+    (t : tie.After-enum-told) → let s = entry (measured (t .before .before)) in
+    Rule.WorkStable ≡ ruleOf (s .args .state .settings) (view (s .args .state) (store s)) (s .args .k .now)
+second t = sym (t .enum-told .given .1) ∙ t .before .before .rule-of .ensures
 
 -- ---- the needs
 
@@ -76,27 +99,13 @@ cast-least : tie.Need-cast-least
 cast-least c = search needs
 
 least-requires : tie.Need-least-requires
-least-requires c κs = let l = limits (start (c .before .before .before .before)) in (l .someDisplays, l .displays)
+least-requires c κs = let l = limits (start (seen c .before)) in (l .someDisplays, l .displays)
 
 sub-free : tie.Need-sub-free
-sub-free c =
-    let s = start (c .before .before .before .before .before .before) in
-    omega (arith, c .before .least .ensures, near s .known, shape s .numbers .order)
+sub-free c = let s = entry (c .before) in omega (arith, c .before .least .ensures, near s .known, shape s .numbers .order)
 
 sub-free-2 : tie.Need-sub-free-2
-sub-free-2 c =
-    let s = start (c .before .before .before .before .before .before) in
-    omega (arith, c .before .least .ensures, near s .near, shape s .numbers .order)
-
--- the free places, once the least id is known
-abbrev counted : tie.After-least → tie.Else1
-counted l = l .before .before .before .before
-
-abbrev entry : tie.After-least → tie.Start
-entry l = start (counted l .before)
-
-free : (l : tie.After-least) → heldResults - (entry l .args .state .checkpoint .number - l .least .result) ≡ freeIn (entry l .args .state)
-free l = ap (λ (least : ℕ). heldResults - (entry l .args .state .checkpoint .number - least)) (l .least .ensures)
+sub-free-2 c = let s = entry (c .before) in omega (arith, c .before .least .ensures, near s .near, shape s .numbers .order)
 
 returns-2 : tie.Need-returns-2
 returns-2 c =
@@ -114,10 +123,6 @@ rule-of-requires c κs = search needs
 enum-told : tie.Need-enum-told
 enum-told c = search needs
 
--- the rule, once it is asked for
-abbrev measured : tie.After-rule-of → tie.After-least
-measured r = r .before .before .before .before
-
 returns-3 : tie.Need-returns-3
 returns-3 c =
     let r = c .before in
@@ -131,11 +136,6 @@ results-ahead-requires c κs = search needs
 
 cast-result : tie.Need-cast-result
 cast-result c = search needs
-
-second :
-    (t : tie.After-enum-told) → let s = entry (measured (t .before .before)) in
-    Rule.WorkStable ≡ ruleOf (s .args .state .settings) (view (s .args .state) (store s)) (s .args .k .now)
-second t = sym (t .enum-told .given .1) ∙ t .before .before .rule-of .ensures
 
 returns-4 : tie.Need-returns-4
 returns-4 c =
