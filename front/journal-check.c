@@ -59,17 +59,16 @@ static bool has_form(const struct line *line)
 }
 
 /*
- * A journal line whose ends complete every start that can be completed: a key
- * that has begun by its rest, a number by what stands behind it, as it can end
- * with any digit, and a minus by the digit that follows it here.
+ * Whether something behind these first bytes of the line makes a journal line
+ * of them. Whatever they are, one of the ends of a single line does it then: a
+ * key that has begun goes on with its rest, a number, which can end at any
+ * digit, with what stands behind it, and a minus with the digit that it has
+ * here.
  */
-#define COMPLETE "now=0 line=0 kind=S id=0 time=0 meter=0 value=-1\n"
-
-/* Whether something behind these first bytes of the line makes a journal line
- * of them. */
 static bool can_go_on(const struct line *line, size_t length)
 {
-    static const char complete[] = COMPLETE;
+    static const char complete[] =
+        "now=0 line=0 kind=S id=0 time=0 meter=0 value=-1\n";
     uint8_t text[sizeof line->bytes + sizeof complete];
     memcpy(text, line->bytes, length);
     for (const char *end = complete; *end != '\0'; end++) {
