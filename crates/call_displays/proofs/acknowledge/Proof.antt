@@ -140,10 +140,10 @@ cast-displays : tie.Need-cast-displays
 cast-displays c = search needs
 
 least-requires : tie.Need-least-requires
-least-requires c κs = few (raised c)
+least-requires c κs = omega (arith, few (raised c))
 
 least-requires-2 : tie.Need-least-requires-2
-least-requires-2 c κs = few (counted c)
+least-requires-2 c κs = omega (arith, few (counted c))
 
 give-up-requires : tie.Need-give-up-requires
 give-up-requires c κs = passed (past (counted (compared (asking c)) .before)) .sent

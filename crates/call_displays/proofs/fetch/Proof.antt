@@ -121,7 +121,7 @@ cast-displays : tie.Need-cast-displays
 cast-displays c = search needs
 
 least-requires : tie.Need-least-requires
-least-requires c κs = let r = within (seen c) in (r .some, r .few)
+least-requires c κs = let r = within (seen c) in omega (arith, r .some, r .few)
 
 fetch-answer-requires : tie.Need-fetch-answer-requires
 fetch-answer-requires c κs = within (counted c) .newest
