@@ -4,7 +4,7 @@ use mathlib.Core.Path.{_≡_, refl, ap, subst, _∙_}
 use mathlib.Core.Bool.{Bool, true, false}
 use mathlib.Core.List.{List, _++_}
 use mathlib.Core.Logic.{⊎-elim}
-use Prim.Native.Nat.{ℕ, _+_, _-_}
+use Prim.Native.Nat.{ℕ, _+_, _-_, _≤_}
 use native.Mathlib.Omega.{arith}
 use native.Mathlib.Nat.{zero-add}
 use lib.Dec.{eqb}
@@ -15,14 +15,19 @@ use Rattle.area.proofs.Lent.{lent-inFront}
 use Rattle.store.proofs.Choices.{not-both}
 use Rattle.node.specs.declared.State.{State}
 use Rattle.node.specs.View.{Lent}
-use Rattle.node.specs.Opening.{closedState, openedOn}
-use Rattle.playback_reply.specs.Reply.{openingText}
+use Rattle.node.specs.Opening.{Opened, closedState, openedOn}
+use Rattle.playback_reply.specs.Reply.{openingText, longestReply}
 use Rattle.playback_cursor.specs.declared.Cursor.{Cursor}
-use Rattle.playback_cursor.specs.Cut.{textAt, allRead, Unplayed, over, failed, endless, Fetched, Followed}
+use Rattle.playback_cursor.specs.Cut.{holdsLine, textAt, allRead, Ready, Unplayed, over, failed, endless, Fetched, Followed}
 use Rattle.playback.specs.declared.Started.{Started}
 use Rattle.playback.specs.Start.{lastIf, Begun}
 
 -- ---- the first text
+
+-- where nothing is read yet one can go on
+pub ready-begin : (buf : List ℕ) (room : ℕ) → longestReply ≤ room → Ready buf room (allRead 0 false false false)
+unfolding holdsLine
+ready-begin buf room fits = ((omega arith, omega arith, omega arith, λ h. absurd (omega (arith, h)), refl), omega arith, fits)
 
 none-unplayed : {buf fresh : List ℕ} → Unplayed false (allRead 0 false false false) buf fresh → ⊥
 none-unplayed (over e o) = not-both o refl
@@ -51,32 +56,35 @@ front-laid out bytes at e = rw (e, zero-add (length bytes))
 
 pub begun : (buf out : List ℕ) (x : Lent) (begin : Cursor) → begin ≡ allRead 0 false false false → (first : Cursor) (held : List ℕ)
     → Fetched false begin buf first held (length out) → (closed : State) → closed ≡ closedState
-    → (r : Started) (y : Lent) (used : ℕ) (m : List ℕ)
-    → (r .state ≡ openedOn closed x (textAt held first) .state) × (y ≡ openedOn closed x (textAt held first) .lent)
-    × (used ≡ length (openingText (openedOn closed x (textAt held first))))
-    × (m ≡ inFront (openingText (openedOn closed x (textAt held first))) (take (length out - first .used) (drop (first .used) out)))
+    → (r : Started) (y : Lent) (text : List ℕ) → text ≡ textAt held first → (used : ℕ) (m : List ℕ)
+    → (r .state ≡ openedOn closed x text .state) × (y ≡ openedOn closed x text .lent)
+    × (used ≡ length (openingText (openedOn closed x text)))
+    × (m ≡ inFront (openingText (openedOn closed x text)) (take (length out - first .used) (drop (first .used) out)))
     → (after : List ℕ) → length (putMid (first .used) (length out - first .used) out m) ≡ length out
-    → Followed (lastIf (eqb (r .state .settings .lines) 0) first) used held (r .cursor) after
+    → Followed (lastIf (eqb (r .state .settings .lines) 0) first) (length text) used held (r .cursor) after
     (length (putMid (first .used) (length out - first .used) out m))
     → Begun buf out x r after (putMid (first .used) (length out - first .used) out m) y
-begun buf out x begin b first held f closed z r y used m p after same o =
+begun buf out x begin b first held f closed z r y text t used m p after same o =
     let found : Fetched false (allRead 0 false false false) buf first held (length out) =
     subst (λ (c : Cursor). Fetched false c buf first held (length out)) b f in
-    let text : List ℕ = textAt held first in
+    let made : openedOn closed x text ≡ openedOn closedState x (textAt held first) =
+    ap (λ (s : State). openedOn s x text) z ∙ ap (openedOn closedState x) t in
+    let last : Cursor = lastIf (eqb (r .state .settings .lines) 0) first in
     record {
       first = first;
       held = held;
       fetched = found;
       plays = first-plays buf first held (length out) found;
-      state = p .0 ∙ ap (λ (s : State). openedOn s x text .state) z;
-      lent = p .1 ∙ ap (λ (s : State). openedOn s x text .lent) z;
+      state = p .0 ∙ ap (λ (q : Opened). q .state) made;
+      lent = p .1 ∙ ap (λ (q : Opened). q .lent) made;
       answer =
           ap (putMid (first .used) (length out - first .used) out) (p .3)
           ∙ lent-inFront out (openingText (openedOn closed x text)) (first .used)
           ∙ front-laid out (openingText (openedOn closed x text)) (first .used) (first-unused buf first held (length out) found)
-          ∙ ap (λ (s : State). inFront (openingText (openedOn s x text)) out) z;
+          ∙ ap (λ (q : Opened). inFront (openingText q) out) made;
       onward =
-          subst (λ (n : ℕ). Followed (lastIf (eqb (r .state .settings .lines) 0) first) n held (r .cursor) after (length out))
-          (p .2 ∙ ap (λ (s : State). length (openingText (openedOn s x text))) z)
-          (subst (λ (n : ℕ). Followed (lastIf (eqb (r .state .settings .lines) 0) first) used held (r .cursor) after n) same o);
+          subst (λ (i : ℕ). Followed last i (length (openingText (openedOn closedState x (textAt held first)))) held (r .cursor) after
+          (length out)) (ap length t)
+          (subst (λ (i : ℕ). Followed last (length text) i held (r .cursor) after (length out)) (p .2 ∙ ap (λ (q : Opened). length (openingText q)) made)
+          (subst (λ (i : ℕ). Followed last (length text) used held (r .cursor) after i) same o));
     }

@@ -17,9 +17,8 @@ use Rattle.playback.specs.declared.Started.{Started}
 abbrev pub lastIf : Bool → Cursor → Cursor
 lastIf b c =
     record {
-      start = c .start;
-      end = c .end;
       at = c .at;
+      whole = c .whole;
       have = c .have;
       used = c .used;
       plays = c .plays;
@@ -39,5 +38,5 @@ pub record Begun (buf out : List ℕ) (x : Lent) (r : Started) (after left : Lis
   pub lent : y ≡ openedOn closedState x (textAt held first) .lent
   pub answer : left ≡ inFront (openingText (openedOn closedState x (textAt held first))) out
   -- what follows it is played, unless no network is open
-  pub onward : Followed (lastIf (eqb (r .state .settings .lines) 0) first)
+  pub onward : Followed (lastIf (eqb (r .state .settings .lines) 0) first) (length (textAt held first))
       (length (openingText (openedOn closedState x (textAt held first)))) held (r .cursor) after (length out)

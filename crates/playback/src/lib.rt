@@ -1,17 +1,21 @@
 // An input played: settings line, journal lines and, in a mixed input, displays' lines in, answer lines and records out.
 ghost use mathlib.Core.Path.{_≡_};
-ghost use Prim.Native.Nat.{_≤_, _<_};
+ghost use mathlib.Core.List.{List};
+ghost use mathlib.Core.Bool.{cond};
+ghost use Prim.Native.Nat.{ℕ, _-_, _≤_, _<_};
 ghost use lib.ListN.{length};
 ghost use Rattle.area.specs.Laid.{inFront};
 ghost use Rattle.store.specs.Columns.{columnsOf};
 ghost use Rattle.node.specs.View.{Lent, lentOf};
 ghost use Rattle.node.specs.Opening.{Opened, openedOn};
 ghost use Rattle.playback_reply.specs.Reply.{openingText, longestAnswer, longestReply};
-ghost use Rattle.playback_cursor.specs.Cut.{Lies};
+ghost use Rattle.playback_cursor.specs.Cut.{Lies, textAt};
 ghost use Rattle.playback.specs.Start.{Begun};
 ghost use Rattle.node.specs.Calls.{Called};
 ghost use Rattle.playback_dispatch.specs.Dispatch.{dispatched};
 ghost use Rattle.playback.specs.Replied.{Replied};
+ghost use Rattle.playback.specs.Turn.{Turned};
+ghost use Rattle.playback.specs.Run.{Standing, standing, PlayedOut, Finished};
 use node::State;
 use playback_cursor::Cursor;
 
@@ -90,7 +94,6 @@ pub fn start(
     out: &mut [u8],
 ) -> Started
     requires { ⌜ longestReply ≤ length (now out) ⌝ }
-    ensures { λ r. ⌜ Lies (length (now (buf .entry))) (length (now (out .entry))) (r .cursor) ⌝ }
     ensures { λ r.
         let before : Lent =
         lentOf
@@ -106,10 +109,12 @@ pub fn start(
 {
     let begin = playback_cursor::begin();
     let mut cursor = playback_cursor::fetch(begin, false, buf, out);
-    let start = cursor.start;
-    let end = cursor.end;
+    let at = cursor.at;
+    let whole = cursor.whole;
     let used = cursor.used;
     let closed = call_opening::closed_state();
+    let text = fields::next_line(&buf[at..whole]);
+    let length = text.len();
     let opened = play_settings(
         closed,
         ids,
@@ -119,13 +124,13 @@ pub fn start(
         kinds,
         meters,
         sent,
-        &buf[start..end],
+        text,
         &mut out[used..],
     );
     let state = opened.state;
     let settings = state.settings;
     cursor.last = cursor.last | (settings.lines == 0);
-    let first = playback_cursor::onward(cursor, opened.used, buf, out);
+    let first = playback_cursor::onward(cursor, length, opened.used, buf, out);
     Started {
         state: state,
         cursor: first,
@@ -194,15 +199,76 @@ fn play_line(
     }
 }
 
+// Plays the text at the cursor: its call is made, the reply laid behind what the output holds, and the cursor goes on to the next text.
+fn play_turn(
+    mixed: bool,
+    acknowledging: bool,
+    state: State,
+    ids: &mut [u32],
+    times: &mut [u32],
+    values: &mut [i32],
+    arrivals: &mut [u32],
+    kinds: &mut [u8],
+    meters: &mut [u8],
+    sent: &mut [u8],
+    area: &mut [u8],
+    buf: &mut [u8],
+    out: &mut [u8],
+    cursor: Cursor,
+) -> Started
+    requires { ⌜ Lies (now buf) (length (now out)) cursor ⌝ }
+    ensures { λ r.
+        let before : Lent =
+        lentOf
+        (columnsOf (now (ids .entry)) (now (times .entry)) (now (values .entry)) (now (arrivals .entry)) (now (kinds .entry))
+        (now (meters .entry)))
+        (now (sent .entry)) in
+        let after : Lent =
+        lentOf
+        (columnsOf (now (ids .exit)) (now (times .exit)) (now (values .exit)) (now (arrivals .exit)) (now (kinds .exit))
+        (now (meters .exit)))
+        (now (sent .exit)) in
+        let text : List ℕ = textAt (now (buf .entry)) cursor in
+        let call : Called = dispatched mixed acknowledging state before text (now (area .entry)) in
+        ⌜ Turned call cursor (now (buf .entry)) (now (out .entry)) r after (now (area .exit)) (now (buf .exit)) (now (out .exit)) ⌝ }
+{
+    let at = cursor.at;
+    let whole = cursor.whole;
+    let used = cursor.used;
+    let text = fields::next_line(&buf[at..whole]);
+    let length = text.len();
+    let played = play_line(
+        mixed,
+        acknowledging,
+        state,
+        ids,
+        times,
+        values,
+        arrivals,
+        kinds,
+        meters,
+        sent,
+        text,
+        area,
+        &mut out[used..],
+    );
+    let left = played.state;
+    let onward = playback_cursor::onward(cursor, length, played.used, buf, out);
+    Started {
+        state: left,
+        cursor: onward,
+    }
+}
+
 // One turn fewer is left, and none where no text is to be played.
 fn turns_left(plays: bool, turns: u64) -> u64
     requires { ⌜ 0 < turns ⌝ }
-    ensures { λ r. ⌜ r < turns ⌝ }
+    ensures { λ r. ⌜ r ≡ cond plays (turns - 1) 0 ⌝ }
 {
     if plays { turns - 1 } else { 0 }
 }
 
-// Plays the lines to the end of the input, from the text at the cursor on.
+// Plays the lines to the end of the input, from the text at the cursor on; answers the state that the last one leaves.
 fn play_lines(
     mixed: bool,
     acknowledging: bool,
@@ -218,15 +284,25 @@ fn play_lines(
     buf: &mut [u8],
     out: &mut [u8],
     mut cursor: Cursor,
-)
-    requires { ⌜ Lies (length (now buf)) (length (now out)) cursor ⌝ }
+) -> State
+    requires { ⌜ Lies (now buf) (length (now out)) cursor ⌝ }
+    ensures { λ r.
+        let before : Lent =
+        lentOf
+        (columnsOf (now (ids .entry)) (now (times .entry)) (now (values .entry)) (now (arrivals .entry)) (now (kinds .entry))
+        (now (meters .entry)))
+        (now (sent .entry)) in
+        let after : Lent =
+        lentOf
+        (columnsOf (now (ids .exit)) (now (times .exit)) (now (values .exit)) (now (arrivals .exit)) (now (kinds .exit))
+        (now (meters .exit)))
+        (now (sent .exit)) in
+        let from : Standing = standing state before (now (area .entry)) (now (buf .entry)) (now (out .entry)) cursor in
+        ⌜ PlayedOut mixed acknowledging from r after (now (area .exit)) (now (buf .exit)) (now (out .exit)) ⌝ }
 {
     let mut turns = turns_left(cursor.plays, u64::MAX);
     while turns > 0 {
-        let start = cursor.start;
-        let end = cursor.end;
-        let used = cursor.used;
-        let played = play_line(
+        let turned = play_turn(
             mixed,
             acknowledging,
             state,
@@ -237,19 +313,24 @@ fn play_lines(
             kinds,
             meters,
             sent,
-            &buf[start..end],
             area,
-            &mut out[used..],
+            buf,
+            out,
+            cursor,
         );
-        state = played.state;
-        cursor = playback_cursor::onward(cursor, played.used, buf, out);
+        state = turned.state;
+        cursor = turned.cursor;
         turns = turns_left(cursor.plays, turns);
     }
+    state
 }
 
-// Plays standard input to standard output: first the settings line, then the lines after it, to the end. `mixed` says whether displays'
-// lines may stand among the journal lines, `acknowledging` whether the displays acknowledge what is new after each journal line.
-pub fn run(mixed: bool, acknowledging: bool) {
+// Plays standard input to standard output: first the settings line, then the lines after it, to the end; answers the last state. `mixed`
+// says whether displays' lines may stand among the journal lines, `acknowledging` whether the displays acknowledge what is new after each
+// journal line.
+pub fn run(mixed: bool, acknowledging: bool) -> State
+    ensures { λ r. ⌜ Finished mixed acknowledging r ⌝ }
+{
     let mut ids = [0u32; store::MOST_PLACES];
     let mut times = [0u32; store::MOST_PLACES];
     let mut values = [0i32; store::MOST_PLACES];
@@ -286,5 +367,5 @@ pub fn run(mixed: bool, acknowledging: bool) {
         &mut buf,
         &mut out,
         started.cursor,
-    );
+    )
 }

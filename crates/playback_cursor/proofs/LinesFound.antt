@@ -1,22 +1,25 @@
--- A whole line of the buffer: it is the next text, or the end of a line to pass over, unless a write for its reply failed.
+-- A whole line of the buffer: it is the next text, unless a write for its reply failed, or the end of a line to pass over.
 use mathlib.Core.Path.{_≡_, refl, sym, ap, _∙_}
-use mathlib.Core.Bool.{Bool, true, false, not, _&&_, _||_, and-false}
+use mathlib.Core.Bool.{Bool, true, false, not, _||_}
 use mathlib.Core.List.{List, [], _++_}
-use mathlib.Core.Logic.{_⊎_, inl, inr, ⊎-elim}
+use mathlib.Core.Logic.{inl, inr, ⊎-elim}
 use Prim.Native.Nat.{ℕ, _+_, _-_, _<_, _≤_}
 use native.Mathlib.Omega.{arith}
-use lib.ListN.{length, take, drop}
-use lib.Seq.{take-all}
+use lib.Dec.{eqb}
+use lib.ListN.{length, getD, take, drop}
+use lib.Seq.{take-all, getD-take, getD-drop}
 use Rattle.fields.specs.Line.{nextLine}
+use Rattle.fields.specs.Field.{endsLine}
 use Rattle.fields.proofs.Lines.{line-within}
 use Rattle.playback_reply.specs.Reply.{longestReply}
 use Rattle.store.proofs.Choices.{not-both, false-unless}
 use Rattle.playback_cursor.specs.declared.Cursor.{Cursor}
-use Rattle.playback_cursor.specs.Cut.{holdsLine, behindLine, past, unread, failed}
-use Rattle.playback_cursor.specs.Step.{Advanced}
-use Rattle.playback_cursor.proofs.WholeLines.{whole-append, line-front, behind-whole}
-use Rattle.playback_cursor.proofs.Cuts.{first-part, second-part, length-part}
-use Rattle.playback_cursor.proofs.Past.{past-over, plays-unpassing}
+use Rattle.playback_cursor.specs.declared.Room.{Room}
+use Rattle.playback_cursor.specs.Cut.{holdsLine, behindLine, past, part, unread, textAt, replied, Stands, failed}
+use Rattle.playback_cursor.specs.Step.{Roomy, Advanced}
+use Rattle.playback_cursor.proofs.WholeLines.{held-at, held-append, whole-append, behind-whole}
+use Rattle.playback_cursor.proofs.Cuts.{second-part, part-split, length-part}
+use Rattle.playback_cursor.proofs.Past.{past-over}
 
 -- ---- what is cut, over plain lists
 
@@ -34,92 +37,133 @@ line-rest false u more e h = sym (behind-whole u more h)
 
 -- ---- its tests
 
-plays-unless : (a f : Bool) → a || f ≡ true → f ≡ false → a ≡ true
-plays-unless true f e q = refl
-plays-unless false f e q = not-both e q
+not-false : (f : Bool) → not f ≡ false → f ≡ true
+not-false true e = refl
+not-false false e = not-both refl e
 
-fails-unless : (a f : Bool) → a || f ≡ true → a ≡ false → f ≡ true
-fails-unless true f e q = not-both refl q
-fails-unless false f e q = e
-
-unplayed-failed : (p f : Bool) → f ≡ true → not p && not f ≡ false
-unplayed-failed p true e = and-false (not p)
-unplayed-failed p false e = not-both e refl
-
-goes-on : (p f : Bool) → not p && not f || f ≡ false → p ≡ true
-goes-on true f e = refl
-goes-on false true e = not-both refl e
-goes-on false false e = not-both refl e
+always : (f : Bool) → not f || f ≡ true
+always true = refl
+always false = refl
 
 -- ---- the step
 
-module _ (c : Cursor) (buf : List ℕ) (lies : (c .at ≤ c .have) × (c .have ≤ length buf)) (n : ℕ)
-    (e : n ≡ length (nextLine (unread buf c))) where
-  pub line-inside : c .at + n ≤ c .have
-  line-inside = omega (arith, e, lies, line-within (unread buf c), length-part (c .at) (c .have) buf (lies .0) (lies .1))
+module _ (c : Cursor) (buf : List ℕ) (stands : Stands buf c) where
+  -- where no whole line is left, what is unread holds none
+  pub none-whole : c .at ≡ c .whole → holdsLine (unread buf c) ≡ false
+  none-whole e = ap (λ (i : ℕ). holdsLine (part buf i (c .have))) e ∙ stands .4
 
-  line-cut : take (c .at + n - c .at) (drop (c .at) buf) ≡ nextLine (unread buf c)
-  line-cut = first-part buf (c .at) (c .have) n line-inside ∙ ap (λ (i : ℕ). take i (unread buf c)) e ∙ line-front (unread buf c)
+  module _ (some : c .at < c .whole) where
+    -- up to `whole` the first line is whole: so is that of all that is unread, and it is the same one
+    lines-held : holdsLine (part buf (c .at) (c .whole)) ≡ true
+    unfolding endsLine
+    lines-held =
+        let i : ℕ = c .whole - 1 - c .at in
+        let place : c .at + i ≡ c .whole - 1 = omega (arith, some) in
+        held-at (part buf (c .at) (c .whole)) i
+        (omega (arith, some, length-part (c .at) (c .whole) buf (stands .0) (omega (arith, stands .1, stands .2))))
+        (ap (λ (b : ℕ). eqb b 10)
+        (getD-take (c .whole - c .at) (drop (c .at) buf) i 0 (omega (arith, some))
+        ∙ getD-drop (c .at) buf i 0
+        ∙ ap (λ (n : ℕ). getD buf n 0) place)
+        ∙ stands .3 some)
 
-  line-left : {next : ℕ} → next ≡ c .at + n → take (c .have - next) (drop next buf) ≡ behindLine (unread buf c)
-  unfolding behindLine
-  line-left k =
-      ap (λ (i : ℕ). take (c .have - i) (drop i buf)) k
-      ∙ second-part buf (c .at) (c .have) n line-inside
-      ∙ ap (λ (i : ℕ). drop i (unread buf c)) e
+    split : unread buf c ≡ part buf (c .at) (c .whole) ++ part buf (c .whole) (c .have)
+    split = part-split buf (c .at) (c .whole) (c .have) (stands .0) (stands .1)
 
-  pub line-found : (opened : Bool) (room used : ℕ) (failed! : Bool) {next : ℕ} → next ≡ c .at + n
-      → holdsLine (unread buf c) ≡ true → (used ≡ 0) ⊎ (used ≡ c .used)
-      → (c .used + longestReply ≤ room → used ≡ c .used) → (failed! ≡ true → room < c .used + longestReply) → longestReply ≤ room
-      → Advanced opened c buf
-      (record {
-        start = c .at;
-        end = c .at + n;
-        at = next;
-        have = c .have;
-        used = used;
-        plays = not (c .passing) && not failed!;
-        passing = false;
-        last = failed!;
-      })
-      buf room
-  line-found opened room used failed! k h w same fails fits =
-      let size = length-part (c .at) (c .have) buf (lies .0) (lies .1) in
-      record {
-        found = λ t.
-            record {
-              fresh = [];
-              played = λ q more _.
-                  let p = plays-unpassing (c .passing) (not failed!) q in (
-                    line-cut ∙ line-text (c .passing) (unread buf c) more (length buf) p h (omega (arith, size, lies)),
-                    ap (λ (s : List ℕ). past false (s ++ more)) (line-left k) ∙ line-rest (c .passing) (unread buf c) more p h,
-                  );
-              ended = λ q f. not-both q (unplayed-failed (c .passing) failed! f);
-              unplayed = λ q.
-                  let f = fails-unless (not (c .passing) && not failed!) failed! t q in
-                  (f, failed (omega (arith, fails f)));
-              written = ⊎-elim (λ z. inl z) (λ z. inr (z, refl, refl)) w;
-              held = λ _. (
-                refl,
-                refl,
-                λ enough. (
-                  plays-unless (not (c .passing) && not failed!) failed! t (false-unless failed! (λ f. omega (arith, fails f))),
-                  same enough,
-                ),
-              );
-            };
-        further = λ t.
-            let p = goes-on (c .passing) failed! t in (
+    whole-held : holdsLine (unread buf c) ≡ true
+    whole-held = ap holdsLine split ∙ held-append (part buf (c .at) (c .whole)) (part buf (c .whole) (c .have)) lines-held
+
+    text-next : textAt buf c ≡ nextLine (unread buf c)
+    text-next =
+        sym (ap nextLine split ∙ whole-append (part buf (c .at) (c .whole)) (part buf (c .whole) (c .have)) lines-held)
+
+    module _ (n : ℕ) (e : n ≡ length (textAt buf c)) where
+      pub text-inside : c .at + n ≤ c .whole
+      text-inside =
+          omega (
+            arith,
+            e,
+            stands .0,
+            line-within (part buf (c .at) (c .whole)),
+            length-part (c .at) (c .whole) buf (stands .0) (omega (arith, stands .1, stands .2)),
+          )
+
+      stands-behind : Stands buf (replied c n 0)
+      stands-behind = (text-inside, stands .1, stands .2, λ k. stands .3 some, stands .4)
+
+      text-left : part buf (c .at + n) (c .have) ≡ behindLine (unread buf c)
+      unfolding behindLine
+      text-left =
+          second-part buf (c .at) (c .have) n (omega (arith, text-inside, stands .1))
+          ∙ ap (λ (i : ℕ). drop i (unread buf c)) (e ∙ ap length text-next)
+
+    -- it is the next text, unless a write for its reply failed
+    pub line-found : (opened : Bool) (room : ℕ) (r : Room) → longestReply ≤ room → Roomy (c .used) room r → c .passing ≡ false
+        → Advanced opened c buf
+        (record {
+          at = c .at;
+          whole = c .whole;
+          have = c .have;
+          used = r .used;
+          plays = not (r .failed);
+          passing = false;
+          last = r .failed;
+        })
+        buf room
+    line-found opened room r fits w p =
+        let size = length-part (c .at) (c .have) buf (omega (arith, stands .0, stands .1)) (stands .2) in
+        let text : List ℕ = textAt buf c in
+        record {
+          found = λ _.
               record {
+                lies = (stands-behind (length text) refl, w .fits);
                 fresh = [];
-                kept = λ more.
-                    ap (λ (b : Bool). past b (unread buf c ++ more)) p
-                    ∙ past-over (unread buf c) more h
-                    ∙ ap (λ (s : List ℕ). past false (s ++ more)) (sym (line-left k));
-                stays = λ b. not-both b refl;
-                written = ⊎-elim (λ z. inl z) (λ z. inr (z, refl, refl)) w;
-                held = λ _. (refl, refl, same);
-              },
-              rw p (omega arith),
-            );
-      }
+                played = λ q more _. (
+                  text-next ∙ line-text (c .passing) (unread buf c) more (length buf) p whole-held (omega (arith, size, stands .2)),
+                  ap (λ (s : List ℕ). past false (s ++ more)) (text-left (length text) refl)
+                      ∙ line-rest (c .passing) (unread buf c) more p whole-held,
+                );
+                ended = λ q f. not-both q (ap not f);
+                unplayed = λ q. let f = not-false (r .failed) q in (f, failed (omega (arith, w .fails f, fits)));
+                written = ⊎-elim (λ z. inl z) (λ z. inr (z, refl, refl)) (w .written);
+                held = λ _. (
+                  refl,
+                  refl,
+                  λ enough. (ap not (false-unless (r .failed) (λ f. omega (arith, w .fails f, enough))), w .unwritten enough),
+                );
+              };
+          further = not-both (always (r .failed));
+        }
+
+    -- or the end of a line to pass over
+    pub line-passed : (opened : Bool) (room n : ℕ) → n ≡ length (textAt buf c) → (c .used ≤ room) × (longestReply ≤ room)
+        → c .passing ≡ true
+        → Advanced opened c buf
+        (record {
+          at = c .at + n;
+          whole = c .whole;
+          have = c .have;
+          used = c .used;
+          plays = false;
+          passing = false;
+          last = false;
+        })
+        buf room
+    line-passed opened room n e fits p =
+        record {
+          found = λ t. not-both t refl;
+          further = λ _. (
+            record {
+              ready = (stands-behind n e, fits .0, fits .1);
+              fresh = [];
+              kept = λ more.
+                  ap (λ (b : Bool). past b (unread buf c ++ more)) p
+                  ∙ past-over (unread buf c) more whole-held
+                  ∙ ap (λ (s : List ℕ). past false (s ++ more)) (sym (text-left n e));
+              stays = λ b. not-both b refl;
+              written = inr (refl, refl, refl);
+              held = λ _. (refl, refl, λ _. refl);
+            },
+            rw p (omega arith),
+          );
+        }

@@ -13,9 +13,10 @@ use lib.Seq.{length-take-le, take-all, take-append-seam}
 use Rattle.fields.specs.Line.{nextLine}
 use Rattle.store.proofs.Choices.{not-both}
 use Rattle.playback_cursor.specs.declared.Cursor.{Cursor}
-use Rattle.playback_cursor.specs.Cut.{holdsLine, behindLine, past, unread, allRead, Ready, Lies, failed, over}
-use Rattle.playback_cursor.specs.Step.{Advanced}
-use Rattle.playback_cursor.proofs.WholeLines.{part-append, part-line, behind-part, behind-none}
+use Rattle.playback_reply.specs.Reply.{longestReply}
+use Rattle.playback_cursor.specs.Cut.{holdsLine, behindLine, past, part, unread, allRead, Ready, Lies, failed, over}
+use Rattle.playback_cursor.specs.Step.{LinesEnd, Advanced}
+use Rattle.playback_cursor.proofs.WholeLines.{none-behind, part-append, part-line, behind-part, behind-none}
 use Rattle.playback_cursor.proofs.Cuts.{read-behind, length-part, part-whole}
 use Rattle.playback_cursor.proofs.Past.{past-read, past-end, past-part, plays-unpassing}
 
@@ -71,123 +72,147 @@ left-within : (p : Bool) (left n : ℕ) → left ≡ cond p 0 n → left ≤ n
 left-within true left n e = omega arith
 left-within false left n e = omega arith
 
+-- ---- all that was read is one text
+
+none-either : (p : Bool) (u : List ℕ) → holdsLine u ≡ false → holdsLine (cond p [] u) ≡ false
+unfolding holdsLine
+none-either true u h = refl
+none-either false u h = h
+
+module _ (l : List ℕ) (end : ℕ) (within : end ≤ length l) (none : holdsLine (take end l) ≡ false) where
+  all-text : nextLine (part l 0 end) ≡ take end l
+  all-text = rw (sub-zero end) (part-line (take end l) none)
+
+  all-length : length (nextLine (part l 0 end)) ≡ end
+  all-length = ap length all-text ∙ length-take-le end l within
+
+  all-left : part l (0 + length (nextLine (part l 0 end))) end ≡ []
+  all-left =
+      let n : ℕ = length (nextLine (part l 0 end)) in
+      let z : end - (0 + n) ≡ 0 = omega (arith, all-length) in
+      ap (λ (i : ℕ). take i (drop (0 + n) l)) z
+
+  all-lies : (room : ℕ) (plays passing last : Bool) → longestReply ≤ room → Lies l room (allRead end plays passing last)
+  all-lies room plays passing last fits = (
+    (omega (arith, all-length), omega arith, within, λ k. absurd (omega (arith, k, all-length)), none-behind l end),
+    omega (arith, fits),
+  )
+
+pub ended-lies : (l : List ℕ) (room : ℕ) → longestReply ≤ room → Lies l room (allRead 0 false false true)
+unfolding holdsLine
+ended-lies l room fits = all-lies l 0 (omega arith) refl room false false true fits
+
 -- ---- the ways out
 
--- what is to be shown of a step
-abbrev pub Stepped : Bool → Cursor → List ℕ → ℕ → Cursor → List ℕ → Type 0
-Stepped opened c buf room r after = Lies (length buf) room r × Advanced opened c buf r after room
-
-module _ (opened : Bool) (c : Cursor) (buf : List ℕ) (room : ℕ) (ready : Ready (length buf) room c)
-    (part : holdsLine (unread buf c) ≡ false) where
+module _ (opened : Bool) (c : Cursor) (buf : List ℕ) (room : ℕ) (ready : Ready buf room c)
+    (none : holdsLine (unread buf c) ≡ false) where
   -- a write failed
-  pub refill-failed : {r : Cursor} → r ≡ allRead 0 false false true → 0 < c .used → Stepped opened c buf room r buf
+  pub refill-failed : {r : Cursor} → r ≡ allRead 0 false false true → 0 < c .used → Advanced opened c buf r buf room
   refill-failed made h =
-      subst (λ (r : Cursor). Stepped opened c buf room r buf) (sym made) (
-        omega (arith, ready .3),
-        record {
-          found = λ _.
-              record {
-                fresh = [];
-                played = λ e. not-both e refl;
-                ended = λ e. not-both e refl;
-                unplayed = λ _. (refl, failed h);
-                written = inl refl;
-                held = λ w. not-both w (past-part (c .passing) (unread buf c) part);
-              };
-          further = not-both refl;
-        },
-      )
+      subst (λ (r : Cursor). Advanced opened c buf r buf room) (sym made)
+      (record {
+        found = λ _.
+            record {
+              lies = ended-lies buf room (ready .2);
+              fresh = [];
+              played = λ e. not-both e refl;
+              ended = λ e. not-both e refl;
+              unplayed = λ _. (refl, failed h);
+              written = inl refl;
+              held = λ w. not-both w (past-part (c .passing) (unread buf c) none);
+            };
+        further = not-both refl;
+      })
+
+  inside : c .at ≤ c .have
+  inside = omega (arith, ready .0 .0, ready .0 .1)
 
   module _ (left : ℕ) (l : left ≡ cond (c .passing) 0 (c .have - c .at)) where
     -- what is unread fills the buffer
     pub refill-full : {r : Cursor} → r ≡ allRead left true true false → not (c .passing) && eqb left (length buf) ≡ true
-        → Stepped opened c buf room r buf
+        → Advanced opened c buf r buf room
     refill-full made t =
         let k = full-known (c .passing) left (c .have - c .at) (length buf) l t in
-        let u = part-whole (c .at) (c .have) buf (ready .0) (ready .1) (k .2) in
-        subst (λ (r : Cursor). Stepped opened c buf room r buf) (sym made) (
-          omega (arith, k .1, ready .3),
-          record {
-            found = λ _.
-                record {
-                  fresh = [];
-                  played = λ _ more _. (
-                    rw (sub-zero left)
-                        (take-all left buf (omega arith) ∙ full-text (c .passing) (unread buf c) buf more (k .0) u part),
-                    full-rest (c .passing) (unread buf c) more (k .0) part,
-                  );
-                  ended = λ _ e. not-both e refl;
-                  unplayed = not-both refl;
-                  written = inl refl;
-                  held = λ w. not-both w (past-part (c .passing) (unread buf c) part);
-                };
-            further = not-both refl;
-          },
-        )
+        let u : unread buf c ≡ buf = part-whole (c .at) (c .have) buf inside (ready .0 .2) (k .2) in
+        let all : take left buf ≡ buf = take-all left buf (omega (arith, k .1)) in
+        let within : left ≤ length buf = omega (arith, k .1) in
+        let bare : holdsLine (take left buf) ≡ false = ap holdsLine (all ∙ sym u) ∙ none in
+        subst (λ (r : Cursor). Advanced opened c buf r buf room) (sym made)
+        (record {
+          found = λ _.
+              record {
+                lies = all-lies buf left within bare room true true false (ready .2);
+                fresh = [];
+                played = λ _ more _. (
+                  all-text buf left within bare ∙ all ∙ full-text (c .passing) (unread buf c) buf more (k .0) u none,
+                  ap (λ (s : List ℕ). past true (s ++ more)) (all-left buf left within bare)
+                      ∙ full-rest (c .passing) (unread buf c) more (k .0) none,
+                );
+                ended = λ _ e. not-both e refl;
+                unplayed = not-both refl;
+                written = inl refl;
+                held = λ w. not-both w (past-part (c .passing) (unread buf c) none);
+              };
+          further = not-both refl;
+        })
 
-    module _ (after : List ℕ) (front : take left after ≡ cond (c .passing) [] (unread buf c)) where
+    module _ (after : List ℕ) (same : length after ≡ length buf) (front : take left after ≡ cond (c .passing) [] (unread buf c)) where
       -- the input is over
       pub refill-ended : {r : Cursor} → r ≡ allRead left (not (c .passing) && (ltb 0 left || not opened)) false true
-          → Stepped opened c buf room r after
+          → Advanced opened c buf r after room
       refill-ended made =
-          let n = length-part (c .at) (c .have) buf (ready .0) (ready .1) in
-          let short : length (unread buf c) ≤ length buf = omega (arith, n, ready .1) in
-          subst (λ (r : Cursor). Stepped opened c buf room r after) (sym made) (
-            omega (arith, left-within (c .passing) left (c .have - c .at) l, ready .1, ready .3),
-            record {
-              found = λ _.
-                  record {
-                    fresh = [];
-                    played = λ e more none.
-                        let p = plays-unpassing (c .passing) _ e in (
-                          rw (sub-zero left)
-                              (front ∙ ended-text (c .passing) (unread buf c) more part (none refl) (length buf) p short),
-                          ended-rest (c .passing) (unread buf c) more part (none refl) p,
-                        );
-                    ended = λ _ _. past-part (c .passing) (unread buf c) part;
-                    unplayed = λ e.
-                        let k =
-                        ended-none (c .passing) opened (ltb 0 left) (unread buf c)
-                        (λ q t. omega (arith, n, left-known (c .passing) left (c .have - c .at) l q, ltb-false 0 left t)) e in
-                        (refl, over (past-end (c .passing) (unread buf c) part ∙ k .0) (k .1));
-                    written = inl refl;
-                    held = λ h. not-both h (past-part (c .passing) (unread buf c) part);
-                  };
-              further = not-both (or-true (not (c .passing) && (ltb 0 left || not opened)));
-            },
-          )
+          let n = length-part (c .at) (c .have) buf inside (ready .0 .2) in
+          let short : length (unread buf c) ≤ length buf = omega (arith, n, ready .0 .2) in
+          let within : left ≤ length after =
+          omega (arith, left-within (c .passing) left (c .have - c .at) l, ready .0 .2, same) in
+          let bare : holdsLine (take left after) ≡ false = ap holdsLine front ∙ none-either (c .passing) (unread buf c) none in
+          subst (λ (r : Cursor). Advanced opened c buf r after room) (sym made)
+          (record {
+            found = λ _.
+                record {
+                  lies = all-lies after left within bare room (not (c .passing) && (ltb 0 left || not opened)) false true (ready .2);
+                  fresh = [];
+                  played = λ e more nothing.
+                      let p = plays-unpassing (c .passing) _ e in (
+                        all-text after left within bare
+                            ∙ front
+                            ∙ ended-text (c .passing) (unread buf c) more none (nothing refl) (length buf) p short,
+                        ap (λ (s : List ℕ). past false (s ++ more)) (all-left after left within bare)
+                            ∙ ended-rest (c .passing) (unread buf c) more none (nothing refl) p,
+                      );
+                  ended = λ _ _. past-part (c .passing) (unread buf c) none;
+                  unplayed = λ e.
+                      let k =
+                      ended-none (c .passing) opened (ltb 0 left) (unread buf c)
+                      (λ q t. omega (arith, n, left-known (c .passing) left (c .have - c .at) l q, ltb-false 0 left t)) e in
+                      (refl, over (past-end (c .passing) (unread buf c) none ∙ k .0) (k .1));
+                  written = inl refl;
+                  held = λ h. not-both h (past-part (c .passing) (unread buf c) none);
+                };
+            further = not-both (or-true (not (c .passing) && (ltb 0 left || not opened)));
+          })
 
       -- the read brought bytes
-      pub refill-more : (got : ℕ) → 0 < got → left + got ≤ length after → length after ≡ length buf
-          → Stepped opened c buf room
-          (record {
-            start = 0;
-            end = 0;
-            at = 0;
-            have = left + got;
-            used = 0;
-            plays = false;
-            passing = c .passing;
-            last = false;
-          })
-          after
-      refill-more got some within same =
-          let fresh : List ℕ = take got (drop left after) in (
-            omega (arith, ready .3),
-            record {
-              found = λ e. not-both e refl;
-              further = λ _. (
-                record {
-                  fresh = fresh;
-                  kept = λ more.
-                      past-read (c .passing) (unread buf c) fresh more part
-                      ∙ ap (λ (s : List ℕ). past (c .passing) (s ++ more))
-                      (sym (read-behind left got after (cond (c .passing) [] (unread buf c)) front));
-                  stays = λ e. e;
-                  written = inl refl;
-                  held = λ h. not-both h (past-part (c .passing) (unread buf c) part);
-                },
-                omega (arith, length-take-le got (drop left after) (omega (arith, length-drop left after))),
-              );
-            },
-          )
+      pub refill-more : (got whole : ℕ) → 0 < got → left + got ≤ length after → LinesEnd after (left + got) whole
+          → Advanced opened c buf
+          (record { at = 0; whole = whole; have = left + got; used = 0; plays = false; passing = c .passing; last = false })
+          after room
+      refill-more got whole some within lines =
+          let fresh : List ℕ = take got (drop left after) in
+          record {
+            found = λ e. not-both e refl;
+            further = λ _. (
+              record {
+                ready = ((omega arith, lines .within, within, lines .ends, lines .none), omega arith, ready .2);
+                fresh = fresh;
+                kept = λ more.
+                    past-read (c .passing) (unread buf c) fresh more none
+                    ∙ ap (λ (s : List ℕ). past (c .passing) (s ++ more))
+                    (sym (read-behind left got after (cond (c .passing) [] (unread buf c)) front));
+                stays = λ e. e;
+                written = inl refl;
+                held = λ h. not-both h (past-part (c .passing) (unread buf c) none);
+              },
+              omega (arith, some, within, length-take-le got (drop left after) (omega (arith, within, length-drop left after))),
+            );
+          }

@@ -10,25 +10,24 @@ use lib.ListN.{length, take, length-append}
 use Rattle.fields.specs.Line.{nextLine}
 use Rattle.store.proofs.Choices.{not-both}
 use Rattle.playback_cursor.specs.declared.Cursor.{Cursor}
-use Rattle.playback_cursor.specs.Cut.{holdsLine, behindLine, past, unread, ahead, Unplayed, over, failed, endless, Fetched, allRead}
+use Rattle.playback_cursor.specs.Cut.{holdsLine, behindLine, past, unread, ahead, Ready, Unplayed, over, failed, endless, Fetched, allRead}
 use Rattle.playback_cursor.specs.Step.{Further}
+use Rattle.playback_cursor.proofs.WholeLines.{or-on}
 use Rattle.playback_cursor.proofs.Cuts.{length-part}
 use Rattle.playback_cursor.proofs.Past.{past-within}
+use Rattle.playback_cursor.proofs.Refills.{ended-lies}
 
 -- no step
-further-none : (c : Cursor) (buf : List ℕ) (room : ℕ) → Further c buf c buf room
-further-none c buf room =
+further-none : (c : Cursor) (buf : List ℕ) (room : ℕ) → Ready buf room c → Further c buf c buf room
+further-none c buf room ready =
     record {
+      ready = ready;
       fresh = [];
       kept = λ more. refl;
       stays = λ e. e;
       written = inr (refl, refl, refl);
       held = λ _. (refl, refl, λ _. refl);
     }
-
-or-on : (o p q : Bool) → o || p ≡ true → (p ≡ true → q ≡ true) → o || q ≡ true
-or-on true p q e f = refl
-or-on false p q e f = f e
 
 module _ (c : Cursor) (buf : List ℕ) (room : ℕ) (d : Cursor) (mid : List ℕ) (f : Further c buf d mid room) where
   kept-on : (g more : List ℕ) → ahead buf c (f .fresh ++ g ++ more) ≡ ahead mid d (g ++ more)
@@ -55,6 +54,7 @@ module _ (c : Cursor) (buf : List ℕ) (room : ℕ) (d : Cursor) (mid : List ℕ
   further-further : (r : Cursor) (after : List ℕ) → Further d mid r after room → Further c buf r after room
   further-further r after g =
       record {
+        ready = g .ready;
         fresh = f .fresh ++ g .fresh;
         kept = λ more. kept-on (g .fresh) more ∙ g .kept more;
         stays = λ e. f .stays (g .stays e);
@@ -70,6 +70,7 @@ module _ (c : Cursor) (buf : List ℕ) (room : ℕ) (d : Cursor) (mid : List ℕ
       → Fetched opened c buf r after room
   further-fetched opened r after same g =
       record {
+        lies = g .lies;
         fresh = f .fresh ++ g .fresh;
         played = λ q more n.
             let w = g .played q more n in (
@@ -97,9 +98,9 @@ abbrev pub Searched : Cursor → List ℕ → Cursor → List ℕ → ℕ → �
 Searched c buf d mid room turns =
     (f : Further c buf d mid room) × (18446744073709551615 + cond (d .passing) 1 0 ≤ turns + length (f .fresh) + cond (c .passing) 1 0)
 
-pub searched-none : (c : Cursor) (buf : List ℕ) (room : ℕ) → Searched c buf c buf room 18446744073709551615
+pub searched-none : (c : Cursor) (buf : List ℕ) (room : ℕ) → Ready buf room c → Searched c buf c buf room 18446744073709551615
 unfolding further-none
-searched-none c buf room = (further-none c buf room, omega arith)
+searched-none c buf room ready = (further-none c buf room ready, omega arith)
 
 pub searched-more : (c : Cursor) (buf : List ℕ) (room : ℕ) (d : Cursor) (mid : List ℕ) (turns : ℕ)
     → Searched c buf d mid room turns → 0 < turns
@@ -127,11 +128,12 @@ unpassed-within false u f m e h = omega (arith, length-append u (f ++ []), lengt
 
 module _ (c : Cursor) (buf : List ℕ) (room : ℕ) (d : Cursor) (mid : List ℕ) (f : Further c buf d mid room) where
   pub further-endless : (opened : Bool) → 18446744073709551615 ≤ length (f .fresh) + cond (c .passing) 1 0
-      → (d .at ≤ d .have) × (d .have ≤ length mid) → length mid < 9223372036854775808
-      → Fetched opened c buf (allRead 0 false false true) mid room
-  further-endless opened long lies small =
-      let n = length-part (d .at) (d .have) mid (lies .0) (lies .1) in
+      → length mid < 9223372036854775808 → Fetched opened c buf (allRead 0 false false true) mid room
+  further-endless opened long small =
+      let stands = f .ready .0 in
+      let n = length-part (d .at) (d .have) mid (omega (arith, stands .0, stands .1)) (stands .2) in
       record {
+        lies = ended-lies mid room (f .ready .2);
         fresh = f .fresh;
         played = λ e. not-both e refl;
         ended = λ e. not-both e refl;
@@ -143,7 +145,7 @@ module _ (c : Cursor) (buf : List ℕ) (room : ℕ) (d : Cursor) (mid : List ℕ
               omega (
                 arith,
                 unpassed-within (c .passing) (unread buf c) (f .fresh) (length mid) e
-                    (omega (arith, ap length (f .kept []), past-within (d .passing) (unread mid d ++ []), length-append (unread mid d) [], n, lies)),
+                    (omega (arith, ap length (f .kept []), past-within (d .passing) (unread mid d ++ []), length-append (unread mid d) [], n, stands .2)),
               )))
               (many-read (c .passing) (length (f .fresh)) long),
         );

@@ -1,16 +1,17 @@
 -- A text's first line, where there is a 0A and where there is none: what it is once more follows, and what follows it.
 use mathlib.Core.Path.{_≡_, refl, sym, ap, _∙_}
-use mathlib.Core.Bool.{Bool, true, false, cond, _||_}
+use mathlib.Core.Bool.{Bool, true, false, cond, _||_, or-true}
 use mathlib.Core.List.{List, [], _∷_, _++_}
 use Prim.Native.Nat.{ℕ, zero, suc, _-_, _<_, _≤_}
 use native.Mathlib.Omega.{arith}
-use borrow.Author.Tests.{eq-eqb, ne-eqb}
+use borrow.Author.Tests.{ne-eqb}
 use lib.Dec.{eqb}
-use lib.ListN.{length, getD, take, length-drop, length-append}
-use lib.Seq.{drop-append-le, drop-append-add, drop-length}
+use lib.ListN.{length, getD, take, drop, length-drop, length-append}
+use lib.Seq.{drop-cons, drop-append-le, drop-append-add, drop-length}
 use Rattle.fields.specs.Line.{nextLine}
-use Rattle.fields.proofs.Lines.{line-within, line-some}
-use Rattle.store.proofs.Choices.{not-both, false-unless}
+use Rattle.fields.specs.Field.{endsLine}
+use Rattle.fields.proofs.Lines.{line-within}
+use Rattle.store.proofs.Choices.{not-both}
 use Rattle.playback_cursor.specs.Cut.{holdsLine, behindLine}
 
 whole-turn : (t : Bool) (b : ℕ) (x y : List ℕ) (h : Bool) → (t || h) ≡ true → (h ≡ true → x ≡ y)
@@ -39,66 +40,39 @@ unfolding holdsLine nextLine
 part-line [] h = refl
 part-line (b ∷ s) h = part-turn (eqb b 10) b (nextLine s) s (holdsLine s) h (λ k. part-line s k)
 
--- a line stands in front of its text
-front-turn : (t : Bool) (b : ℕ) (x s : List ℕ) → take (length x) s ≡ x
-    → take (length (cond t (b ∷ []) (b ∷ x))) (b ∷ s) ≡ cond t (b ∷ []) (b ∷ x)
-front-turn true b x s e = refl
-front-turn false b x s e = ap (λ (l : List ℕ). b ∷ l) e
+-- ---- where a 0A stands
 
-pub line-front : (s : List ℕ) → take (length (nextLine s)) s ≡ nextLine s
-unfolding nextLine
-line-front [] = refl
-line-front (b ∷ s) = front-turn (eqb b 10) b (nextLine s) s (line-front s)
+pub or-on : (o p q : Bool) → o || p ≡ true → (p ≡ true → q ≡ true) → o || q ≡ true
+or-on true p q e f = refl
+or-on false p q e f = f e
 
--- its last byte tells whether there is a 0A
-none-held : (s : List ℕ) → length (nextLine s) ≡ 0 → holdsLine s ≡ false
+-- it makes the first line whole
+pub held-at : (s : List ℕ) (i : ℕ) → i < length s → endsLine s i ≡ true → holdsLine s ≡ true
+unfolding holdsLine endsLine
+held-at [] i h e = absurd (omega arith)
+held-at (b ∷ s) zero h e = ap (λ (t : Bool). t || holdsLine s) e
+held-at (b ∷ s) (suc i) h e = ap (λ (t : Bool). eqb b 10 || t) (held-at s i (omega arith) e) ∙ or-true (eqb b 10)
+
+-- whatever follows
+pub held-append : (s t : List ℕ) → holdsLine s ≡ true → holdsLine (s ++ t) ≡ true
 unfolding holdsLine
-none-held [] e = refl
-none-held (b ∷ s) e = absurd (omega (arith, line-some (b ∷ s) (omega arith)))
+held-append [] t h = not-both h refl
+held-append (b ∷ s) t h = or-on (eqb b 10) (holdsLine s) (holdsLine (s ++ t)) h (λ k. held-append s t k)
 
-last-turn : (t : Bool) (b i : ℕ) (x : List ℕ) (h : Bool) → eqb b 10 ≡ t → suc i ≡ length (cond t (b ∷ []) (b ∷ x))
-    → (length x ≡ 0 → h ≡ false)
-    → ((j : ℕ) → suc j ≡ length x → eqb (getD x j 0) 10 ≡ h) → eqb (getD (cond t (b ∷ []) (b ∷ x)) i 0) 10 ≡ (t || h)
-last-turn true b zero x h e n z f = e
-last-turn true b (suc i) x h e n z f = absurd (omega arith)
-last-turn false b zero x h e n z f = e ∙ sym (z (omega arith))
-last-turn false b (suc i) x h e n z f = f i (omega arith)
-
-last-byte : (s : List ℕ) (i : ℕ) → suc i ≡ length (nextLine s) → eqb (getD (nextLine s) i 0) 10 ≡ holdsLine s
-unfolding nextLine holdsLine
-last-byte [] i e = absurd (omega arith)
-last-byte (b ∷ s) i e = last-turn (eqb b 10) b i (nextLine s) (holdsLine s) refl e (none-held s) (last-byte s)
-
--- how many bytes a whole first line has, by its last byte
-module _ (s l : List ℕ) (same : l ≡ nextLine s) where
-  pub none-whole : length l ≡ 0 → 0 ≡ cond (holdsLine s) (length (nextLine s)) 0
-  none-whole e = rw (none-held s (sym (ap length same) ∙ e))
-
-  last-held : (length l ≡ 0 → ⊥) → eqb (getD l (length l - 1) 0) 10 ≡ holdsLine s
-  last-held n = rw same (last-byte s (length (nextLine s) - 1) (omega (arith, ap length same)))
-
-  pub ended-whole : (length l ≡ 0 → ⊥) → getD l (length l - 1) 0 ≡ 10 → length l ≡ cond (holdsLine s) (length (nextLine s)) 0
-  ended-whole n e = rw (← last-held n, eq-eqb (getD l (length l - 1) 0) 10 e) (ap length same)
-
-  pub unended-whole : (length l ≡ 0 → ⊥) → (getD l (length l - 1) 0 ≡ 10 → ⊥) → 0 ≡ cond (holdsLine s) (length (nextLine s)) 0
-  unended-whole n e = rw (← last-held n, ne-eqb (getD l (length l - 1) 0) 10 e)
-
--- and whether it is whole, by how many these are
-held-some : (s : List ℕ) → holdsLine s ≡ true → 0 < length (nextLine s)
+-- none stands between a place and itself
+pub none-behind : (s : List ℕ) (n : ℕ) → holdsLine (take (n - n) (drop n s)) ≡ false
 unfolding holdsLine
-held-some [] h = not-both h refl
-held-some (b ∷ s) h = line-some (b ∷ s) (omega arith)
+none-behind s n = let z : n - n ≡ 0 = omega arith in ap (λ (i : ℕ). holdsLine (take i (drop n s))) z
 
-module _ (s : List ℕ) (n : ℕ) (e : n ≡ cond (holdsLine s) (length (nextLine s)) 0) where
-  pub whole-none : n ≡ 0 → holdsLine s ≡ false
-  whole-none z = false-unless (holdsLine s) (λ t. omega (arith, e ∙ ap (λ (b : Bool). cond b (length (nextLine s)) 0) t, held-some s t))
-
-  pub whole-some : (n ≡ 0 → ⊥) → holdsLine s ≡ true
-  whole-some z =
-      (elim (holdsLine s) as (λ b. n ≡ cond b (length (nextLine s)) 0 → b ≡ true) [ true ↦ λ _. refl | false ↦ λ k. absurd (z k) ]) e
-
-  pub whole-length : holdsLine s ≡ true → n ≡ length (nextLine s)
-  whole-length t = e ∙ ap (λ (b : Bool). cond b (length (nextLine s)) 0) t
+-- none stands from a place on, and none in front of it
+pub none-back : (s : List ℕ) (n i : ℕ) → 0 < i → i ≤ n → n ≤ length s → (getD s (i - 1) 0 ≡ 10 → ⊥)
+    → holdsLine (take (n - i) (drop i s)) ≡ false → holdsLine (take (n - (i - 1)) (drop (i - 1) s)) ≡ false
+unfolding holdsLine
+none-back s n zero some within inside other none = absurd (omega arith)
+none-back s n (suc i) some within inside other none =
+    let one : suc i - 1 ≡ i = omega arith in
+    let more : n - i ≡ suc (n - suc i) = omega arith in
+    rw (one, more, drop-cons s i 0 (omega arith), ne-eqb (getD s i 0) 10 (rw one at other)) none
 
 -- what follows the first line
 pub behind-whole : (s t : List ℕ) → holdsLine s ≡ true → behindLine (s ++ t) ≡ behindLine s ++ t

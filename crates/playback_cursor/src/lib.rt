@@ -4,10 +4,9 @@ ghost use mathlib.Core.Bool.{true, false, cond, not};
 ghost use mathlib.Core.Logic.{_⊎_};
 ghost use Prim.Native.Nat.{_+_, _-_, _<_, _≤_};
 ghost use lib.ListN.{length, take, drop};
-ghost use Rattle.fields.specs.Line.{nextLine};
 ghost use Rattle.playback_reply.specs.Reply.{longestReply};
-ghost use Rattle.playback_cursor.specs.Cut.{holdsLine, unread, allRead, replied, Ready, Lies, Fetched, Followed};
-ghost use Rattle.playback_cursor.specs.Step.{Advanced};
+ghost use Rattle.playback_cursor.specs.Cut.{holdsLine, unread, allRead, replied, Ready, Fetched, Followed};
+ghost use Rattle.playback_cursor.specs.Step.{Roomy, LinesEnd, Advanced};
 
 // Whether a read or a write that moved no byte is to be tried again: a signal interrupted it, or the other side is not ready, for which the
 // program waits and lets others run.
@@ -98,7 +97,7 @@ struct Room {
 // Makes room in the output for one more reply: where it might not fit, all that is there is written out first.
 fn with_room(out: &[u8], used: usize) -> Room
     requires { ⌜ (used ≤ length (now out)) × (longestReply ≤ length (now out)) ⌝ }
-    ensures { λ r. ⌜ (r .used + longestReply ≤ length (now (out .entry))) × ((r .used ≡ 0) ⊎ (r .used ≡ used)) × (used + longestReply ≤ length (now (out .entry)) → r .used ≡ used) × (r .failed ≡ true → length (now (out .entry)) < used + longestReply) ⌝ }
+    ensures { λ r. ⌜ Roomy used (length (now (out .entry))) r ⌝ }
 {
     if used + playback_reply::LONGEST_REPLY <= out.len() {
         return Room {
@@ -113,25 +112,27 @@ fn with_room(out: &[u8], used: usize) -> Room
     }
 }
 
-// Bytes of a text's first line with its 0A; 0 where no 0A is there.
-fn whole_line(s: &[u8]) -> usize
-    ensures { λ r. ⌜ r ≡ cond (holdsLine (now (s .entry))) (length (nextLine (now (s .entry)))) 0 ⌝ }
+// The place behind the last 0A of the first n bytes; 0 where there is none.
+fn lines_end(s: &[u8], n: usize) -> usize
+    requires { ⌜ n ≤ length (now s) ⌝ }
+    ensures { λ r. ⌜ LinesEnd (now (s .entry)) n r ⌝ }
 {
-    let line = fields::next_line(s);
-    let n = line.len();
-    if n == 0 {
-        return 0;
+    let mut i = n;
+    while 0 < i {
+        if s[i - 1] == 10 {
+            return i;
+        }
+        i -= 1;
     }
-    if line[n - 1] == 10 { n } else { 0 }
+    0
 }
 
-// Where a playback stands: the text to play next, from `start` to `end` of the buffer; what of the buffer follows, from `at` to `have`; how
-// much of the output is used; whether the text is to be played; whether the rest of a line that filled the buffer is still to be passed over;
-// whether nothing follows.
+// Where a playback stands. What is unread is the buffer from `at` to `have`; the text to play next is its next line, cut from what stands
+// before `whole`, the place behind the last 0A, or the end of a text that has none. How much of the output is used; whether the text is to
+// be played; whether the rest of a line that filled the buffer is to be passed over next; whether nothing follows.
 pub struct Cursor {
-    pub start: usize,
-    pub end: usize,
     pub at: usize,
+    pub whole: usize,
     pub have: usize,
     pub used: usize,
     pub plays: bool,
@@ -139,15 +140,14 @@ pub struct Cursor {
     pub last: bool,
 }
 
-// Where all that was read is the text, and all output is written.
+// Where all that was read is one text, and all output is written.
 fn all_read(end: usize, plays: bool, passing: bool, last: bool) -> Cursor
     ensures { λ r. ⌜ r ≡ allRead end plays passing last ⌝ }
 {
     Cursor {
-        start: 0,
-        end: end,
         at: 0,
-        have: 0,
+        whole: end,
+        have: end,
         used: 0,
         plays: plays,
         passing: passing,
@@ -177,12 +177,11 @@ fn bytes_left(at: usize, have: usize, passing: bool) -> usize
     if passing { 0 } else { have - at }
 }
 
-// Reads on behind what is left, which holds no whole line, after all output so far is written. A text that fills the buffer is played, as no
-// text of the form does, and the rest of its line passed over. At the end of the input a text without 0A is played, and settings that never
-// came.
+// Reads on behind what is left, which holds no whole line, after all output so far is written. A text that fills the buffer is played, as
+// no text of the form does, and the rest of its line passed over. At the end of the input a text without 0A is played, and settings that
+// never came.
 fn refill(cursor: Cursor, opened: bool, buf: &mut [u8], out: &[u8]) -> Cursor
-    requires { ⌜ Ready (length (now buf)) (length (now out)) cursor × (holdsLine (unread (now buf) cursor) ≡ false) ⌝ }
-    ensures { λ r. ⌜ Lies (length (now (buf .entry))) (length (now (out .entry))) r ⌝ }
+    requires { ⌜ Ready (now buf) (length (now out)) cursor × (holdsLine (unread (now buf) cursor) ≡ false) ⌝ }
     ensures { λ r. ⌜ Advanced opened cursor (now (buf .entry)) r (now (buf .exit)) (length (now (out .entry))) ⌝ }
 {
     let used = cursor.used;
@@ -200,11 +199,12 @@ fn refill(cursor: Cursor, opened: bool, buf: &mut [u8], out: &[u8]) -> Cursor
     if got == 0 {
         return all_read(left, !passing & ((0 < left) | !opened), false, true);
     }
+    let have = left + got;
+    let whole = lines_end(buf, have);
     Cursor {
-        start: 0,
-        end: 0,
         at: 0,
-        have: left + got,
+        whole: whole,
+        have: have,
         used: 0,
         plays: false,
         passing: passing,
@@ -212,27 +212,38 @@ fn refill(cursor: Cursor, opened: bool, buf: &mut [u8], out: &[u8]) -> Cursor
     }
 }
 
-// Goes on to the next whole line of the buffer, or reads on where there is none.
+// Goes on to the next whole line of the buffer, which is the end of a line to pass over, or the next text; or reads on where there is none.
 fn advance(cursor: Cursor, opened: bool, buf: &mut [u8], out: &[u8]) -> Cursor
-    requires { ⌜ Ready (length (now buf)) (length (now out)) cursor ⌝ }
-    ensures { λ r. ⌜ Lies (length (now (buf .entry))) (length (now (out .entry))) r ⌝ }
+    requires { ⌜ Ready (now buf) (length (now out)) cursor ⌝ }
     ensures { λ r. ⌜ Advanced opened cursor (now (buf .entry)) r (now (buf .exit)) (length (now (out .entry))) ⌝ }
 {
     let at = cursor.at;
+    let whole = cursor.whole;
     let have = cursor.have;
-    let n = whole_line(&buf[at..have]);
-    if n == 0 {
+    let used = cursor.used;
+    if at == whole {
         return refill(cursor, opened, buf, out);
     }
-    let end = at + n;
-    let room = with_room(out, cursor.used);
+    if cursor.passing {
+        let line = fields::next_line(&buf[at..whole]);
+        let n = line.len();
+        return Cursor {
+            at: at + n,
+            whole: whole,
+            have: have,
+            used: used,
+            plays: false,
+            passing: false,
+            last: false,
+        };
+    }
+    let room = with_room(out, used);
     Cursor {
-        start: at,
-        end: end,
-        at: end,
+        at: at,
+        whole: whole,
         have: have,
         used: room.used,
-        plays: !cursor.passing & !room.failed,
+        plays: !room.failed,
         passing: false,
         last: room.failed,
     }
@@ -240,8 +251,7 @@ fn advance(cursor: Cursor, opened: bool, buf: &mut [u8], out: &[u8]) -> Cursor
 
 // Goes on to the next text to play, or to the end. Before the settings are played, the end of the input is a text too.
 pub fn fetch(mut cursor: Cursor, opened: bool, buf: &mut [u8], out: &[u8]) -> Cursor
-    requires { ⌜ Ready (length (now buf)) (length (now out)) cursor ⌝ }
-    ensures { λ r. ⌜ Lies (length (now (buf .entry))) (length (now (out .entry))) r ⌝ }
+    requires { ⌜ Ready (now buf) (length (now out)) cursor ⌝ }
     ensures { λ r. ⌜ Fetched opened cursor (now (buf .entry)) r (now (buf .exit)) (length (now (out .entry))) ⌝ }
 {
     let mut turns = u64::MAX;
@@ -255,15 +265,15 @@ pub fn fetch(mut cursor: Cursor, opened: bool, buf: &mut [u8], out: &[u8]) -> Cu
     ended()
 }
 
-// Goes on after a text is played and its reply of `written` bytes laid behind what the output holds; behind the last, only what the output
-// holds is still to be written.
-pub fn onward(mut cursor: Cursor, written: usize, buf: &mut [u8], out: &[u8]) -> Cursor
-    requires { ⌜ Ready (length (now buf)) (length (now out)) (replied cursor written) ⌝ }
-    ensures { λ r. ⌜ Lies (length (now (buf .entry))) (length (now (out .entry))) r ⌝ }
-    ensures { λ r. ⌜ Followed cursor written (now (buf .entry)) r (now (buf .exit)) (length (now (out .entry))) ⌝ }
+// Goes on after a text of `text` bytes is played and its reply of `reply` bytes laid behind what the output holds; behind the last, only
+// what the output holds is still to be written.
+pub fn onward(mut cursor: Cursor, text: usize, reply: usize, buf: &mut [u8], out: &[u8]) -> Cursor
+    requires { ⌜ Ready (now buf) (length (now out)) (replied cursor text reply) ⌝ }
+    ensures { λ r. ⌜ Followed cursor text reply (now (buf .entry)) r (now (buf .exit)) (length (now (out .entry))) ⌝ }
 {
-    let used = cursor.used + written;
+    let used = cursor.used + reply;
     if !cursor.last {
+        cursor.at = cursor.at + text;
         cursor.used = used;
         return fetch(cursor, true, buf, out);
     }

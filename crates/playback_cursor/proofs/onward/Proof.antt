@@ -6,15 +6,19 @@ use mathlib.Core.Bool.{not}
 use lib.ListN.{length}
 use Rattle.store.proofs.Choices.{not-both}
 use Rattle.playback_cursor.specs.declared.Cursor.{Cursor}
-use Rattle.playback_cursor.specs.Cut.{Lies, Followed}
+use Rattle.playback_cursor.specs.Cut.{Followed}
+use Rattle.playback_cursor.proofs.Refills.{ended-lies}
 use Rattle.playback_cursor.proofs.onward.Statement.{statement}
 use Rattle.playback_cursor.proofs.onward.Tie as tie
 
 add-used : tie.Need-add-used
 add-used c = search needs
 
+add-cursor : tie.Need-add-cursor
+add-cursor c = let h = c .before .before .before .before .before .before .pre .0 in omega (arith, h .0, h .1, h .2)
+
 fetch-requires : tie.Need-fetch-requires
-fetch-requires c κs = search needs
+fetch-requires c κs = c .before .before .before .before .before .before .before .pre
 
 same-length : tie.Need-same-length
 same-length c = search needs
@@ -22,7 +26,11 @@ same-length c = search needs
 returns : tie.Need-returns
 returns c =
     let f = c .before .before .fetch .ensures in
-    (f .0, record { next = λ _. f .1; none = λ e. not-both (c .before .before .before .before .if1 .taken) (ap not e) })
+    record {
+      lies = f .lies;
+      next = λ _. f;
+      none = λ e. not-both (c .before .before .before .before .before .if1 .taken) (ap not e);
+    }
 
 sub-write-out : tie.Need-sub-write-out
 sub-write-out c = search needs
@@ -42,17 +50,22 @@ ended-requires c κs = search needs
 returns-2 : tie.Need-returns-2
 returns-2 c =
     let s = c .before .before .before .before .before .before .before .before in
+    let a = s .args in
     subst
-    (λ (r : Cursor). Lies (length (s .args .buf .now)) (length (s .args .out .now)) r
-    × Followed (s .args .cursor) (s .args .written) (s .args .buf .now) r (s .args .buf .now) (length (s .args .out .now)))
+    (λ (r : Cursor). Followed (a .cursor) (a .text) (a .reply) (a .buf .now) r (a .buf .now) (length (a .out .now)))
     (sym (c .ended .ensures))
-    (omega arith, record { next = λ e. not-both (ap not e) (c .before .before .before .if1 .left); none = λ _. (refl, refl) })
+    (record {
+      lies = ended-lies (a .buf .now) (length (a .out .now)) (s .pre .2);
+      next = λ e. not-both (ap not e) (c .before .before .before .if1 .left);
+      none = λ _. (refl, refl);
+    })
 
 pub onward-spec : {M : Type 1} → statement M
 onward-spec =
     tie.close
     (tie.spec
     add-used
+    add-cursor
     fetch-requires
     same-length
     returns

@@ -80,7 +80,9 @@ returns c =
     (front-some _ _ (c .before .before .write-out .ensures (c .before .if1 .taken)))
 
 bytes-left-requires : tie.Need-bytes-left-requires
-bytes-left-requires c κs = search needs
+bytes-left-requires c κs =
+    let h = c .before .before .before .before .before .pre .0 .0 in
+    omega (arith, h .0, h .1)
 
 all-read-requires : tie.Need-all-read-requires
 all-read-requires c κs = search needs
@@ -93,7 +95,9 @@ returns-2 c =
     (b .bytes-left .result) (b .bytes-left .ensures .1) (c .all-read .ensures) (c .before .if2 .taken)
 
 shift-requires : tie.Need-shift-requires
-shift-requires c κs = search needs
+shift-requires c κs =
+    let b = c .before .before in
+    omega (arith, b .bytes-left .ensures .0, begun b .pre .0 .0 .2)
 
 sub-read-in : tie.Need-sub-read-in
 sub-read-in c = search needs
@@ -118,20 +122,24 @@ returns-3 c =
     let r = c .before .before .before .before in
     let s = begun (kept r) in
     refill-ended (s .args .opened) (s .args .cursor) (s .args .buf .now) (length (s .args .out .now)) (s .pre .0) (s .pre .1)
-    (kept r .bytes-left .result) (kept r .bytes-left .ensures .1) (filled r) (front r) (c .all-read2 .ensures)
+    (kept r .bytes-left .result) (kept r .bytes-left .ensures .1) (filled r) (same r) (front r) (c .all-read2 .ensures)
 
-add-t12 : tie.Need-add-t12
-add-t12 c = search needs
+add-have : tie.Need-add-have
+add-have c = search needs
+
+lines-end-requires : tie.Need-lines-end-requires
+lines-end-requires c κs = within (c .before .before .before .before)
 
 same-length-2 : tie.Need-same-length-2
 same-length-2 c = search needs
 
 returns-4 : tie.Need-returns-4
 returns-4 c =
-    let r = c .before .before .before in
+    let r = c .before .before .before .before .before in
     let s = begun (kept r) in
     refill-more (s .args .opened) (s .args .cursor) (s .args .buf .now) (length (s .args .out .now)) (s .pre .0) (s .pre .1)
-    (kept r .bytes-left .result) (kept r .bytes-left .ensures .1) (filled r) (front r) (r .read-in .result) (omega arith) (within r) (same r)
+    (kept r .bytes-left .result) (kept r .bytes-left .ensures .1) (filled r) (same r) (front r) (r .read-in .result)
+    (c .lines-end .result) (omega arith) (within r) (c .lines-end .ensures)
 
 pub refill-spec : {M : Type 1} → statement M
 refill-spec =
@@ -154,6 +162,7 @@ refill-spec =
     all-read-requires-2
     same-length
     returns-3
-    add-t12
+    add-have
+    lines-end-requires
     same-length-2
     returns-4)

@@ -11,7 +11,7 @@ add-if1 : tie.Need-add-if1
 add-if1 c = search needs
 
 returns : tie.Need-returns
-returns c = (omega arith, inr refl, λ _. refl, λ e. not-both e refl)
+returns c = record { fits = omega arith; written = inr refl; unwritten = λ _. refl; fails = λ e. not-both e refl }
 
 sub-write-out : tie.Need-sub-write-out
 sub-write-out c = search needs
@@ -26,7 +26,7 @@ write-out-requires : tie.Need-write-out-requires
 write-out-requires c κs = search needs
 
 returns-2 : tie.Need-returns-2
-returns-2 c = (omega arith, inl refl, λ h. absurd (omega arith), λ _. omega arith)
+returns-2 c = record { fits = omega arith; written = inl refl; unwritten = λ h. absurd (omega arith); fails = λ _. omega arith }
 
 pub with-room-spec : {M : Type 1} → statement M
 with-room-spec =
