@@ -65,7 +65,7 @@ ready : (p : tie.After-play-line) →
     (replied (begun (lined p) .args .cursor) (length (lined p .next-line .result .now)) (p .play-line .result .used))
 ready p =
     let s = begun (lined p) in
-    ready-replied (s .args .cursor) (s .args .buf .now) (s .args .out .now) (lined p .next-line .result .now) (lined p .next-line .ensures)
+    ready-replied (s .args .cursor) (s .args .buf .now) (s .args .out .now) (lined p .next-line .result .now) (lined p .next-line .ensures .0)
     (s .pre) (p .play-line .result .used) (p .play-line .last .1 .1 .1 .1 .1 .1 .1 .1 .1 .1 .1 .1 .0) _
     (p .play-line .ensures .used) (p .play-line .ensures .text) (p .play-line .kept .1 .1 .1 .1 .1 .1 .1 .1 .1 .1 .1 .1 .0)
 
@@ -137,7 +137,7 @@ returns c =
     let o = onward c in
     let p = played (o .before) in
     let s = begun (lined p) in
-    turned (call s) (s .args .cursor) (s .args .buf .now) (s .args .out .now) (lined p .next-line .result .now) (lined p .next-line .ensures)
+    turned (call s) (s .args .cursor) (s .args .buf .now) (s .args .out .now) (lined p .next-line .result .now) (lined p .next-line .ensures .0)
     (p .play-line .result) _ _ (p .play-line .last .1 .1 .1 .1 .1 .1 .1 .1 .1 .1 .1 .1 .0) (p .play-line .ensures) (same-output p)
     (o .onward .result) (o .onward .last .1 .1 .1 .0) (o .onward .ensures)
 
