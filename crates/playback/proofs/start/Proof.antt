@@ -63,7 +63,7 @@ ready : (p : tie.After-play-settings) →
 ready p =
     let f = first p .fetch in
     let g = p .play-settings in
-    ready-replied (f .result) (f .last .1 .1 .0) (out (first p)) (lined p .next-line .result .now) (lined p .next-line .ensures)
+    ready-replied (f .result) (f .last .1 .1 .0) (out (first p)) (lined p .next-line .result .now) (lined p .next-line .ensures .0)
     (f .ensures .lies) (g .result .used) (g .last .1 .1 .1 .1 .1 .1 .1 .1 .1 .0) _ (g .ensures .2) (g .ensures .3) (g .kept .1 .1 .1 .1 .1 .1 .1 .1 .1 .0)
 
 -- ---- the needs
@@ -151,7 +151,7 @@ returns c =
     let b = begin f in
     let z = closed (lined p) .closed-state in
     begun (entered b .args .buf .now) (out f) _ (b .begin .result) (b .begin .ensures) (f .fetch .result) (f .fetch .last .1 .1 .0)
-    (f .fetch .ensures) (z .result) (z .ensures) _ _ (lined p .next-line .result .now) (lined p .next-line .ensures)
+    (f .fetch .ensures) (z .result) (z .ensures) _ _ (lined p .next-line .result .now) (lined p .next-line .ensures .0)
     (p .play-settings .result .used) (p .play-settings .last .1 .1 .1 .1 .1 .1 .1 .1 .1 .0) (p .play-settings .ensures) (o .onward .last .1 .1 .1 .0)
     (same-output p) (o .onward .ensures)
 

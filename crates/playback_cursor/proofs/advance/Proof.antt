@@ -24,7 +24,7 @@ inside : (n : tie.After-next-line)
 inside n =
     let s = begun (found n) in
     text-inside (s .args .cursor) (s .args .buf .now) (s .pre .0) (some (found n)) (length (n .next-line .result .now))
-    (ap length (n .next-line .ensures))
+    (ap length (n .next-line .ensures .0))
 
 -- ---- the needs
 
@@ -61,7 +61,7 @@ returns-2 : tie.Need-returns-2
 returns-2 c =
     let s = begun (found c) in
     line-passed (s .args .cursor) (s .args .buf .now) (s .pre .0) (some (found c)) (s .args .opened) (length (s .args .out .now))
-    (length (c .next-line .result .now)) (ap length (c .next-line .ensures)) (s .pre .1, s .pre .2) (c .before .before .before .if2 .taken)
+    (length (c .next-line .result .now)) (ap length (c .next-line .ensures .0)) (s .pre .1, s .pre .2) (c .before .before .before .if2 .taken)
 
 with-room-requires : tie.Need-with-room-requires
 with-room-requires c κs = let s = begun (c .before) in (s .pre .1, s .pre .2)
