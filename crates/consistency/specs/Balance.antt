@@ -56,7 +56,8 @@ paysFor i r = eqb (r .kind) letterS && eqb (r .meter) i
 unfoldable pub sentHeat : Handed → List Input → ℕ → Heat
 sentHeat h is i = heatOf ofReading (keep (countsFor (settingsIn h) i) (flatten (accountOf h is .stables)))
 
--- paid: the stable results of the output as it came; fetched records are no part of it
+-- paid: the stable results of the output as it came, every piece of which is a record (`Clean` in Demand.antt); fetched records are no part
+-- of it
 unfoldable pub paidHeat : Handed → List Input → ℕ → Heat
 paidHeat h is i = heatOf ofResult (keep (paysFor i) (map recordIn (outputOf h is)))
 

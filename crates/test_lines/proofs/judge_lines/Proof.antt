@@ -15,12 +15,16 @@ abbrev μ-loop : tie.MeasureT-loop
 μ-loop text at₀ at = length text - at
 
 -- the line has a byte, and lies within what is left of the text
-line : (c : tie.After-judge Inv-loop μ-loop)
-    → (0 < length (c .before .next-line .result .now))
-    × (length (c .before .next-line .result .now) ≤ length (c .before .before .before .before .before .before .args .text .now) - c .before .before .before .before .loop .at)
+line :
+    (c : tie.After-judge Inv-loop μ-loop) →
+    let read = c .before in
+    let turn = read .before .before .before in
+    (0 < length (read .next-line .result .now)) ×
+    (length (read .next-line .result .now) ≤ length (turn .before .before .args .text .now) - turn .loop .at)
 line c =
-    let text = c .before .before .before .before .before .before .args .text .now in
-    let at = c .before .before .before .before .loop .at in
+    let turn = c .before .before .before .before in
+    let text = turn .before .before .args .text .now in
+    let at = turn .loop .at in
     let rest = take (length text - at) (drop at text) in
     let size : length rest ≡ length text - at = simp (length-take, length-drop) (omega arith) in
     let some = line-some rest (omega arith) in
