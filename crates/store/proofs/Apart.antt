@@ -15,7 +15,10 @@ use Rattle.store.proofs.Pairs.{every-to, pairwise-append, pairwise-to, 
 use Rattle.store.proofs.Gathering.{place, every-placed, gather-lines}
 
 -- a relation that holds in each line, and from a lower line to a higher one, holds among all that is gathered
-gather-pairwise : (R : Placed → Placed → Type 0) → ((a b : Placed) → a .line < b .line → R a b) → (length j n : ℕ) (lines : List (List Reading)) → Every (λ (kept : List Reading). (m : ℕ) → Pairwise (λ (r s : Reading). R (place m r) (place m s)) kept) lines → Pairwise R (gather length j n lines)
+gather-pairwise :
+    (R : Placed → Placed → Type 0) → ((a b : Placed) → a .line < b .line → R a b) → (length j n : ℕ) (lines : List (List Reading)) →
+    Every (λ (kept : List Reading). (m : ℕ) → Pairwise (λ (r s : Reading). R (place m r) (place m s)) kept) lines →
+    Pairwise R (gather length j n lines)
 unfolding gather
 gather-pairwise R up length j n [] h = tt
 gather-pairwise R up length j n (kept ∷ lines) h =

@@ -7,6 +7,11 @@ pub false-unless : (b : Bool) → (b ≡ true → ⊥) → b ≡ false
 false-unless true f = absurd (f refl)
 false-unless false f = refl
 
+-- a test that cannot fail
+pub true-unless : (b : Bool) → (b ≡ false → ⊥) → b ≡ true
+true-unless true f = refl
+true-unless false f = absurd (f refl)
+
 -- a test does not both hold and fail
 pub not-both : {X : Type 0} {b : Bool} → b ≡ true → b ≡ false → X
 not-both p q = absurd (true≢false (sym p ∙ q))

@@ -36,7 +36,9 @@ gather-lines length j n (kept ∷ lines) =
     (every-to others (λ (a : Placed) (h : suc n ≤ a .line). omega arith) (gather-lines length j (suc n) lines))
 
 -- of each line the gathered readings are those of the bucket, in the line's order, with the line's number
-pub gather-of-line : (length j n i : ℕ) (lines : List (List Reading)) → keep (λ (a : Placed). eqb (a .line) (n + i)) (gather length j n lines) ≡ map (place (n + i)) (keep (isIn length j) (getD lines i []))
+pub gather-of-line :
+    (length j n i : ℕ) (lines : List (List Reading)) → keep (λ (a : Placed). eqb (a .line) (n + i)) (gather length j n lines) ≡
+    map (place (n + i)) (keep (isIn length j) (getD lines i []))
 unfolding gather keep
 gather-of-line length j n i [] = refl
 gather-of-line length j n zero (kept ∷ lines) =

@@ -83,7 +83,9 @@ pub not-before-earlier : (a b c : Placed) → before a b ≡ true → before c b
 not-before-earlier a b c h k = false-unless (before c a) (λ e. true≢false (sym (before-transitive c a b e h) ∙ k))
 
 -- level readings are those with equal time, line and id
-pub level-equal : (a b : Placed) → (isLevel a b ≡ true) ↔ ((a .reading .time .0 ≡ b .reading .time .0) × (a .line ≡ b .line) × (a .reading .id ≡ b .reading .id))
+pub level-equal :
+    (a b : Placed) →
+    (isLevel a b ≡ true) ↔ ((a .reading .time .0 ≡ b .reading .time .0) × (a .line ≡ b .line) × (a .reading .id ≡ b .reading .id))
 unfolding isLevel
 level-equal a b = (
   λ e.
@@ -128,7 +130,9 @@ one-earlier : (a b : Placed) → isLevel a b ≡ false → Earlier a b ⊎ Earli
 one-earlier a b h =
     go (compare (a .reading .time .0) (b .reading .time .0)) (compare (a .line) (b .line)) (compare (a .reading .id) (b .reading .id))
   where
-    go : Compared (a .reading .time .0) (b .reading .time .0) → Compared (a .line) (b .line) → Compared (a .reading .id) (b .reading .id) → Earlier a b ⊎ Earlier b a
+    go :
+        Compared (a .reading .time .0) (b .reading .time .0) → Compared (a .line) (b .line) →
+        Compared (a .reading .id) (b .reading .id) → Earlier a b ⊎ Earlier b a
     go (below t) l i = inl (by-time t)
     go (above t) l i = inr (by-time t)
     go (same t) (below l) i = inl (by-line t l)

@@ -33,7 +33,8 @@ module _ {A : Type 0} where
   every-permuted P (chain p q) h = every-permuted P q (every-permuted P p h)
 
   -- a relation that goes both ways does not mind the order
-  pub pairwise-permuted : (R : A → A → Type 0) → ((x y : A) → R x y → R y x) → {xs ys : List A} → Permutation xs ys → Pairwise R xs → Pairwise R ys
+  pub pairwise-permuted :
+      (R : A → A → Type 0) → ((x y : A) → R x y → R y x) → {xs ys : List A} → Permutation xs ys → Pairwise R xs → Pairwise R ys
   pairwise-permuted R s empty h = tt
   pairwise-permuted R s (behind x p) h = (every-permuted (R x) p (h .0), pairwise-permuted R s p (h .1))
   pairwise-permuted R s (exchange x y xs) h = ((s x y (h .0 .0), h .1 .0), (h .0 .1, h .1 .1))

@@ -30,7 +30,9 @@ not-first a z xs h m e = true≢false (sym e ∙ before-asymmetric a z (every-of
 not-itself : (a : Placed) (xs : List Placed) → Ascending (a ∷ xs) → List·Memᴰ a xs → ⊥
 not-itself a xs h m = not-first a a xs h m (every-of (λ (b : Placed). before a b ≡ true) m (h .0))
 
-first-same : (a b : Placed) (xs ys : List Placed) → Ascending (a ∷ xs) → Ascending (b ∷ ys) → Within (a ∷ xs) (b ∷ ys) → Within (b ∷ ys) (a ∷ xs) → a ≡ b
+first-same :
+    (a b : Placed) (xs ys : List Placed) → Ascending (a ∷ xs) → Ascending (b ∷ ys) → Within (a ∷ xs) (b ∷ ys) →
+    Within (b ∷ ys) (a ∷ xs) → a ≡ b
 first-same a b xs ys h k f g = go (List·Memᴰ·cases-cons (f a (List·Memᴰ·head refl))) (List·Memᴰ·cases-cons (g b (List·Memᴰ·head refl)))
   where
     go : (a ≡ b) ⊎ List·Memᴰ a ys → (b ≡ a) ⊎ List·Memᴰ b xs → a ≡ b

@@ -46,7 +46,7 @@ rowsFrom x i (suc n) = rowAt x i ∷ rowsFrom x (suc i) n
 unfoldable pub rows : Columns → ℕ → List Reading
 rows x n = rowsFrom x 0 n
 
--- the store with these readings in its first places, and everything behind them as it was
+-- the store with these readings in its first places, and everything after them as it was
 unfoldable pub withRows : Columns → List Reading → Columns
 withRows x rs =
     record {

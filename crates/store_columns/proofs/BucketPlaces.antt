@@ -24,7 +24,9 @@ placesOf bucket j times kept i =
     placesWhere (isTimeOf true bucket j) (i * readingsPerLine) (share (i * readingsPerLine) (getD kept i 0) times)
 
 -- a share gives no more places than it keeps readings
-pub few-places : (bucket j : ℕ) (times kept : List ℕ) (i : ℕ) → i < length kept → Every (λ n. n ≤ readingsPerLine) kept → length (placesOf bucket j times kept i) ≤ readingsPerLine
+pub few-places :
+    (bucket j : ℕ) (times kept : List ℕ) (i : ℕ) → i < length kept → Every (λ n. n ≤ readingsPerLine) kept →
+    length (placesOf bucket j times kept i) ≤ readingsPerLine
 few-places bucket j times kept i h small =
     omega (
       arith,
@@ -47,7 +49,9 @@ Gathering bucket j times kept places₀ places i at =
     × (sets places at (gatherLeft bucket j times kept i) ≡ sets places₀ 0 (bucketPlaces bucket j times 0 kept))
 
 module _ (bucket j : ℕ) (times kept : List ℕ) where
-  gather-next : (i : ℕ) → i < length kept → gatherLeft bucket j times kept i ≡ placesOf bucket j times kept i ++ gatherLeft bucket j times kept (i + 1)
+  gather-next :
+      (i : ℕ) → i < length kept →
+      gatherLeft bucket j times kept i ≡ placesOf bucket j times kept i ++ gatherLeft bucket j times kept (i + 1)
   unfolding bucketPlaces
   gather-next i h =
       let next : (i + 1) * readingsPerLine ≡ i * readingsPerLine + readingsPerLine = omega arith in
@@ -64,7 +68,9 @@ module _ (bucket j : ℕ) (times kept : List ℕ) where
 
     module _ (places : List ℕ) (i at : ℕ) (v : Gathering bucket j times kept places₀ places i at) where
       -- the part of the list behind what has been put is lent, and comes back with the places of the next share in front
-      pub gathering-turn : (part : List ℕ) (r : ℕ) → i < length kept → Every (λ n. n ≤ readingsPerLine) kept → length kept * readingsPerLine ≤ length places₀
+      pub gathering-turn :
+          (part : List ℕ) (r : ℕ) → i < length kept → Every (λ n. n ≤ readingsPerLine) kept →
+          length kept * readingsPerLine ≤ length places₀
           → r ≡ length (placesOf bucket j times kept i) → part ≡ sets (take (length places - at) (drop at places)) 0 (placesOf bucket j times kept i)
           → Gathering bucket j times kept places₀ (putMid at (length places - at) places part) (i + 1) (at + r)
       gathering-turn part r h small room count laid =
@@ -80,7 +86,9 @@ module _ (bucket j : ℕ) (times kept : List ℕ) where
                 ∙ v .4,
           )
 
-      pub gathering-end : length kept ≤ i → (at ≡ length (bucketPlaces bucket j times 0 kept)) × (places ≡ sets places₀ 0 (bucketPlaces bucket j times 0 kept))
+      pub gathering-end :
+          length kept ≤ i →
+          (at ≡ length (bucketPlaces bucket j times 0 kept)) × (places ≡ sets places₀ 0 (bucketPlaces bucket j times 0 kept))
       gathering-end h =
           let none = gather-none i h in
           (omega (arith, ap length none), ap (sets places at) (sym none) ∙ v .4)

@@ -1,5 +1,5 @@
--- What the tests and the selection of places say of the readings kept: a test over a column's share is the test over the rows' field, and the
--- rows at a bucket's places are the bucket's readings, line by line. By the laws of the share and of `map`.
+-- What the tests and the selection of places say of the readings kept: a test over a column's share is the test over the rows' field, and
+-- the rows at a bucket's places are the bucket's readings, line by line. By the laws of the share and of `map`.
 use Prim.Native.Nat.{ℕ, suc, _+_, _*_, _≤_}
 use mathlib.Core.Path.{_≡_, refl, sym, _∙_, ap, ap₂}
 use mathlib.Core.Bool.{Bool, true, _&&_, _||_}
@@ -33,7 +33,9 @@ module _ {A B : Type 0} (f : A → B) where
   allOf-field test [] = refl
   allOf-field test (x ∷ xs) = ap (λ (b : Bool). test (f x) && b) (allOf-field test xs)
 
-someOf-fields : {A B C : Type 0} (f : A → B) (g : A → C) (test : B → C → Bool) (xs : List A) → someOfBoth test (map f xs) (map g xs) ≡ someOf (λ x. test (f x) (g x)) xs
+someOf-fields :
+    {A B C : Type 0} (f : A → B) (g : A → C) (test : B → C → Bool) (xs : List A) →
+    someOfBoth test (map f xs) (map g xs) ≡ someOf (λ x. test (f x) (g x)) xs
 unfolding someOf someOfBoth
 someOf-fields f g test [] = refl
 someOf-fields f g test (x ∷ xs) = ap (λ (b : Bool). test (f x) (g x) || b) (someOf-fields f g test xs)
@@ -44,22 +46,30 @@ module _ (x : Columns) (base n : ℕ) (h : base + n ≤ storeLength x) where
   pub ids-rise : rises (share base n (x .ids)) ≡ rises (map (λ (r : Reading). r .id) (rowsFrom x base n))
   ids-rise = ap rises (sym (ids-share x base n h))
 
-  pub kinds-are-readings : allOf isReadingKind (share base n (x .kinds)) ≡ allOf (λ (r : Reading). isReadingKind (r .kind)) (rowsFrom x base n)
+  pub kinds-are-readings :
+      allOf isReadingKind (share base n (x .kinds)) ≡ allOf (λ (r : Reading). isReadingKind (r .kind)) (rowsFrom x base n)
   kinds-are-readings =
       ap (allOf isReadingKind) (sym (kinds-share x base n h)) ∙
       allOf-field (λ (r : Reading). r .kind) isReadingKind (rowsFrom x base n)
 
-  pub meters-below : (limit : ℕ) → allOf (λ m. ltb m limit) (share base n (x .meters)) ≡ allOf (λ (r : Reading). ltb (r .meter) limit) (rowsFrom x base n)
+  pub meters-below :
+      (limit : ℕ) →
+      allOf (λ m. ltb m limit) (share base n (x .meters)) ≡ allOf (λ (r : Reading). ltb (r .meter) limit) (rowsFrom x base n)
   meters-below limit =
       ap (allOf (λ m. ltb m limit)) (sym (meters-share x base n h)) ∙
       allOf-field (λ (r : Reading). r .meter) (λ m. ltb m limit) (rowsFrom x base n)
 
-  pub some-of-kind : (letter : ℕ) → someOf (λ kind. eqb kind letter) (share base n (x .kinds)) ≡ someOf (λ (r : Reading). eqb (r .kind) letter) (rowsFrom x base n)
+  pub some-of-kind :
+      (letter : ℕ) →
+      someOf (λ kind. eqb kind letter) (share base n (x .kinds)) ≡ someOf (λ (r : Reading). eqb (r .kind) letter) (rowsFrom x base n)
   some-of-kind letter =
       ap (someOf (λ kind. eqb kind letter)) (sym (kinds-share x base n h)) ∙
       some-map (λ (r : Reading). r .kind) (λ kind. eqb kind letter) (rowsFrom x base n)
 
-  pub some-late-due : (bucket p hold : ℕ) (now : ArrivalTick) → someOfBoth (isLateDue bucket p hold now) (share base n (x .times)) (share base n (x .arrivals)) ≡ someOf (λ (r : Reading). leb p (bucketOf bucket (r .time)) && isDue hold (r .arrival) now) (rowsFrom x base n)
+  pub some-late-due :
+      (bucket p hold : ℕ) (now : ArrivalTick) →
+      someOfBoth (isLateDue bucket p hold now) (share base n (x .times)) (share base n (x .arrivals)) ≡
+      someOf (λ (r : Reading). leb p (bucketOf bucket (r .time)) && isDue hold (r .arrival) now) (rowsFrom x base n)
   unfolding isLateDue
   some-late-due bucket p hold now =
       ap₂ (someOfBoth (isLateDue bucket p hold now)) (sym (times-share x base n h)) (sym (arrivals-share x base n h)) ∙
@@ -68,7 +78,10 @@ module _ (x : Columns) (base n : ℕ) (h : base + n ≤ storeLength x) where
 -- ---- a bucket's readings
 
 -- the rows at the places of bucket j's times
-rows-inside : (x : Columns) (base n bucket j : ℕ) → base + n ≤ storeLength x → map (λ (i : ℕ). rowAt x i) (placesWhere (isTimeOf true bucket j) base (share base n (x .times))) ≡ keep (isIn bucket j) (rowsFrom x base n)
+rows-inside :
+    (x : Columns) (base n bucket j : ℕ) → base + n ≤ storeLength x →
+    map (λ (i : ℕ). rowAt x i) (placesWhere (isTimeOf true bucket j) base (share base n (x .times))) ≡
+    keep (isIn bucket j) (rowsFrom x base n)
 unfolding isTimeOf isIn rowAt
 rows-inside x base n bucket j h = rows-where x (λ (r : Reading). r .time .0) 0 (x .times) (λ i. refl) (isTimeOf true bucket j) base n (room (base + n) x h .times)
 
@@ -83,7 +96,10 @@ keptFrom x base [] = []
 keptFrom x base (n ∷ ns) = rowsFrom x base n ∷ keptFrom x (base + readingsPerLine) ns
 
 -- the rows at a bucket's places, in shares from `base` on, are the bucket's readings of the lines numbered from `line` on
-pub bucket-rows : (x : Columns) (bucket j base line : ℕ) (ns : List ℕ) → Every (λ n. n ≤ readingsPerLine) ns → base + length ns * readingsPerLine ≤ storeLength x → map (λ (i : ℕ). rowAt x i) (bucketPlaces bucket j (x .times) base ns) ≡ map (λ (q : Placed). q .reading) (gather bucket j line (keptFrom x base ns))
+pub bucket-rows :
+    (x : Columns) (bucket j base line : ℕ) (ns : List ℕ) → Every (λ n. n ≤ readingsPerLine) ns →
+    base + length ns * readingsPerLine ≤ storeLength x → map (λ (i : ℕ). rowAt x i) (bucketPlaces bucket j (x .times) base ns) ≡
+    map (λ (q : Placed). q .reading) (gather bucket j line (keptFrom x base ns))
 unfolding bucketPlaces keptFrom gather
 bucket-rows x bucket j base line [] small h = refl
 bucket-rows x bucket j base line (n ∷ ns) small h =
@@ -95,5 +111,8 @@ bucket-rows x bucket j base line (n ∷ ns) small h =
     sym (map-append (λ (q : Placed). q .reading) (map (place line) own) (gather bucket j (suc line) (keptFrom x (base + readingsPerLine) ns)))
 
 -- all lines of the store
-pub bucket-readings : (x : Columns) (bucket j : ℕ) (ns : List ℕ) → Every (λ n. n ≤ readingsPerLine) ns → length ns * readingsPerLine ≤ storeLength x → map (λ (i : ℕ). rowAt x i) (bucketPlaces bucket j (x .times) 0 ns) ≡ map (λ (q : Placed). q .reading) (gather bucket j 1 (keptFrom x 0 ns))
+pub bucket-readings :
+    (x : Columns) (bucket j : ℕ) (ns : List ℕ) → Every (λ n. n ≤ readingsPerLine) ns → length ns * readingsPerLine ≤ storeLength x →
+    map (λ (i : ℕ). rowAt x i) (bucketPlaces bucket j (x .times) 0 ns) ≡
+    map (λ (q : Placed). q .reading) (gather bucket j 1 (keptFrom x 0 ns))
 bucket-readings x bucket j ns small h = bucket-rows x bucket j 0 1 ns small (omega arith)

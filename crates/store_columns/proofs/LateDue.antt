@@ -1,5 +1,5 @@
--- The test whether some reading of bucket p or later has waited out the hold, as bounds on its time and its arrival: a time is of bucket p or
--- later where it is not before that bucket's start, and an arrival is due where it is not behind the tick less the hold.
+-- The test whether some reading of bucket p or later has waited out the hold, as bounds on its time and its arrival: a time is of bucket p
+-- or later where it is not before that bucket's start, and an arrival is due where it is not behind the tick less the hold.
 use mathlib.Core.Path.{_≡_, refl, sym, _∙_}
 use mathlib.Core.Bool.{Bool, true, false, _&&_, and-false}
 use mathlib.Core.List.{List, [], _∷_}
@@ -19,7 +19,9 @@ use Rattle.store.proofs.Shares.{share-none, share-cons}
 
 -- ---- pairs
 
-every-share : {A : Type 0} (blank : A) (P : A → Type 0) (base n : ℕ) (xs : List A) → base + n ≤ length xs → ((i : ℕ) → P (getD xs i blank)) → Every P (share base n xs)
+every-share :
+    {A : Type 0} (blank : A) (P : A → Type 0) (base n : ℕ) (xs : List A) → base + n ≤ length xs → ((i : ℕ) → P (getD xs i blank)) →
+    Every P (share base n xs)
 every-share blank P base zero xs h each = rw (share-none base xs) tt
 every-share blank P base (suc n) xs h each =
     rw (share-cons blank base n xs h) (each base, every-share blank P (suc base) n xs (omega arith) each)
@@ -70,7 +72,9 @@ module _ (bucket p hold : ℕ) (now : ArrivalTick) (times arrivals : List ℕ) (
       (λ i a. rw (late-test bucket p (getD times i 0) h, lt-leb (p * bucket) (getD times i 0) (omega (arith, below i)))))
 
   -- the clock has not come to the hold
-  pub none-due : base + n ≤ length times → now .0 < hold → someOfBoth (isLateDue bucket p hold now) (share base n times) (share base n arrivals) ≡ false
+  pub none-due :
+      base + n ≤ length times → now .0 < hold →
+      someOfBoth (isLateDue bucket p hold now) (share base n times) (share base n arrivals) ≡ false
   unfolding isLateDue isDue
   none-due room h =
       no-pair (isLateDue bucket p hold now) (share base n times) (share base n arrivals)

@@ -1,5 +1,6 @@
--- The rows of a share and its columns: a field of the rows is a share of the field's column, the rows at the places where a column
--- passes a test are the rows whose field passes it, and rows written over themselves change nothing. One law over the field, by induction on the number of rows; each column is an instance.
+-- The rows of a share and its columns: a field of the rows is a share of the field's column, the rows at the places where a column passes a
+-- test are the rows whose field passes it, and rows written over themselves change nothing. One law over the field, by induction on the
+-- number of rows; each column is an instance.
 use Prim.Native.Nat.{ℕ, zero, suc, _+_, _-_, _≤_}
 use mathlib.Core.Path.{_≡_, refl, sym, ap}
 use mathlib.Core.Bool.{Bool}
@@ -36,7 +37,9 @@ module _ {A : Type 0} (x : Columns) (f : Reading → A) (blank : A) (column : Li
   field-own base (suc n) = rw (e base, set-getD column base blank) (field-own (suc base) n)
 
   -- the rows at the places where a column passes a test are the rows whose field passes it
-  pub rows-where : (test : A → Bool) (base n : ℕ) → base + n ≤ length column → map (λ (i : ℕ). rowAt x i) (placesWhere test base (share base n column)) ≡ keep (λ (q : Reading). test (f q)) (rowsFrom x base n)
+  pub rows-where :
+      (test : A → Bool) (base n : ℕ) → base + n ≤ length column →
+      map (λ (i : ℕ). rowAt x i) (placesWhere test base (share base n column)) ≡ keep (λ (q : Reading). test (f q)) (rowsFrom x base n)
   unfolding placesWhere share keep rowsFrom
   rows-where test base zero h = refl
   rows-where test base (suc n) h =
@@ -98,7 +101,8 @@ kept-all x base n =
     rw none (own-rows x base n [])
 
 -- a share that keeps one reading more has it in its first free place
-pub kept-more : (x : Columns) (base n : ℕ) (r : Reading) → withKept x base n (rowsFrom x base n ++ r ∷ []) ≡ withRowsAt x (base + n) (r ∷ [])
+pub kept-more :
+    (x : Columns) (base n : ℕ) (r : Reading) → withKept x base n (rowsFrom x base n ++ r ∷ []) ≡ withRowsAt x (base + n) (r ∷ [])
 unfolding withKept
 kept-more x base n r =
     let none : n - length (rowsFrom x base n ++ r ∷ []) ≡ 0 = omega (arith, length-append (rowsFrom x base n) (r ∷ []), length-rowsFrom x base n) in
@@ -110,7 +114,10 @@ pub map-replicate : {A B : Type 0} (f : A → B) (n : ℕ) (a : A) → map f (re
 map-replicate f zero a = refl
 map-replicate f (suc n) a = ap (λ (l : List _). f a ∷ l) (map-replicate f n a)
 
-pub zeroed-columns : (x : Columns) (from n : ℕ) → withRowsAt x from (replicate n zeroed) ≡ columnsOf (sets (x .ids) from (replicate n 0)) (sets (x .times) from (replicate n 0)) (sets (x .values) from (replicate n (pos 0))) (sets (x .arrivals) from (replicate n 0)) (sets (x .kinds) from (replicate n 0)) (sets (x .meters) from (replicate n 0))
+pub zeroed-columns :
+    (x : Columns) (from n : ℕ) → withRowsAt x from (replicate n zeroed) ≡ columnsOf (sets (x .ids) from (replicate n 0))
+    (sets (x .times) from (replicate n 0)) (sets (x .values) from (replicate n (pos 0))) (sets (x .arrivals) from (replicate n 0))
+    (sets (x .kinds) from (replicate n 0)) (sets (x .meters) from (replicate n 0))
 unfolding withRowsAt zeroed
 zeroed-columns x from n =
     rw (
@@ -123,5 +130,10 @@ zeroed-columns x from n =
     )
 
 -- columns that are zeroed hold zeroed readings
-pub zeroed-rows : (x : Columns) (from n : ℕ) {ids times arrivals kinds meters : List ℕ} {values : List ℤ} → ids ≡ sets (x .ids) from (replicate n 0) → times ≡ sets (x .times) from (replicate n 0) → values ≡ sets (x .values) from (replicate n (pos 0)) → arrivals ≡ sets (x .arrivals) from (replicate n 0) → kinds ≡ sets (x .kinds) from (replicate n 0) → meters ≡ sets (x .meters) from (replicate n 0) → columnsOf ids times values arrivals kinds meters ≡ withRowsAt x from (replicate n zeroed)
+pub zeroed-rows :
+    (x : Columns) (from n : ℕ) {ids times arrivals kinds meters : List ℕ} {values : List ℤ} → ids ≡ sets (x .ids) from (replicate n 0) →
+    times ≡ sets (x .times) from (replicate n 0) → values ≡ sets (x .values) from (replicate n (pos 0)) →
+    arrivals ≡ sets (x .arrivals) from (replicate n 0) → kinds ≡ sets (x .kinds) from (replicate n 0) →
+    meters ≡ sets (x .meters) from (replicate n 0) →
+    columnsOf ids times values arrivals kinds meters ≡ withRowsAt x from (replicate n zeroed)
 zeroed-rows x from n i t v a k m = rw (i, t, v, a, k, m) (sym (zeroed-columns x from n))

@@ -10,7 +10,9 @@ use borrow.Rule.Slice.PartMut.{putMid}
 
 module _ {A : Type 0} where
   -- a part from a place to the end, lent and come back with a run in front
-  pub sets-lent : (vs xs : List A) (at : ℕ) → at + length vs ≤ length xs → putMid at (length xs - at) xs (sets (take (length xs - at) (drop at xs)) 0 vs) ≡ sets xs at vs
+  pub sets-lent :
+      (vs xs : List A) (at : ℕ) → at + length vs ≤ length xs →
+      putMid at (length xs - at) xs (sets (take (length xs - at) (drop at xs)) 0 vs) ≡ sets xs at vs
   sets-lent vs xs at h =
       rw (
         take-all (length xs - at) (drop at xs) (omega (arith, length-drop at xs)),

@@ -65,7 +65,9 @@ module _ (test : ℕ → ℕ → Bool) (xs ys : List ℕ) (base n : ℕ) where
   some-pair-start = rw (left-all base n xs, left-all base n ys)
 
   module _ (found : Bool) (i : ℕ) (v : SomePairSoFar test xs ys base n found i) where
-    pub some-pair-turn : base + n ≤ length xs → base + n ≤ length ys → i < n → SomePairSoFar test xs ys base n (found || test (getD xs (base + i) 0) (getD ys (base + i) 0)) (i + 1)
+    pub some-pair-turn :
+        base + n ≤ length xs → base + n ≤ length ys → i < n →
+        SomePairSoFar test xs ys base n (found || test (getD xs (base + i) 0) (getD ys (base + i) 0)) (i + 1)
     unfolding someOfBoth
     some-pair-turn room room′ h =
         or-assoc found (test (getD xs (base + i) 0) (getD ys (base + i) 0)) (someOfBoth test (left base n xs (i + 1)) (left base n ys (i + 1)))
@@ -92,7 +94,8 @@ module _ (xs : List ℕ) (base n : ℕ) where
   rises-start = (omega arith, rw (left-all base n xs))
 
   module _ (ok : Bool) (i : ℕ) (v : RisesSoFar xs base n ok i) where
-    pub rises-turn : base + n ≤ length xs → i < n → RisesSoFar xs base n (ok && ltb (getD xs (base + i - 1) 0) (getD xs (base + i) 0)) (i + 1)
+    pub rises-turn :
+        base + n ≤ length xs → i < n → RisesSoFar xs base n (ok && ltb (getD xs (base + i - 1) 0) (getD xs (base + i) 0)) (i + 1)
     unfolding rises
     rises-turn room h =
         let before : base + (i - 1) ≡ base + i - 1 = omega arith in

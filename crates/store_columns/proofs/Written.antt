@@ -14,11 +14,15 @@ use Rattle.store.proofs.Runs.{sets-sets, getD-behind-sets}
 
 -- ---- one run behind another
 
-field-join : {A : Type 0} (f : Reading → A) (column : List A) (at next : ℕ) (rs ss : List Reading) → next ≡ at + length rs → sets (sets column at (map f rs)) next (map f ss) ≡ sets column at (map f (rs ++ ss))
+field-join :
+    {A : Type 0} (f : Reading → A) (column : List A) (at next : ℕ) (rs ss : List Reading) → next ≡ at + length rs →
+    sets (sets column at (map f rs)) next (map f ss) ≡ sets column at (map f (rs ++ ss))
 field-join f column at next rs ss e =
     rw (map-append f rs ss) (sets-sets (map f rs) (map f ss) column at next (omega (arith, length-map rs f)))
 
-pub rows-join : (x : Columns) (at next : ℕ) (rs ss : List Reading) → next ≡ at + length rs → withRowsAt (withRowsAt x at rs) next ss ≡ withRowsAt x at (rs ++ ss)
+pub rows-join :
+    (x : Columns) (at next : ℕ) (rs ss : List Reading) → next ≡ at + length rs →
+    withRowsAt (withRowsAt x at rs) next ss ≡ withRowsAt x at (rs ++ ss)
 unfolding withRowsAt
 rows-join x at next rs ss e =
     λ t.
@@ -33,7 +37,9 @@ rows-join x at next rs ss e =
 
 -- ---- rows behind a run
 
-field-behind : {A : Type 0} (f : Reading → A) (column : List A) (at : ℕ) (rs : List Reading) (i : ℕ) (d : A) → at + length rs ≤ i → getD (sets column at (map f rs)) i d ≡ getD column i d
+field-behind :
+    {A : Type 0} (f : Reading → A) (column : List A) (at : ℕ) (rs : List Reading) (i : ℕ) (d : A) → at + length rs ≤ i →
+    getD (sets column at (map f rs)) i d ≡ getD column i d
 field-behind f column at rs i d h = getD-behind-sets (map f rs) column at i d (omega (arith, length-map rs f))
 
 row-behind : (x : Columns) (at : ℕ) (rs : List Reading) (i : ℕ) → at + length rs ≤ i → rowAt (withRowsAt x at rs) i ≡ rowAt x i
@@ -49,7 +55,9 @@ row-behind x at rs i h =
       meter = field-behind (λ (r : Reading). r .meter) (x .meters) at rs i 0 h t;
     }
 
-pub rows-behind : (x : Columns) (at : ℕ) (rs : List Reading) (from n : ℕ) → at + length rs ≤ from → rowsFrom (withRowsAt x at rs) from n ≡ rowsFrom x from n
+pub rows-behind :
+    (x : Columns) (at : ℕ) (rs : List Reading) (from n : ℕ) → at + length rs ≤ from →
+    rowsFrom (withRowsAt x at rs) from n ≡ rowsFrom x from n
 unfolding rowsFrom
 rows-behind x at rs from zero h = refl
 rows-behind x at rs from (suc n) h = rw (row-behind x at rs from h, rows-behind x at rs (suc from) n (omega arith))

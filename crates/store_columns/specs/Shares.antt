@@ -1,4 +1,4 @@
--- The shares of all lines, one behind the other: a bucket's places in them.
+-- The shares of all lines, one after the other: a bucket's places in them.
 use Prim.Native.Nat.{ℕ, _+_}
 use mathlib.Core.Bool.{true}
 use mathlib.Core.List.{List, [], _∷_, _++_}

@@ -119,7 +119,7 @@ pub fn keeps_tentative(kinds: &[u8], base: usize, n: usize) -> bool
     found
 }
 
-// Whether some time is not before `first` and its arrival not behind `latest`.
+// Whether some time is not before `first` and its arrival not after `latest`.
 fn some_between(
     times: &[u32],
     arrivals: &[u32],

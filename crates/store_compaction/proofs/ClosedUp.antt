@@ -20,13 +20,17 @@ Closing blank base n stay xs₀ xs k =
 
 module _ {A : Type 0} (blank : A) where
   -- a store changes nothing at places behind it
-  places-same : (from to at : ℕ) (places : List ℕ) (xs : List A) (x : A) → at < from → PlacesRise from to places → map (λ (i : ℕ). getD (set xs at x) i blank) places ≡ map (λ (i : ℕ). getD xs i blank) places
+  places-same :
+      (from to at : ℕ) (places : List ℕ) (xs : List A) (x : A) → at < from → PlacesRise from to places →
+      map (λ (i : ℕ). getD (set xs at x) i blank) places ≡ map (λ (i : ℕ). getD xs i blank) places
   places-same from to at [] xs x h rise = refl
   places-same from to at (p ∷ ps) xs x h rise =
       rw (getD-set-other xs at p x blank (λ e. absurd (omega arith)), places-same (suc p) to at ps xs x (omega arith) (rise .2))
 
   -- the first place moved, and the rest closed up
-  closed-up-cons : (base n to p : ℕ) (places : List ℕ) (xs : List A) → base ≤ p → PlacesRise (suc p) to places → closedUp blank (suc base) n places (set xs base (getD xs p blank)) ≡ closedUp blank base (suc n) (p ∷ places) xs
+  closed-up-cons :
+      (base n to p : ℕ) (places : List ℕ) (xs : List A) → base ≤ p → PlacesRise (suc p) to places →
+      closedUp blank (suc base) n places (set xs base (getD xs p blank)) ≡ closedUp blank base (suc n) (p ∷ places) xs
   unfolding closedUp
   closed-up-cons base n to p places xs h rise =
       rw (suc-sub-suc, places-same (suc p) to base places xs (getD xs p blank) (omega arith) rise)
@@ -41,7 +45,9 @@ module _ {A : Type 0} (blank : A) where
     closing-start = rw (add-zero base, sub-zero n) (omega arith, refl, refl)
 
     module _ (xs : List A) (k : ℕ) (v : Closing blank base n stay xs₀ xs k) where
-      pub closing-turn : PlacesRise base (base + n) stay → k < length stay → Closing blank base n stay xs₀ (set xs (base + k) (getD xs (getD stay k 0) blank)) (k + 1)
+      pub closing-turn :
+          PlacesRise base (base + n) stay → k < length stay →
+          Closing blank base n stay xs₀ (set xs (base + k) (getD xs (getD stay k 0) blank)) (k + 1)
       closing-turn rise h =
           let p = getD stay k 0 in
           let (above, below) = place-within base (base + n) stay k rise h in
@@ -56,7 +62,9 @@ module _ {A : Type 0} (blank : A) where
           )
 
       -- the places given up get the blank
-      pub closing-end : (ys : List A) → length stay ≤ k → ys ≡ sets xs (base + k) (replicate (base + n - (base + k)) blank) → ys ≡ closedUp blank base n stay xs₀
+      pub closing-end :
+          (ys : List A) → length stay ≤ k → ys ≡ sets xs (base + k) (replicate (base + n - (base + k)) blank) →
+          ys ≡ closedUp blank base n stay xs₀
       closing-end ys h e =
           let count : base + n - (base + k) ≡ n - k = omega arith in
           e ∙ (rw (count, ← closed-up-none (base + k) (n - k) xs) (rw (drop-of-length-le stay {i = k} h) at (v .2)))

@@ -11,7 +11,9 @@ use Rattle.clock.proofs.Buckets.{in-bucket}
 use Rattle.store.proofs.Choices.{and-parts, false-unless}
 use Rattle.store_places.specs.Places.{isTimeOf}
 
-pub bucket-test : (length j end : ℕ) (t : ReadingTime) → 0 < length → end ≡ bucketEnd length j → leb (end - length) (t .0) && ltb (t .0) end ≡ eqb (bucketOf length t) j
+pub bucket-test :
+    (length j end : ℕ) (t : ReadingTime) → 0 < length → end ≡ bucketEnd length j →
+    leb (end - length) (t .0) && ltb (t .0) end ≡ eqb (bucketOf length t) j
 unfolding bucketEnd
 bucket-test length j end t h e =
     (elim (eqb (bucketOf length t) j) as (λ b. eqb (bucketOf length t) j ≡ b → leb (end - length) (t .0) && ltb (t .0) end ≡ b) [
@@ -34,6 +36,8 @@ chosen false true = refl
 chosen false false = refl
 
 -- a test for bucket j, compared with the side that is asked for
-pub time-test : (inside : Bool) (length j t : ℕ) (b : Bool) → b ≡ eqb (bucketOf length (record { 0 = t })) j → isTimeOf inside length j t ≡ Bool·beq b inside
+pub time-test :
+    (inside : Bool) (length j t : ℕ) (b : Bool) → b ≡ eqb (bucketOf length (record { 0 = t })) j →
+    isTimeOf inside length j t ≡ Bool·beq b inside
 unfolding isTimeOf
 time-test inside length j t b e = rw (← e) (chosen b inside)

@@ -11,7 +11,9 @@ use Rattle.store_places.specs.Places.{placesWhere, PlacesRise}
 
 -- ---- places that rise
 
-pub place-within : (from to : ℕ) (places : List ℕ) (k : ℕ) → PlacesRise from to places → k < length places → (from + k ≤ getD places k 0) × (getD places k 0 < to)
+pub place-within :
+    (from to : ℕ) (places : List ℕ) (k : ℕ) → PlacesRise from to places → k < length places →
+    (from + k ≤ getD places k 0) × (getD places k 0 < to)
 place-within from to [] k rise h = absurd (omega arith)
 place-within from to (p ∷ ps) zero rise h = (omega arith, rise .1)
 place-within from to (p ∷ ps) (suc k) rise h =
@@ -23,7 +25,9 @@ places-fit from to [] rise = omega arith
 places-fit from to (p ∷ ps) rise = omega (arith, places-fit (suc p) to ps (rise .2))
 
 -- the places behind place k rise from it on
-pub places-behind : (from to : ℕ) (places : List ℕ) (k : ℕ) → PlacesRise from to places → k < length places → PlacesRise (suc (getD places k 0)) to (drop (suc k) places)
+pub places-behind :
+    (from to : ℕ) (places : List ℕ) (k : ℕ) → PlacesRise from to places → k < length places →
+    PlacesRise (suc (getD places k 0)) to (drop (suc k) places)
 places-behind from to [] k rise h = absurd (omega arith)
 places-behind from to (p ∷ ps) zero rise h = rise .2
 places-behind from to (p ∷ ps) (suc k) rise h = places-behind (suc p) to ps k (rise .2) (omega arith)

@@ -21,7 +21,8 @@ module _ (test : ℕ → Bool) (times : List ℕ) (base n : ℕ) where
   places-left-all = rw (add-zero base, sub-zero n)
 
   module _ (i : ℕ) (room : base + n ≤ length times) (h : i < n) where
-    places-left-taken : test (getD times (base + i) 0) ≡ true → placesLeft test times base n i ≡ (base + i) ∷ placesLeft test times base n (i + 1)
+    places-left-taken :
+        test (getD times (base + i) 0) ≡ true → placesLeft test times base n i ≡ (base + i) ∷ placesLeft test times base n (i + 1)
     unfolding placesWhere
     places-left-taken t =
         let next : base + (i + 1) ≡ suc (base + i) = omega arith in
@@ -52,7 +53,9 @@ module _ (test : ℕ → Bool) (times : List ℕ) (base n : ℕ) (places₀ : Li
 
   module _ (places : List ℕ) (i k : ℕ) (v : Selecting test times base n places₀ places i k) where
     module _ (room : base + n ≤ length times) (h : i < n) (places′ : List ℕ) (k′ : ℕ) where
-      pub selecting-taken : test (getD times (base + i) 0) ≡ true → places′ ≡ set places k (base + i) → k′ ≡ k + 1 → Selecting test times base n places₀ places′ (i + 1) k′
+      pub selecting-taken :
+          test (getD times (base + i) 0) ≡ true → places′ ≡ set places k (base + i) → k′ ≡ k + 1 →
+          Selecting test times base n places₀ places′ (i + 1) k′
       selecting-taken t e f =
           let next : k + 1 ≡ suc k = omega arith in
           let first = places-left-taken test times base n i room h t in
@@ -64,12 +67,15 @@ module _ (test : ℕ → Bool) (times : List ℕ) (base n : ℕ) (places₀ : Li
             ap (sets places k) (sym first) ∙ v .4,
           )
 
-      pub selecting-passed : test (getD times (base + i) 0) ≡ false → places′ ≡ places → k′ ≡ k → Selecting test times base n places₀ places′ (i + 1) k′
+      pub selecting-passed :
+          test (getD times (base + i) 0) ≡ false → places′ ≡ places → k′ ≡ k → Selecting test times base n places₀ places′ (i + 1) k′
       selecting-passed t e f =
           let same = places-left-passed test times base n i room h t in
           rw (e, f) (omega arith, omega arith, v .2, omega (arith, ap length same), ap (sets places k) (sym same) ∙ v .4)
 
-    pub selecting-end : n ≤ i → (k ≡ length (placesWhere test base (share base n times))) × (places ≡ sets places₀ 0 (placesWhere test base (share base n times)))
+    pub selecting-end :
+        n ≤ i → (k ≡ length (placesWhere test base (share base n times))) ×
+        (places ≡ sets places₀ 0 (placesWhere test base (share base n times)))
     selecting-end h =
         let none = places-left-none test times base n i h in
         (omega (arith, ap length none), ap (sets places k) (sym none) ∙ v .4)

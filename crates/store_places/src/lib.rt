@@ -20,7 +20,7 @@ fn is_in(bucket: u32, j: u32, t: ReadingTime) -> bool
     (end - bucket as u64 <= time) & (time < end)
 }
 
-// Puts the places of a share's times of bucket j, or of the others, in front of `places`; answers how many there are.
+// Puts the places of a share's times of bucket j, or of the others, in front of `places`; returns how many there are.
 pub fn select(
     times: &[u32],
     base: usize,

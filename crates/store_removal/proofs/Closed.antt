@@ -37,7 +37,10 @@ module _ {A : Type 0} (x : Columns) (f : Reading → A) (blank : A) (column : Li
   field-places (p ∷ places) = rw (e p, field-places places)
 
   -- a column closed up holds the field of the rows at the places that stay, and of zeroed rows behind them
-  closed-field : f zeroed ≡ blank → (base n : ℕ) (places : List ℕ) → sets column base (map f (map (λ (i : ℕ). rowAt x i) places ++ replicate (n - length (map (λ (i : ℕ). rowAt x i) places)) zeroed)) ≡ closedUp blank base n places column
+  closed-field :
+      f zeroed ≡ blank → (base n : ℕ) (places : List ℕ) → sets column base
+      (map f (map (λ (i : ℕ). rowAt x i) places ++ replicate (n - length (map (λ (i : ℕ). rowAt x i) places)) zeroed)) ≡
+      closedUp blank base n places column
   unfolding closedUp
   closed-field z base n places =
       rw (
@@ -49,7 +52,10 @@ module _ {A : Type 0} (x : Columns) (f : Reading → A) (blank : A) (column : Li
       )
 
 -- the six columns closed up are the store that keeps the rows at the places that stay
-pub closed-columns : (x : Columns) (base n : ℕ) (places : List ℕ) → withKept x base n (map (λ (i : ℕ). rowAt x i) places) ≡ columnsOf (closedUp 0 base n places (x .ids)) (closedUp 0 base n places (x .times)) (closedUp (pos 0) base n places (x .values)) (closedUp 0 base n places (x .arrivals)) (closedUp 0 base n places (x .kinds)) (closedUp 0 base n places (x .meters))
+pub closed-columns :
+    (x : Columns) (base n : ℕ) (places : List ℕ) → withKept x base n (map (λ (i : ℕ). rowAt x i) places) ≡ columnsOf
+    (closedUp 0 base n places (x .ids)) (closedUp 0 base n places (x .times)) (closedUp (pos 0) base n places (x .values))
+    (closedUp 0 base n places (x .arrivals)) (closedUp 0 base n places (x .kinds)) (closedUp 0 base n places (x .meters))
 unfolding withKept withRowsAt rowAt zeroed
 closed-columns x base n places =
     λ t.
@@ -64,7 +70,9 @@ closed-columns x base n places =
 
 -- ---- the places that a selection put in front of its space
 
-module _ {A : Type 0} (test : A → Bool) (base n : ℕ) (column : List A) (h : base + n ≤ length column) (space places : List ℕ) (wide : n ≤ length space) (count : ℕ) (counted : count ≡ length (placesWhere test base (share base n column))) (put : places ≡ sets space 0 (placesWhere test base (share base n column))) where
+module _ {A : Type 0} (test : A → Bool) (base n : ℕ) (column : List A) (h : base + n ≤ length column) (space places : List ℕ)
+    (wide : n ≤ length space) (count : ℕ) (counted : count ≡ length (placesWhere test base (share base n column)))
+    (put : places ≡ sets space 0 (placesWhere test base (share base n column))) where
   pub selected : take (count - 0) places ≡ placesWhere test base (share base n column)
   selected =
       let found : List ℕ = placesWhere test base (share base n column) in
@@ -79,24 +87,36 @@ module _ {A : Type 0} (test : A → Bool) (base n : ℕ) (column : List A) (h : 
 
 module _ (x : Columns) (base n bucket j : ℕ) (h : base + n ≤ storeLength x) where
   -- the rows at the places of the times of other buckets
-  pub rows-outside : map (λ (i : ℕ). rowAt x i) (placesWhere (isTimeOf false bucket j) base (share base n (x .times))) ≡ keep (λ (q : Reading). not (isIn bucket j q)) (rowsFrom x base n)
+  pub rows-outside :
+      map (λ (i : ℕ). rowAt x i) (placesWhere (isTimeOf false bucket j) base (share base n (x .times))) ≡
+      keep (λ (q : Reading). not (isIn bucket j q)) (rowsFrom x base n)
   unfolding isTimeOf isIn rowAt
   rows-outside = rows-where x (λ (r : Reading). r .time .0) 0 (x .times) (λ i. refl) (isTimeOf false bucket j) base n (room (base + n) x h .times)
 
   -- as many readings are kept as places stay
-  pub outside-kept : {count : ℕ} → count ≡ length (placesWhere (isTimeOf false bucket j) base (share base n (x .times))) → count ≡ length (keep (λ (q : Reading). not (isIn bucket j q)) (rowsFrom x base n))
+  pub outside-kept :
+      {count : ℕ} → count ≡ length (placesWhere (isTimeOf false bucket j) base (share base n (x .times))) →
+      count ≡ length (keep (λ (q : Reading). not (isIn bucket j q)) (rowsFrom x base n))
   outside-kept e =
       e ∙ sym (length-map (placesWhere (isTimeOf false bucket j) base (share base n (x .times))) (λ (i : ℕ). rowAt x i)) ∙
       ap length rows-outside
 
   -- where no place is given up, the store is as it was
-  pub kept-whole : n ≤ length (placesWhere (isTimeOf false bucket j) base (share base n (x .times))) → withKept x base n (keep (λ (q : Reading). not (isIn bucket j q)) (rowsFrom x base n)) ≡ x
+  pub kept-whole :
+      n ≤ length (placesWhere (isTimeOf false bucket j) base (share base n (x .times))) →
+      withKept x base n (keep (λ (q : Reading). not (isIn bucket j q)) (rowsFrom x base n)) ≡ x
   kept-whole all =
       let every : length (rowsFrom x base n) ≤ length (keep (λ (q : Reading). not (isIn bucket j q)) (rowsFrom x base n)) = omega (arith, outside-kept refl, length-rowsFrom x base n) in
       rw (keep-whole (λ (q : Reading). not (isIn bucket j q)) (rowsFrom x base n) every) (kept-all x base n)
 
   -- the columns closed up over the places of the others are the store that keeps the others
-  pub closed-rows : {ids times arrivals kinds meters stay : List ℕ} {values : List ℤ} → stay ≡ placesWhere (isTimeOf false bucket j) base (share base n (x .times)) → ids ≡ closedUp 0 base n stay (x .ids) → times ≡ closedUp 0 base n stay (x .times) → arrivals ≡ closedUp 0 base n stay (x .arrivals) → values ≡ closedUp (pos 0) base n stay (x .values) → kinds ≡ closedUp 0 base n stay (x .kinds) → meters ≡ closedUp 0 base n stay (x .meters) → columnsOf ids times values arrivals kinds meters ≡ withKept x base n (keep (λ (q : Reading). not (isIn bucket j q)) (rowsFrom x base n))
+  pub closed-rows :
+      {ids times arrivals kinds meters stay : List ℕ} {values : List ℤ} →
+      stay ≡ placesWhere (isTimeOf false bucket j) base (share base n (x .times)) → ids ≡ closedUp 0 base n stay (x .ids) →
+      times ≡ closedUp 0 base n stay (x .times) → arrivals ≡ closedUp 0 base n stay (x .arrivals) →
+      values ≡ closedUp (pos 0) base n stay (x .values) → kinds ≡ closedUp 0 base n stay (x .kinds) →
+      meters ≡ closedUp 0 base n stay (x .meters) → columnsOf ids times values arrivals kinds meters ≡
+      withKept x base n (keep (λ (q : Reading). not (isIn bucket j q)) (rowsFrom x base n))
   closed-rows {ids} {times} {arrivals} {kinds} {meters} {stay} {values} e i t a v k m =
       let e′ : map (λ (p : ℕ). rowAt x p) stay ≡ keep (λ (q : Reading). not (isIn bucket j q)) (rowsFrom x base n) = rw e rows-outside in
       rw (i, t, v, a, k, m, ← e′) (sym (closed-columns x base n stay))

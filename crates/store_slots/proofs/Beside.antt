@@ -1,5 +1,6 @@
--- The slots beside the columns: what the columns' functions write, read row by row, is what the slots' functions write. A run of rows is
--- laid one row at a time, and one row laid is one slot set.
+-- A claim of its own: the slots and the columns hold the same readings. What the columns' functions write, read row by row, is what the
+-- slots' functions write (`row-placed`, `rows-zeroed`, `rows-kept`), and as many readings stay (`stays-of-rows`). A run of rows is laid one
+-- row at a time, and one row laid is one slot set.
 use Prim.Native.Nat.{ℕ, suc, _+_, _-_, _<_, _≤_}
 use mathlib.Core.Path.{_≡_, refl, sym, ap, _∙_}
 use mathlib.Core.Bool.{true, false}
@@ -15,7 +16,8 @@ use Rattle.store.specs.Lists.{keep}
 use Rattle.store.specs.Columns.{Columns, storeLength, rowAt, rows, rowsFrom, zeroed}
 use Rattle.store.specs.Parts.{withRowsAt, withKept}
 use Rattle.store.proofs.Columns.{Room, room, length-rows, row-at, share-of-rows}
-use Rattle.store_slots.specs.Slots.{zeroedFrom, staysOf, closedSlots}
+use Rattle.store_slots.specs.declared.ClosedUp.the-variants as ClosedUp
+use Rattle.store_slots.specs.Slots.{placedAt, zeroedFrom, closingUp, closedSlots}
 use Rattle.store_slots.proofs.Closing.{kept, kept-at-most}
 use Rattle.store_slots.proofs.Refusing.{isOther, has-share, stay-count, closed-share}
 use Rattle.store_slots.proofs.Zeroing.{zeroed-all}
@@ -64,8 +66,8 @@ storeLength-laid x at r =
     )
 
 -- a place that is put into is a slot set
-pub row-placed : (x : Columns) (at n : ℕ) (r : Reading) → at < n → n ≤ storeLength x → rows (withRowsAt x at (r ∷ [])) n ≡ set (rows x n) at r
-row-placed x at n r inside enough =
+row-set : (x : Columns) (at n : ℕ) (r : Reading) → at < n → n ≤ storeLength x → rows (withRowsAt x at (r ∷ [])) n ≡ set (rows x n) at r
+row-set x at n r inside enough =
     ext-getD zeroed (rows laid n) (set (rows x n) at r) (length-rows laid n ∙ sym (length-rows x n) ∙ sym (length-set (rows x n) at r)) same
   where
     laid : Columns
@@ -78,6 +80,10 @@ row-placed x at n r inside enough =
           | true ↦ λ e. let here : i ≡ at = eqb-true i at e in rw here (row-laid-here x at r (omega arith) ∙ sym (getD-set-same (rows x n) at r zeroed (omega (arith, length-rows x n))))
           | false ↦ λ e. row-laid-elsewhere x at i r (eqb-false i at e) ∙ sym (row-at x n i small) ∙ sym (getD-set-other (rows x n) at i r zeroed (eqb-false i at e))
         ]) refl
+
+pub row-placed : (x : Columns) (at n : ℕ) (r : Reading) → at < n → n ≤ storeLength x → rows (withRowsAt x at (r ∷ [])) n ≡ placedAt at r (rows x n)
+unfolding placedAt
+row-placed x at n r inside enough = row-set x at n r inside enough
 
 -- ---- a run of rows
 
@@ -94,7 +100,7 @@ rows-placed x at n [] inside enough = ap (λ (y : Columns). rows y n) (laid-none
 rows-placed x at n (r ∷ rs) inside enough =
     ap (λ (y : Columns). rows y n) (laid-first x at r rs)
     ∙ rows-placed (withRowsAt x at (r ∷ [])) (suc at) n rs (omega arith) (omega (arith, storeLength-laid x at r))
-    ∙ ap (λ (l : List Reading). sets l (suc at) rs) (row-placed x at n r (omega arith) enough)
+    ∙ ap (λ (l : List Reading). sets l (suc at) rs) (row-set x at n r (omega arith) enough)
 
 -- ---- a share
 
@@ -116,7 +122,10 @@ rows-kept x base n bucket j m some inside enough =
     ∙ closed-share base n bucket (rows x m) j (has-share base n bucket (rows x m) some (omega (arith, length-rows x m)) (omega (arith, length-rows x m)))
 
 -- and how many stay
-pub stays-of-rows : (x : Columns) (base n bucket j m : ℕ) → 0 < bucket → base + n ≤ m → length (keep (isOther bucket j) (rowsFrom x base n)) ≡ staysOf base n bucket j (rows x m)
+pub stays-of-rows :
+    (x : Columns) (base n bucket j m : ℕ) → 0 < bucket → base + n ≤ m →
+    ClosedUp.Stay (length (keep (isOther bucket j) (rowsFrom x base n))) ≡ closingUp base n bucket j (rows x m)
 stays-of-rows x base n bucket j m some inside =
-    ap (λ (l : List Reading). length (keep (isOther bucket j) l)) (sym (share-of-rows x base n m inside))
-    ∙ stay-count base n bucket (rows x m) j (has-share base n bucket (rows x m) some (omega (arith, length-rows x m)) (omega (arith, length-rows x m)))
+    ap (λ (l : List Reading). ClosedUp.Stay (length (keep (isOther bucket j) l))) (sym (share-of-rows x base n m inside)) ∙
+    stay-count base n bucket (rows x m) j
+    (has-share base n bucket (rows x m) some (omega (arith, length-rows x m)) (omega (arith, length-rows x m)))

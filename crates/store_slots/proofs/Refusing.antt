@@ -1,9 +1,9 @@
 -- When close_up finds a share, and what it owes then and where it refuses; how the code's test of a bucket is the definition's. By the
 -- tests' values.
-use mathlib.Core.Path.{_≡_, refl, sym, ap}
-use mathlib.Core.Bool.{Bool, true, false, cond, not}
+use mathlib.Core.Path.{_≡_, refl}
+use mathlib.Core.Bool.{Bool, true, false, not}
 use mathlib.Core.List.{List}
-use Prim.Native.Nat.{ℕ, zero, suc, _-_, _/_, _<_, _≤_}
+use Prim.Native.Nat.{ℕ, zero, suc, _-_, _<_, _≤_}
 use native.Mathlib.Omega.{arith}
 use lib.Dec.{T, eqb, eqb→eq}
 use lib.ListN.{length}
@@ -12,7 +12,8 @@ use Rattle.clock.specs.Buckets.{bucketOf}
 use Rattle.store.specs.declared.Reading.{Reading}
 use Rattle.store.specs.Order.{isIn}
 use Rattle.store.specs.Columns.{zeroed}
-use Rattle.store_slots.specs.Slots.{hasShare, staying, staysOf, closedSlots}
+use Rattle.store_slots.specs.declared.ClosedUp.the-variants as ClosedUp
+use Rattle.store_slots.specs.Slots.{hasShare, staying, closingUp, closedSlots}
 use Rattle.store_slots.proofs.Closing.{kept, closedRun}
 
 -- the reading is of another bucket than j
@@ -27,13 +28,13 @@ false-of : (b : Bool) → T (not b) → b ≡ false
 false-of true t = absurd t
 false-of false t = refl
 
-pub other-told : (bucket j : ℕ) (r : Reading) → T (not (eqb (r .time .0 / bucket) j)) → isOther bucket j r ≡ true
-unfolding isIn bucketOf
-other-told bucket j r t = true-of (not (eqb (r .time .0 / bucket) j)) t
+pub other-told : (bucket j : ℕ) (r : Reading) → T (not (eqb (bucketOf bucket (r .time)) j)) → isOther bucket j r ≡ true
+unfolding isIn
+other-told bucket j r t = true-of (not (eqb (bucketOf bucket (r .time)) j)) t
 
-pub same-told : (bucket j : ℕ) (r : Reading) → T (not (not (eqb (r .time .0 / bucket) j))) → isOther bucket j r ≡ false
-unfolding isIn bucketOf
-same-told bucket j r t = false-of (not (eqb (r .time .0 / bucket) j)) t
+pub same-told : (bucket j : ℕ) (r : Reading) → T (not (not (eqb (bucketOf bucket (r .time)) j))) → isOther bucket j r ≡ false
+unfolding isIn
+same-told bucket j r t = false-of (not (eqb (bucketOf bucket (r .time)) j)) t
 
 pub some-length : (bucket : ℕ) → T (not (eqb bucket 0)) → 0 < bucket
 some-length zero t = absurd t
@@ -57,18 +58,22 @@ module _ (base n bucket : ℕ) (ys : List Reading) where
   no-places l h m = rw (lt-ltb 0 bucket l, le-leb base (length ys) h, lt-leb n (length ys - base) m) refl
 
   module _ (j : ℕ) where
-    pub stay-count : hasShare base n bucket ys ≡ true → length (kept (isOther bucket j) zeroed base ys n) ≡ staysOf base n bucket j ys
-    unfolding staysOf staying
-    stay-count e = ap (λ (b : Bool). cond b (length (kept (isOther bucket j) zeroed base ys n)) n) (sym e)
+    -- what becomes of a share that is there
+    pub stay-count :
+        hasShare base n bucket ys ≡ true →
+        ClosedUp.Stay (length (kept (isOther bucket j) zeroed base ys n)) ≡ closingUp base n bucket j ys
+    unfolding closingUp staying
+    stay-count e = rw e
 
     pub closed-share : hasShare base n bucket ys ≡ true → closedRun (isOther bucket j) zeroed base ys n ≡ closedSlots base n bucket j ys
     unfolding closedSlots staying
-    closed-share e = ap (λ (b : Bool). cond b (closedRun (isOther bucket j) zeroed base ys n) ys) (sym e)
+    closed-share e = rw e
 
-    pub refused-count : hasShare base n bucket ys ≡ false → n ≡ staysOf base n bucket j ys
-    unfolding staysOf
-    refused-count e = ap (λ (b : Bool). cond b (length (staying base n bucket j ys)) n) (sym e)
+    -- and of one that is not
+    pub refused-count : hasShare base n bucket ys ≡ false → ClosedUp.NoShare ≡ closingUp base n bucket j ys
+    unfolding closingUp
+    refused-count e = rw e
 
     pub refused-share : hasShare base n bucket ys ≡ false → ys ≡ closedSlots base n bucket j ys
-    unfolding closedSlots staying
-    refused-share e = ap (λ (b : Bool). cond b (closedRun (isOther bucket j) zeroed base ys n) ys) (sym e)
+    unfolding closedSlots
+    refused-share e = rw e

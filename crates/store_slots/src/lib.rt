@@ -1,16 +1,20 @@
 // The store as one lent slice of readings: a reading put into a place, places zeroed, a share closed up.
 ghost use mathlib.Core.Path.{_≡_};
-ghost use lib.Dec.{ltb};
-ghost use lib.ListN.{length, set};
-ghost use Rattle.store_slots.specs.Slots.{hasPlaces, zeroedFrom, staysOf, closedSlots};
+ghost use Rattle.store_slots.specs.Slots.{hasPlace, placedAt, hasPlaces, zeroedFrom, closingUp, closedSlots};
 use clock::ArrivalTick;
 use clock::ReadingTime;
 use store::Reading;
 
-// Puts a reading into a place; answers whether there is such a place.
+// What becomes of a share that is closed up: how many readings stay, or that there is no such share.
+pub enum ClosedUp {
+    Stay(usize),
+    NoShare,
+}
+
+// Puts a reading into a place; returns whether there is such a place.
 pub fn place(slots: &mut [Reading], at: usize, r: Reading) -> bool
-    ensures { λ q. ⌜ q ≡ ltb at (length (now (slots .entry))) ⌝ }
-    ensures { λ _. ⌜ now (slots .exit) ≡ set (now (slots .entry)) at r ⌝ }
+    ensures { λ q. ⌜ q ≡ hasPlace at (now (slots .entry)) ⌝ }
+    ensures { λ _. ⌜ now (slots .exit) ≡ placedAt at r (now (slots .entry)) ⌝ }
 {
     if at < slots.len() {
         slots[at] = r;
@@ -19,7 +23,7 @@ pub fn place(slots: &mut [Reading], at: usize, r: Reading) -> bool
     false
 }
 
-// Zeroes the places from `from` up to `to`; answers whether they are there.
+// Zeroes the places from `from` up to `to`; returns whether they are there.
 pub fn zero(slots: &mut [Reading], from: usize, to: usize) -> bool
     ensures { λ q. ⌜ q ≡ hasPlaces from to (now (slots .entry)) ⌝ }
     ensures { λ _. ⌜ now (slots .exit) ≡ zeroedFrom from to (now (slots .entry)) ⌝ }
@@ -47,19 +51,19 @@ pub fn zero(slots: &mut [Reading], from: usize, to: usize) -> bool
 }
 
 // Takes bucket j's readings out of a share that keeps n readings from `base` on: the others keep their order, and the places given up are
-// zeroed. Answers how many stay; where there is no such share, nothing changes and the answer is n.
-pub fn close_up(slots: &mut [Reading], base: usize, n: usize, bucket: u32, j: u32) -> usize
-    ensures { λ q. ⌜ q ≡ staysOf base n bucket j (now (slots .entry)) ⌝ }
+// zeroed. Where there is no such share, nothing changes.
+pub fn close_up(slots: &mut [Reading], base: usize, n: usize, bucket: u32, j: u32) -> ClosedUp
+    ensures { λ q. ⌜ q ≡ closingUp base n bucket j (now (slots .entry)) ⌝ }
     ensures { λ _. ⌜ now (slots .exit) ≡ closedSlots base n bucket j (now (slots .entry)) ⌝ }
 {
     if bucket == 0 {
-        return n;
+        return ClosedUp::NoShare;
     }
     if slots.len() < base {
-        return n;
+        return ClosedUp::NoShare;
     }
     if slots.len() - base < n {
-        return n;
+        return ClosedUp::NoShare;
     }
     let none = Reading {
         id: 0,
@@ -74,11 +78,11 @@ pub fn close_up(slots: &mut [Reading], base: usize, n: usize, bucket: u32, j: u3
     while i < n {
         let r = slots[base + i];
         slots[base + i] = none;
-        if r.time.0 / bucket != j {
+        if clock::bucket_of(bucket, r.time) != j {
             slots[base + k] = r;
             k += 1;
         }
         i += 1;
     }
-    k
+    ClosedUp::Stay(k)
 }

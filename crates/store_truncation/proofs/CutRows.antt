@@ -21,7 +21,8 @@ use Rattle.store_truncation.proofs.UpTo.{rises-behind}
 
 module _ {A : Type 0} (number : A → ℕ) (last : ℕ) where
   -- behind one that is above the last nothing is kept
-  keep-above : (x : A) (xs : List A) → leb (number x) last ≡ false → rises (map number (x ∷ xs)) ≡ true → keep (λ y. leb (number y) last) xs ≡ []
+  keep-above :
+      (x : A) (xs : List A) → leb (number x) last ≡ false → rises (map number (x ∷ xs)) ≡ true → keep (λ y. leb (number y) last) xs ≡ []
   unfolding keep rises
   keep-above x [] above h = refl
   keep-above x (y ∷ xs) above h =
@@ -30,7 +31,9 @@ module _ {A : Type 0} (number : A → ℕ) (last : ℕ) where
       rw g (keep-above y xs g b)
 
   -- those up to the last are the first ones
-  pub keep-front : (xs : List A) → rises (map number xs) ≡ true → keep (λ y. leb (number y) last) xs ≡ take (length (keep (λ y. leb (number y) last) xs)) xs
+  pub keep-front :
+      (xs : List A) → rises (map number xs) ≡ true →
+      keep (λ y. leb (number y) last) xs ≡ take (length (keep (λ y. leb (number y) last) xs)) xs
   unfolding keep
   keep-front [] h = refl
   keep-front (x ∷ xs) h =
@@ -42,14 +45,19 @@ module _ {A : Type 0} (number : A → ℕ) (last : ℕ) where
 
 module _ (x : Columns) (base n id : ℕ) (h : base + n ≤ storeLength x) where
   -- as many readings are kept as ids
-  pub ids-kept : {count : ℕ} → count ≡ length (keep (λ i. leb i id) (share base n (x .ids))) → count ≡ length (keep (λ (q : Reading). leb (q .id) id) (rowsFrom x base n))
+  pub ids-kept :
+      {count : ℕ} → count ≡ length (keep (λ i. leb i id) (share base n (x .ids))) →
+      count ≡ length (keep (λ (q : Reading). leb (q .id) id) (rowsFrom x base n))
   ids-kept e =
       let kept : List Reading = keep (λ (q : Reading). leb (q .id) id) (rowsFrom x base n) in
       let same : length (keep (λ i. leb i id) (share base n (x .ids))) ≡ length kept = rw (← ids-share x base n h, keep-map (λ (q : Reading). q .id) (λ i. leb i id) (rowsFrom x base n)) (length-map kept (λ (q : Reading). q .id)) in
       e ∙ same
 
   -- zeroes behind the ids that are kept leave the share with the readings that are kept
-  pub cut-rows : rises (share base n (x .ids)) ≡ true → (k m : ℕ) → k ≡ length (keep (λ (q : Reading). leb (q .id) id) (rowsFrom x base n)) → m ≡ n - k → withRowsAt x (base + k) (replicate m zeroed) ≡ withKept x base n (keep (λ (q : Reading). leb (q .id) id) (rowsFrom x base n))
+  pub cut-rows :
+      rises (share base n (x .ids)) ≡ true → (k m : ℕ) → k ≡ length (keep (λ (q : Reading). leb (q .id) id) (rowsFrom x base n)) →
+      m ≡ n - k →
+      withRowsAt x (base + k) (replicate m zeroed) ≡ withKept x base n (keep (λ (q : Reading). leb (q .id) id) (rowsFrom x base n))
   unfolding withKept
   cut-rows up k m e f =
       let kept : List Reading = keep (λ (q : Reading). leb (q .id) id) (rowsFrom x base n) in

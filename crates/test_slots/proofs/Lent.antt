@@ -1,7 +1,7 @@
--- A local array of readings is lent as a slice and comes back: its cells are its elements side by side, they are lent for a lifetime that is
--- made for the call, and once that is over they lie there as the slice's last list.
+-- A local array of readings is lent as a slice and comes back: its cells are its elements side by side, they are lent for a lifetime that
+-- is made for the call, and once that is over they lie there as the slice's last list.
 use mathlib.Core.Path.{_≡_, refl, sym, subst, _∙_}
-use Prim.Native.Nat.{ℕ, _<_}
+use Prim.Native.Nat.{ℕ}
 use mathlib.Core.List.{List, [], _∷_}
 use lib.Dec.{T, lit<}
 use lib.ListN.{length}

@@ -1,16 +1,16 @@
 // Runs the same steps on the store as a slice of readings and on the store in six columns, and prints after each the ids in the slots and
-// whether both hold the same readings, place by place. The last step but one changes the columns alone, to see that a difference is told.
+// whether both hold the same readings, place by place. The last step but one changes the columns alone, to see that a difference is noticed.
 //
-// The expected output was worked out by hand from the definitions of the crate slots (specs/Slots.antt); it was not recorded from this
-// program.
+// The expected output was worked out by hand from the definitions of the crate store_slots (specs/Slots.antt); it was not recorded from
+// this program.
 ghost use mathlib.Core.Path.{_≡_};
 ghost use Prim.Native.Nat.{_+_, _<_, _≤_};
-ghost use lib.ListN.{set};
-ghost use Rattle.store_slots.specs.Slots.{zeroedFrom, closedSlots};
+ghost use Rattle.store_slots.specs.Slots.{placedAt, zeroedFrom, closingUp, closedSlots};
 use clock::ArrivalTick;
 use clock::ReadingTime;
 use libc::STDOUT_FILENO;
 use store::Reading;
+use store_slots::ClosedUp;
 
 // The store in six columns.
 struct Columns {
@@ -28,11 +28,17 @@ struct Stores {
     columns: Columns,
 }
 
+// The slots where a share was closed up, and what became of it.
+struct AfterClosing {
+    slots: [Reading; 8],
+    outcome: ClosedUp,
+}
+
 // ---- the store as a slice of readings
 
 // A reading put into a place.
 fn placed(slots: [Reading; 8], at: usize, r: Reading) -> [Reading; 8]
-    ensures { λ s. ⌜ s ≡ set slots at r ⌝ }
+    ensures { λ s. ⌜ s ≡ placedAt at r slots ⌝ }
 {
     let mut s = slots;
     store_slots::place(&mut s, at, r);
@@ -49,12 +55,15 @@ fn zeroed(slots: [Reading; 8], from: usize, to: usize) -> [Reading; 8]
 }
 
 // A share closed up over bucket j's readings.
-fn closed(slots: [Reading; 8], base: usize, n: usize, bucket: u32, j: u32) -> [Reading; 8]
-    ensures { λ s. ⌜ s ≡ closedSlots base n bucket j slots ⌝ }
+fn closed(slots: [Reading; 8], base: usize, n: usize, bucket: u32, j: u32) -> AfterClosing
+    ensures { λ r. ⌜ r ≡ record { slots = closedSlots base n bucket j slots; outcome = closingUp base n bucket j slots } ⌝ }
 {
     let mut s = slots;
-    store_slots::close_up(&mut s, base, n, bucket, j);
-    s
+    let outcome = store_slots::close_up(&mut s, base, n, bucket, j);
+    AfterClosing {
+        slots: s,
+        outcome: outcome,
+    }
 }
 
 // ---- the store in six columns
@@ -226,6 +235,20 @@ fn report(s: Stores) {
     }
 }
 
+// What became of a share that was closed up.
+fn print_outcome(outcome: ClosedUp) {
+    match outcome {
+        ClosedUp::Stay(k) => {
+            print(b", ");
+            print_place(k);
+            print(b" stay");
+        }
+        ClosedUp::NoShare => {
+            print(b", no such share");
+        }
+    }
+}
+
 // A stable reading of meter 3.
 fn reading(id: u32, time: u32, arrival: u32, value: i32) -> Reading {
     Reading {
@@ -310,7 +333,8 @@ fn close_up(s: Stores, base: usize, n: usize, bucket: u32, j: u32) -> Stores
 {
     let slots = s.slots;
     let columns = s.columns;
-    let new_slots = closed(slots, base, n, bucket, j);
+    let after = closed(slots, base, n, bucket, j);
+    let new_slots = after.slots;
     let new_columns = columns_closed(columns, base, n, bucket, j);
     let new = Stores {
         slots: new_slots,
@@ -322,8 +346,19 @@ fn close_up(s: Stores, base: usize, n: usize, bucket: u32, j: u32) -> Stores
     print_place(n);
     print(b" from place ");
     print_place(base);
+    let outcome = after.outcome;
+    print_outcome(outcome);
     report(new);
     new
+}
+
+// A share that the slots have not, closed up, and what is said of it.
+fn refused(slots: [Reading; 8], base: usize, n: usize, bucket: u32, j: u32) -> [Reading; 8] {
+    let after = closed(slots, base, n, bucket, j);
+    let outcome = after.outcome;
+    print_outcome(outcome);
+    let left = after.slots;
+    left
 }
 
 // Steps that the slots refuse: there is no such place, no such run of places, no such share, or a bucket has no length.
@@ -333,17 +368,17 @@ fn refuse(s: Stores) {
     let no_place = placed(slots, 8, reading(9, 90, 93, 9));
     let backward = zeroed(no_place, 4, 3);
     let too_far = zeroed(backward, 5, 9);
-    let no_start = closed(too_far, 9, 0, 10, 1);
-    let no_end = closed(no_start, 6, 3, 10, 1);
-    let no_length = closed(no_end, 0, 8, 0, 1);
     print(b"what the slots refuse");
+    let no_start = refused(too_far, 9, 0, 10, 1);
+    let no_end = refused(no_start, 6, 3, 10, 1);
+    let no_length = refused(no_end, 0, 8, 0, 1);
     report(Stores {
         slots: no_length,
         columns: columns,
     });
 }
 
-// A step that the columns alone take: the place that differs is told.
+// A step that the columns alone take: the place that differs is named.
 fn differ(s: Stores) {
     let slots = s.slots;
     let columns = s.columns;

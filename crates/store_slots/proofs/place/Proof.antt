@@ -1,5 +1,5 @@
--- `store_slots::place` meets its contract: a walk of its MIR, by hand. Where the place is there, the borrow is opened, the element is stored
--- to, and the borrow is closed at the list with the reading in it; where it is not, nothing is touched.
+-- `store_slots::place` meets its contract: a walk of its MIR, by hand. Where the place is there, the borrow is opened, the element is
+-- stored to, and the borrow is closed at the list with the reading in it; where it is not, nothing is touched.
 use mathlib.Core.Bool.{Bool, true, false}
 use mathlib.Core.Path.{_≡_, refl, sym, ap, subst}
 use Prim.Native.Nat.{ℕ, _<_, _*_, _^_}
@@ -45,6 +45,8 @@ use denote.Signature.{plain}
 use Rattle.store.specs.declared.Reading.{Reading}
 use Rattle.store.proofs.Reading as T
 use Rattle.store.proofs.Reading.Laws as T′
+use Rattle.store_slots.specs.Slots.{hasPlace, placedAt}
+use Rattle.store_slots.proofs.Placing.{has-place, placed, no-place, unplaced}
 use Rattle.store_slots.proofs.Elements.{R, mach, word, slice, says-both, elem-store}
 use Rattle.store_slots.proofs.place.Key.{name as #slots·place}
 use Rattle.store_slots.proofs.place as place′
@@ -74,7 +76,7 @@ module _ {M : Type 1} (𝓤 : URA M) (H : Heap 𝓤) (A : Atoms 𝓤) (W : Given
   abbrev Post : Val → SProp 𝓤
   Post = walkOf 𝓤 H A place′.ended stayed (place′.clauses 𝓤 H A mem run) .post (((κ, tt), (q, tt), tt, a, vals), tt)
 
-  exits : (v : Bool) (zs : List Reading) → length zs ≡ length ys → v ≡ ltb n (length ys) → zs ≡ set ys n r
+  exits : (v : Bool) (zs : List Reading) → length zs ≡ length ys → v ≡ hasPlace n ys → zs ≡ placedAt n r ys
       → ent 𝓤 (⋆ 𝓤 H A (‵ (fobs γ (codedHoleys R .code (heres R zs))) ∷ ‵ (fbor κ (Held R (length zs) b o γ)) ∷ ‵ (flft κ q) ∷ [])) (Post (vbool v))
   exits v zs long answer list =
       qed W (‵ (fobs γ (codedHoleys R .code (heres R zs))) ∷ ‵ (fbor κ (Held R (length zs) b o γ)) ∷ ‵ (flft κ q) ∷ []) ∵
@@ -108,12 +110,12 @@ module _ {M : Type 1} (𝓤 : URA M) (H : Heap 𝓤) (A : Atoms 𝓤) (W : Given
         assigns ! (of-opd ! (true-lit !)) (from ! (stop !)) (init ! 20 refl (tt, tt)) $
         returns-within ! Post refl (look ! 20 refl) $ forget ! 6 refl $ forget ! 8 refl $ forget ! 10 refl $ forget ! 12 refl $ forget ! 14 refl $ forget ! 16 refl $ forget ! 18 refl $ forget ! 20 refl $
         move ! (20 ∷ 21 ∷ []) $ free1 ! $ move ! (18 ∷ 19 ∷ []) $ free1 ! $ move ! (16 ∷ 17 ∷ []) $ free1 ! $ move ! (14 ∷ 15 ∷ []) $ free1 ! $ move ! (12 ∷ 13 ∷ []) $ free1 ! $ move ! (10 ∷ 11 ∷ []) $ free1 ! $ move ! (8 ∷ 9 ∷ []) $ free1 ! $ move ! (6 ∷ 7 ∷ []) $ free1 ! $ free0 ! $
-        keep ! (0 ∷ 1 ∷ 2 ∷ []) $ by ! (exits true (set ys n r) (length-set ys n r) (sym (lt-ltb n (length ys) within)) refl))
+        keep ! (0 ∷ 1 ∷ 2 ∷ []) $ by ! (exits true (set ys n r) (length-set ys n r) (has-place n ys within) (placed n ys r)))
         (λ none. skips ! $ exec ! C Λ ((tyBool, l₀) ∷ (slice, l₁) ∷ (word, l₂) ∷ (T′.mir, l₃) ∷ (word, l₄) ∷ (tyBool, l₅) ∷ (word, l₆) ∷ (tyPtr, l₇) ∷ []) body.t-4 (atRet _ Post) $
         assigns ! (of-opd ! (false-lit !)) (from ! (stop !)) (init ! 20 refl (tt, tt)) $
         returns ! (look ! 20 refl) $ forget ! 10 refl $ forget ! 12 refl $ forget ! 14 refl $ forget ! 16 refl $ forget ! 18 refl $ forget ! 20 refl $
         move ! (20 ∷ 21 ∷ []) $ free1 ! $ move ! (18 ∷ 19 ∷ []) $ free1 ! $ move ! (16 ∷ 17 ∷ []) $ free1 ! $ move ! (14 ∷ 15 ∷ []) $ free1 ! $ move ! (12 ∷ 13 ∷ []) $ free1 ! $ move ! (10 ∷ 11 ∷ []) $ free1 ! $ move ! (8 ∷ 9 ∷ []) $ free1 ! $ move ! (6 ∷ 7 ∷ []) $ free1 ! $ free0 ! $
-        keep ! (0 ∷ 1 ∷ 2 ∷ []) $ by ! (exits false ys refl (sym (le-ltb n (length ys) (nltb→le n (length ys) none))) (sym (set-out ys n r (nltb→le n (length ys) none)))))))))))))
+        keep ! (0 ∷ 1 ∷ 2 ∷ []) $ by ! (exits false ys refl (no-place n ys (nltb→le n (length ys) none)) (unplaced n ys r (nltb→le n (length ys) none))))))))))))
 
 module _ {M : Type 1} (𝓤 : URA M) (H : Heap 𝓤) (A : Atoms 𝓤) (W : Given 𝓤 H A) (mem : Memory → SProp 𝓤) (run : Routine → Fun 𝓤) where
   place-walks : (C : Calls 𝓤 H) (Λ : Loops 𝓤 H) → Walks 𝓤 H A place′.ended stayed (WpFn 𝓤 H C Λ code.function) (place′.clauses 𝓤 H A mem run)

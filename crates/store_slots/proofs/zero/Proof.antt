@@ -1,5 +1,5 @@
--- `store_slots::zero` meets its contract: a walk of its MIR, by hand. Where a test refuses, nothing is touched. Otherwise the borrow is opened
--- once, each turn of the loop stores to one element, and the borrow is closed at the list that has the places zeroed.
+-- `store_slots::zero` meets its contract: a walk of its MIR, by hand. Where a test refuses, nothing is touched. Otherwise the borrow is
+-- opened once, each turn of the loop stores to one element, and the borrow is closed at the list that has the places zeroed.
 use mathlib.Core.Bool.{Bool, true, false}
 use mathlib.Core.Path.{_≡_, refl, sym, ap, subst}
 use Prim.Native.Nat.{ℕ, suc, _<_, _≤_, _*_, _+_, _-_, _^_}

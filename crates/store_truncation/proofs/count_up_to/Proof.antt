@@ -1,4 +1,5 @@
--- `store_truncation::count_up_to` meets its contract: what the loop has left rises, and holds as many that are not above the limit as the count lacks.
+-- `store_truncation::count_up_to` meets its contract: what the loop has left rises, and holds as many that are not above the limit as the
+-- count lacks.
 use Prim.Native.Nat.{_-_}
 use native.Mathlib.Omega.{arith}
 use Rattle.store_truncation.proofs.UpTo.{Counting, counting-start, counting-turn, counting-stop, counting-end}
