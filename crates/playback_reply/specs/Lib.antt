@@ -2,3 +2,4 @@
 pub mod Sizes
 pub mod Reply
 pub mod Parts
+pub mod Put

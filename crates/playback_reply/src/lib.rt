@@ -2,7 +2,6 @@
 ghost use mathlib.Core.Path.{_≡_};
 ghost use Prim.Native.Nat.{_+_, _*_, _≤_};
 ghost use lib.ListN.{length};
-ghost use Rattle.area.specs.Laid.{laid, inFront};
 ghost use Rattle.fields.specs.Written.{writtenLength};
 ghost use Rattle.record.specs.Sizes.{recordBytes};
 ghost use Rattle.record.specs.Decoded.{decoded};
@@ -12,17 +11,22 @@ ghost use Rattle.node.specs.Sizes.{recordsPerCall};
 ghost use Rattle.playback_reply.specs.Sizes.{longestAnswer, longestReply};
 ghost use Rattle.playback_reply.specs.Reply.{wordOf, answerLine, recordLines, replyLines};
 ghost use Rattle.playback_reply.specs.Parts.{stateField};
+ghost use Rattle.playback_reply.specs.Put.{PutAt, PutInFront};
 use fields::Written;
 use protocol::Phase;
 
-// Bytes of the longest reply: an answer line and the texts of 65 records.
-pub const LONGEST_REPLY: usize = 8049;
+// Bytes of the longest answer line, and records that a call gives at most: one for each meter, and one more.
+const LONGEST_ANSWER: usize = 54;
+
+const MOST_RECORDS: usize = operator::METERS + 1;
+
+// Bytes of the longest reply: an answer line and the texts of its records.
+pub const LONGEST_REPLY: usize = LONGEST_ANSWER + MOST_RECORDS * record_text::LONGEST_RECORD_TEXT;
 
 // Writes the word of a state from `at` on; answers the place behind it.
 fn put_word(out: &mut [u8], at: usize, lines: u32, phase: Phase) -> usize
     requires { ⌜ at + length (wordOf lines phase) ≤ length (now out) ⌝ }
-    ensures { λ r. ⌜ r ≡ at + length (wordOf lines phase) ⌝ }
-    ensures { λ _. ⌜ now (out .exit) ≡ laid (now (out .entry)) at (wordOf lines phase) ⌝ }
+    ensures { λ r. ⌜ PutAt (now (out .entry)) at (wordOf lines phase) r (now (out .exit)) ⌝ }
 {
     if lines == 0 {
         return area::put_bytes(out, at, b"none");
@@ -37,8 +41,7 @@ fn put_word(out: &mut [u8], at: usize, lines: u32, phase: Phase) -> usize
 // Writes the state from `at` on, to the end of the line; answers the place behind it.
 fn put_state(out: &mut [u8], at: usize, lines: u32, phase: Phase) -> usize
     requires { ⌜ at + length (stateField lines phase) ≤ length (now out) ⌝ }
-    ensures { λ r. ⌜ r ≡ at + length (stateField lines phase) ⌝ }
-    ensures { λ _. ⌜ now (out .exit) ≡ laid (now (out .entry)) at (stateField lines phase) ⌝ }
+    ensures { λ r. ⌜ PutAt (now (out .entry)) at (stateField lines phase) r (now (out .exit)) ⌝ }
 {
     let word = area::put_bytes(out, at, b" state=");
     let end = put_word(out, word, lines, phase);
@@ -48,8 +51,7 @@ fn put_state(out: &mut [u8], at: usize, lines: u32, phase: Phase) -> usize
 // Writes the answer line from the first place on; answers its length.
 pub fn put_answer(out: &mut [u8], answer: u32, records: u32, lines: u32, phase: Phase) -> usize
     requires { ⌜ longestAnswer ≤ length (now out) ⌝ }
-    ensures { λ r. ⌜ r ≡ length (answerLine answer records lines phase) ⌝ }
-    ensures { λ _. ⌜ now (out .exit) ≡ inFront (answerLine answer records lines phase) (now (out .entry)) ⌝ }
+    ensures { λ r. ⌜ PutInFront (now (out .entry)) (answerLine answer records lines phase) r (now (out .exit)) ⌝ }
 {
     let number = fields::put_u32(out, 0, b"answer=", answer);
     let state = fields::put_u32(out, number, b" records=", records);
@@ -70,8 +72,7 @@ fn written_length(w: Written) -> usize
 // Writes the text of the record that these bytes are from `at` on, and none of bytes that are no record; answers the place behind it.
 fn put_text(out: &mut [u8], at: usize, bytes: &[u8]) -> usize
     requires { ⌜ at + longestRecordText ≤ length (now out) ⌝ }
-    ensures { λ r. ⌜ r ≡ at + length (textOf (decoded (now (bytes .entry)))) ⌝ }
-    ensures { λ _. ⌜ now (out .exit) ≡ laid (now (out .entry)) at (textOf (decoded (now (bytes .entry)))) ⌝ }
+    ensures { λ r. ⌜ PutAt (now (out .entry)) at (textOf (decoded (now (bytes .entry)))) r (now (out .exit)) ⌝ }
 {
     let written = record_text::write_text(bytes, &mut out[at..]);
     at + written_length(written)
@@ -80,8 +81,7 @@ fn put_text(out: &mut [u8], at: usize, bytes: &[u8]) -> usize
 // Writes the texts of the area's first n records from `at` on; answers the place behind them.
 pub fn put_records(out: &mut [u8], at: usize, area: &[u8], n: usize) -> usize
     requires { ⌜ (n * recordBytes ≤ length (now area)) × (at + n * longestRecordText ≤ length (now out)) ⌝ }
-    ensures { λ r. ⌜ r ≡ at + length (recordLines n (now (area .entry))) ⌝ }
-    ensures { λ _. ⌜ now (out .exit) ≡ laid (now (out .entry)) at (recordLines n (now (area .entry))) ⌝ }
+    ensures { λ r. ⌜ PutAt (now (out .entry)) at (recordLines n (now (area .entry))) r (now (out .exit)) ⌝ }
 {
     let mut place = at;
     let mut i = 0;
@@ -104,8 +104,7 @@ pub fn put_reply(
     area: &[u8],
 ) -> usize
     requires { ⌜ (longestReply ≤ length (now out)) × (records ≤ recordsPerCall) × (records * recordBytes ≤ length (now area)) ⌝ }
-    ensures { λ r. ⌜ r ≡ length (replyLines answer records lines phase (now (area .entry))) ⌝ }
-    ensures { λ _. ⌜ now (out .exit) ≡ inFront (replyLines answer records lines phase (now (area .entry))) (now (out .entry)) ⌝ }
+    ensures { λ r. ⌜ PutInFront (now (out .entry)) (replyLines answer records lines phase (now (area .entry))) r (now (out .exit)) ⌝ }
 {
     let at = put_answer(out, answer, records, lines, phase);
     put_records(out, at, area, records as usize)

@@ -19,6 +19,12 @@ lent s =
 abbrev entry : tie.After-read-command → tie.Start
 entry r = r .before .before .before .before .before .before .before .before .before .before
 
+abbrev acknowledged : tie.After-acknowledge → tie.After-display
+acknowledged d = d .before .before .before .before .before .before .before .before .before .before
+
+abbrev fetched : tie.After-fetch → tie.After-display2
+fetched d = d .before .before .before .before .before .before .before .before .before .before
+
 abbrev left : tie.After-slice-known16 → tie.After-call-journal
 left c = c .before .before .before .before .before .before .before .before .before .before .before .before .before .before .before
 
@@ -76,7 +82,7 @@ same-length-8 c = refl
 returns : tie.Need-returns
 returns c =
     let d = c .before .before in
-    let w = d .before .before .before .before .before .before .before .before .before .before in
+    let w = acknowledged d in
     let r = w .before .before in
     let a = entry r .args in
     d .acknowledge .ensures ∙
@@ -116,7 +122,7 @@ same-length-16 c = c .before .before .fetch .kept .1 .1 .1 .1 .1 .1 .1 .1 .1 .1 
 returns-2 : tie.Need-returns-2
 returns-2 c =
     let d = c .before .before in
-    let w = d .before .before .before .before .before .before .before .before .before .before in
+    let w = fetched d in
     let r = w .before .before in
     let a = entry r .args in
     d .fetch .ensures ∙

@@ -27,6 +27,16 @@ short s =
 room : (s : tie.Start) → 0 + length (parts s) ≤ length (s .args .out .now)
 room s = rw zero-add (short s)
 
+-- each place names the one that it goes back to
+abbrev entered : tie.After-put-u32 → tie.Start
+entered n = n .before .before .before .before
+
+abbrev numbered : tie.After-put-u322 → tie.After-put-u32
+numbered r = r .before .before .before .before .before
+
+abbrev counted : tie.After-put-state → tie.After-put-u322
+counted e = e .before .before .before .before
+
 slice-aggregate-put-u32 : tie.Need-slice-aggregate-put-u32
 slice-aggregate-put-u32 c = refl
 
@@ -41,33 +51,36 @@ slice-aggregate-put-u32-2 c = refl
 
 put-u32-requires-2 : tie.Need-put-u32-requires-2
 put-u32-requires-2 c κs =
-    let s = c .before .before .before .before .before .before .before .before in
+    let n = c .before .before .before .before in
+    let s = entered n in
     let a = s .args in
     room-second (a .out .now) 0 (answerField (a .answer)) (recordsField (a .records)) (stateField (a .lines) (a .phase)) (room s)
-    (c .before .before .before .before .put-u32 .ensures)
+    (n .put-u32 .ensures)
 
 put-state-requires : tie.Need-put-state-requires
 put-state-requires c κs =
-    let s = c .before .before .before .before .before .before .before .before .before .before .before .before in
+    let r = c .before .before .before in
+    let n = numbered r in
+    let s = entered n in
     let a = s .args in
     room-third (a .out .now) 0 (answerField (a .answer)) (recordsField (a .records)) (stateField (a .lines) (a .phase)) (room s)
-    (c .before .before .before .before .before .before .before .before .put-u32 .ensures)
-    (c .before .before .before .put-u322 .ensures)
+    (n .put-u32 .ensures) (r .put-u322 .ensures)
 
 same-length : tie.Need-same-length
 same-length c = search needs
 
 returns : tie.Need-returns
 returns c =
-    let s = c .before .before .before .before .before .before .before .before .before .before .before .before .before .before .before in
+    let e = c .before .before in
+    let r = counted e in
+    let n = numbered r in
+    let s = entered n in
     let a = s .args in
-    let u = c .before .before .put-state in
+    let u = e .put-state in
     let laidDown =
     laidTo-front (a .out .now) (parts s) (u .last .0) (u .result)
     (runs-three (a .out .now) 0 (answerField (a .answer)) (recordsField (a .records)) (stateField (a .lines) (a .phase))
-    (c .before .before .before .before .before .before .before .before .before .before .before .put-u32 .ensures)
-    (c .before .before .before .before .before .before .put-u322 .ensures)
-    (u .ensures)) in
+    (n .put-u32 .ensures) (r .put-u322 .ensures) (u .ensures)) in
     rw (answer-parts (a .answer) (a .records) (a .lines) (a .phase))
     (laidDown .0, laidDown .1 ∙ laid-front (a .out .now) (parts s) (short s))
 

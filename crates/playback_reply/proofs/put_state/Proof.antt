@@ -9,6 +9,16 @@ use Rattle.playback_reply.specs.Parts.{stateField}
 use Rattle.playback_reply.proofs.put_state.Statement.{statement}
 use Rattle.playback_reply.proofs.put_state.Tie as tie
 
+-- each place names the one that it goes back to
+abbrev entered : tie.After-put-bytes → tie.Start
+entered k = k .before .before .before .before
+
+abbrev keyed : tie.After-put-word → tie.After-put-bytes
+keyed w = w .before .before .before .before
+
+abbrev worded : tie.After-put-bytes2 → tie.After-put-word
+worded l = l .before .before .before .before .before
+
 slice-aggregate-put-bytes : tie.Need-slice-aggregate-put-bytes
 slice-aggregate-put-bytes c = refl
 
@@ -22,9 +32,10 @@ put-bytes-requires c κs =
 put-word-requires : tie.Need-put-word-requires
 unfolding stateField
 put-word-requires c κs =
-    let s = c .before .before .before .before .before .before .before in
+    let k = c .before .before .before in
+    let s = entered k in
     let a = s .args in
-    room-second (a .out .now) (a .at) (later stateKey) (wordOf (a .lines) (a .phase)) (10 ∷ []) (s .pre) (c .before .before .before .put-bytes .ensures)
+    room-second (a .out .now) (a .at) (later stateKey) (wordOf (a .lines) (a .phase)) (10 ∷ []) (s .pre) (k .put-bytes .ensures)
 
 slice-aggregate-put-bytes-2 : tie.Need-slice-aggregate-put-bytes-2
 slice-aggregate-put-bytes-2 c = refl
@@ -32,11 +43,12 @@ slice-aggregate-put-bytes-2 c = refl
 put-bytes-requires-2 : tie.Need-put-bytes-requires-2
 unfolding stateField
 put-bytes-requires-2 c κs =
-    let s = c .before .before .before .before .before .before .before .before .before .before .before .before in
+    let w = c .before .before .before .before in
+    let k = keyed w in
+    let s = entered k in
     let a = s .args in
     room-third (a .out .now) (a .at) (later stateKey) (wordOf (a .lines) (a .phase)) (10 ∷ []) (s .pre)
-    (c .before .before .before .before .before .before .before .before .put-bytes .ensures)
-    (c .before .before .before .before .put-word .ensures)
+    (k .put-bytes .ensures) (w .put-word .ensures)
 
 same-length : tie.Need-same-length
 same-length c = search needs
@@ -44,11 +56,12 @@ same-length c = search needs
 returns : tie.Need-returns
 unfolding stateField
 returns c =
-    let a = c .before .before .before .before .before .before .before .before .before .before .before .before .before .before .before .args in
+    let l = c .before .before in
+    let w = worded l in
+    let k = keyed w in
+    let a = entered k .args in
     runs-three (a .out .now) (a .at) (later stateKey) (wordOf (a .lines) (a .phase)) (10 ∷ [])
-    (c .before .before .before .before .before .before .before .before .before .before .before .put-bytes .ensures)
-    (c .before .before .before .before .before .before .before .put-word .ensures)
-    (c .before .before .put-bytes2 .ensures)
+    (k .put-bytes .ensures) (w .put-word .ensures) (l .put-bytes2 .ensures)
 
 pub put-state-spec : {M : Type 1} → statement M
 put-state-spec =

@@ -6,21 +6,42 @@ use Rattle.playback_reply.proofs.Words.{word-closed, word-open}
 use Rattle.playback_reply.proofs.put_word.Statement.{statement}
 use Rattle.playback_reply.proofs.put_word.Tie as tie
 
+-- ---- the places: no network is open, or one is, in each of its phases
+
+abbrev none : tie.Then1 → tie.Start
+none n = n .before .before
+
+abbrev opened : tie.Else1 → tie.Start
+opened o = o .before .before
+
+abbrev stable : tie.After-enum-told → tie.Else1
+stable t = t .before .before
+
+abbrev failure : tie.After-enum-told2 → tie.Else1
+failure t = t .before .before
+
+abbrev correcting : tie.After-enum-told3 → tie.Else1
+correcting t = t .before .before
+
+-- ---- the needs
+
 slice-aggregate-put-bytes : tie.Need-slice-aggregate-put-bytes
 slice-aggregate-put-bytes c = search needs
 
 put-bytes-requires : tie.Need-put-bytes-requires
 put-bytes-requires c κs =
-    let s = c .before .before .before .before in
-    rw (word-closed (s .args .lines) (s .args .phase) (c .before .before .if1 .taken)) at (s .pre)
+    let n = c .before .before in
+    let s = none n in
+    rw (word-closed (s .args .lines) (s .args .phase) (n .if1 .taken)) at (s .pre)
 
 same-length : tie.Need-same-length
 same-length c = search needs
 
 returns : tie.Need-returns
 returns c =
-    let s = c .before .before .before .before .before .before .before in
-    rw (word-closed (s .args .lines) (s .args .phase) (c .before .before .before .before .before .if1 .taken)) (c .before .before .put-bytes .ensures)
+    let n = c .before .before .before .before .before in
+    let s = none n in
+    rw (word-closed (s .args .lines) (s .args .phase) (n .if1 .taken)) (c .before .before .put-bytes .ensures)
 
 enum-told : tie.Need-enum-told
 enum-told c = search needs
@@ -31,8 +52,10 @@ slice-aggregate-put-bytes-2 c = search needs
 put-bytes-requires-2 : tie.Need-put-bytes-requires-2
 unfolding phaseWord
 put-bytes-requires-2 c κs =
-    let s = c .before .before .before .before .before .before in
-    rw (word-open (s .args .lines) (s .args .phase) Phase.Stable (c .before .before .before .before .if1 .left) (c .before .before .enum-told .given .1)) at (s .pre)
+    let t = c .before .before in
+    let o = stable t in
+    let s = opened o in
+    rw (word-open (s .args .lines) (s .args .phase) Phase.Stable (o .if1 .left) (t .enum-told .given .1)) at (s .pre)
 
 enum-told-2 : tie.Need-enum-told-2
 enum-told-2 c = search needs
@@ -43,8 +66,10 @@ slice-aggregate-put-bytes-3 c = search needs
 put-bytes-requires-3 : tie.Need-put-bytes-requires-3
 unfolding phaseWord
 put-bytes-requires-3 c κs =
-    let s = c .before .before .before .before .before .before in
-    rw (word-open (s .args .lines) (s .args .phase) Phase.Failure (c .before .before .before .before .if1 .left) (c .before .before .enum-told2 .given .1)) at (s .pre)
+    let t = c .before .before in
+    let o = failure t in
+    let s = opened o in
+    rw (word-open (s .args .lines) (s .args .phase) Phase.Failure (o .if1 .left) (t .enum-told2 .given .1)) at (s .pre)
 
 enum-told-3 : tie.Need-enum-told-3
 enum-told-3 c = search needs
@@ -55,8 +80,10 @@ slice-aggregate-put-bytes-4 c = search needs
 put-bytes-requires-4 : tie.Need-put-bytes-requires-4
 unfolding phaseWord
 put-bytes-requires-4 c κs =
-    let s = c .before .before .before .before .before .before in
-    rw (word-open (s .args .lines) (s .args .phase) Phase.Correcting (c .before .before .before .before .if1 .left) (c .before .before .enum-told3 .given .1)) at (s .pre)
+    let t = c .before .before in
+    let o = correcting t in
+    let s = opened o in
+    rw (word-open (s .args .lines) (s .args .phase) Phase.Correcting (o .if1 .left) (t .enum-told3 .given .1)) at (s .pre)
 
 same-length-2 : tie.Need-same-length-2
 same-length-2 c = search needs
@@ -64,8 +91,10 @@ same-length-2 c = search needs
 returns-2 : tie.Need-returns-2
 unfolding phaseWord
 returns-2 c =
-    let s = c .before .before .before .before .before .before .before .before .before in
-    rw (word-open (s .args .lines) (s .args .phase) Phase.Stable (c .before .before .before .before .before .before .before .if1 .left) (c .before .before .before .before .before .enum-told .given .1))
+    let t = c .before .before .before .before .before in
+    let o = stable t in
+    let s = opened o in
+    rw (word-open (s .args .lines) (s .args .phase) Phase.Stable (o .if1 .left) (t .enum-told .given .1))
     (c .before .before .put-bytes2 .ensures)
 
 same-length-3 : tie.Need-same-length-3
@@ -74,8 +103,10 @@ same-length-3 c = search needs
 returns-3 : tie.Need-returns-3
 unfolding phaseWord
 returns-3 c =
-    let s = c .before .before .before .before .before .before .before .before .before in
-    rw (word-open (s .args .lines) (s .args .phase) Phase.Failure (c .before .before .before .before .before .before .before .if1 .left) (c .before .before .before .before .before .enum-told2 .given .1))
+    let t = c .before .before .before .before .before in
+    let o = failure t in
+    let s = opened o in
+    rw (word-open (s .args .lines) (s .args .phase) Phase.Failure (o .if1 .left) (t .enum-told2 .given .1))
     (c .before .before .put-bytes3 .ensures)
 
 same-length-4 : tie.Need-same-length-4
@@ -84,8 +115,10 @@ same-length-4 c = search needs
 returns-4 : tie.Need-returns-4
 unfolding phaseWord
 returns-4 c =
-    let s = c .before .before .before .before .before .before .before .before .before in
-    rw (word-open (s .args .lines) (s .args .phase) Phase.Correcting (c .before .before .before .before .before .before .before .if1 .left) (c .before .before .before .before .before .enum-told3 .given .1))
+    let t = c .before .before .before .before .before in
+    let o = correcting t in
+    let s = opened o in
+    rw (word-open (s .args .lines) (s .args .phase) Phase.Correcting (o .if1 .left) (t .enum-told3 .given .1))
     (c .before .before .put-bytes4 .ensures)
 
 pub put-word-spec : {M : Type 1} → statement M
