@@ -132,7 +132,9 @@ module _ (s : Settings) (n : Node) (v : Shaped s n) where
       work-counted s kind j (inBucket (s .bucket) j (keptOf (n .lines))) (n .operator) (limits .someWindow)
       (values-fit (s .bucket) j (n .lines) (v .fits .lines)) (few-readings s (n .lines) (v .limits) (v .count) (v .short) j) h
 
-  worked-number : (kind j : ℕ) → (n .operator .number ≤ worked s kind j n .operator .number) × (worked s kind j n .operator .number ≤ resultsPerBucket * suc (n .p))
+  worked-number :
+      (kind j : ℕ) →
+      (n .operator .number ≤ worked s kind j n .operator .number) × (worked s kind j n .operator .number ≤ resultsPerBucket * suc (n .p))
   unfolding worked
   worked-number kind j =
       let rs = inBucket (s .bucket) j (keptOf (n .lines)) in

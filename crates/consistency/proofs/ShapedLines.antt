@@ -136,7 +136,9 @@ pub kept-shape : (l : Line) → LineShaped l → KeptShape l
 kept-shape l h = record { readings = h .readings; rising = rising-next (l .kept) (h .rising) }
 
 -- the heads of the lines that state and store stand for
-pub heads-shape : (n : ℕ) (hs : List LineHead) (rs : List Reading) → Every SmallHead (take n hs) → Every LineShaped (viewLines n hs rs) → Every HeadShape (take n hs)
+pub heads-shape :
+    (n : ℕ) (hs : List LineHead) (rs : List Reading) → Every SmallHead (take n hs) → Every LineShaped (viewLines n hs rs) →
+    Every HeadShape (take n hs)
 unfolding viewLines viewLine
 heads-shape zero hs rs f h = tt
 heads-shape (suc n) [] rs f h = tt

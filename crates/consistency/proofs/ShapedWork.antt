@@ -74,7 +74,9 @@ work-counted s kind j rs o some values few h =
 
 -- ---- numbers
 
-pub work-few : (s : Settings) (kind j : ℕ) (rs : List Placed) (o : Operator) → OperatorFits o → work s kind j rs o .operator .number ≤ o .number + resultsPerBucket
+pub work-few :
+    (s : Settings) (kind j : ℕ) (rs : List Placed) (o : Operator) → OperatorFits o →
+    work s kind j rs o .operator .number ≤ o .number + resultsPerBucket
 work-few s kind j rs o fits = omega (arith, work-number s kind j rs o, length-work s kind j rs o (fits .meters))
 
 pub work-onwards : (s : Settings) (kind j : ℕ) (rs : List Placed) (o : Operator) → o .number ≤ work s kind j rs o .operator .number

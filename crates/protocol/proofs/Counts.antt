@@ -27,7 +27,8 @@ consecutive-append : (n m : ℕ) (xs ys : List Record) → m ≡ n + length xs �
 consecutive-append n m [] ys e h k = subst (λ (i : ℕ). Consecutive i ys) (let q : m ≡ n = omega arith in q) k
 consecutive-append n m (x ∷ xs) ys e h k = (h .0, consecutive-append (suc n) m xs ys (omega arith) (h .1) k)
 
-results-consecutive : (kind : ℕ) (start : ReadingTime) (i number : ℕ) (ms : List Meter) → Consecutive number (results kind start i number ms)
+results-consecutive :
+    (kind : ℕ) (start : ReadingTime) (i number : ℕ) (ms : List Meter) → Consecutive number (results kind start i number ms)
 unfolding results result
 results-consecutive kind start i number [] = tt
 results-consecutive kind start i number (m ∷ ms) =
@@ -52,7 +53,8 @@ work-consecutive s kind j rs o =
       | false ↦ tt
     ])
 
-pub failureFree-count : (s : Settings) (ls : List (List Reading)) (n : ℕ) → failureFree s ls n .operator .number ≡ length (failureFree s ls n .records)
+pub failureFree-count :
+    (s : Settings) (ls : List (List Reading)) (n : ℕ) → failureFree s ls n .operator .number ≡ length (failureFree s ls n .records)
 unfolding failureFree fresh
 failureFree-count s ls zero = refl
 failureFree-count s ls (suc n) =

@@ -33,7 +33,8 @@ later-bucket c n =
     le-leb (suc c) n (omega arith))
     (λ e. let h : c < n = leb-true _ _ e in rw (le-leb c n (omega arith), ne-eqb n c (omega arith)))
 
-later-readings : (length c : ℕ) (rs : List Reading) → Every (λ (r : Reading). isFrom length c r && not (isIn length c r) ≡ isFrom length (suc c) r) rs
+later-readings :
+    (length c : ℕ) (rs : List Reading) → Every (λ (r : Reading). isFrom length c r && not (isIn length c r) ≡ isFrom length (suc c) r) rs
 unfolding isFrom isIn
 later-readings length c rs = every-any _ rs (λ r. later-bucket c (bucketOf length (r .time)))
 

@@ -56,7 +56,9 @@ module _ (s : Settings) (c : ℕ) where
   Finished : Line → LineMonitor → List Reading → Type 0
   Finished l g rs = Agrees s c l g rs × (suc c * s .bucket ≤ l .boundary .0)
 
-  each-finished : {ls : List Line} {gs : List LineMonitor} {zs : List (List Reading)} → isStableBucket s c ls ≡ true → Each (Agrees s c) ls gs zs → Each Finished ls gs zs
+  each-finished :
+      {ls : List Line} {gs : List LineMonitor} {zs : List (List Reading)} → isStableBucket s c ls ≡ true → Each (Agrees s c) ls gs zs →
+      Each Finished ls gs zs
   unfolding isStableBucket allOf finishes bucketEnd Finished
   each-finished e done = done
   each-finished e (more {a = l} r rs) =
@@ -64,13 +66,17 @@ module _ (s : Settings) (c : ℕ) where
       more (r, omega arith) (each-finished (and-parts (leb (c * s .bucket + s .bucket) (l .boundary .0)) _ e .1) rs)
 
   module _ (room : 0 < s .bucket) where
-    each-gather : {ls : List Line} {gs : List LineMonitor} {zs : List (List Reading)} (n : ℕ) → Each Finished ls gs zs → gather (s .bucket) c n (keptOf ls) ≡ gather (s .bucket) c n zs
+    each-gather :
+        {ls : List Line} {gs : List LineMonitor} {zs : List (List Reading)} (n : ℕ) → Each Finished ls gs zs →
+        gather (s .bucket) c n (keptOf ls) ≡ gather (s .bucket) c n zs
     unfolding gather keptOf Finished
     each-gather n done = refl
     each-gather n (more {a = l} {b = g} {c = rs} r rest) =
         rw (line-bucket s room c l g rs (r .0) (r .1), each-gather (suc n) rest)
 
-    each-without : {ls : List Line} {gs : List LineMonitor} {zs : List (List Reading)} → Each Finished ls gs zs → Each (Agrees s (suc c)) (map (without s c) ls) gs zs
+    each-without :
+        {ls : List Line} {gs : List LineMonitor} {zs : List (List Reading)} → Each Finished ls gs zs →
+        Each (Agrees s (suc c)) (map (without s c) ls) gs zs
     unfolding Finished
     each-without v = each-map (without s c) (λ l g rs r. line-finish s room c l g rs (r .0) (r .1)) v
 
@@ -97,7 +103,10 @@ Called s t k kind =
     }
 
 -- bucket c worked with the readings that the failure-free run has of it
-measured-bucket : (s : Settings) (c p : ℕ) (phase : Phase) (operator checkpoint : Operator) (zs : List (List Reading)) (out : List Record) (rs : List Placed) → rs ≡ inBucket (s .bucket) c zs → p ≡ c → Measured c p phase operator checkpoint (failureFree s zs c) out → Measured (suc c) (suc p) phase (work s letterS c rs operator .operator) (work s letterS c rs operator .operator) (failureFree s zs (suc c)) (out ++ (work s letterS c rs operator .records ++ boundaryAt s c))
+measured-bucket :
+    (s : Settings) (c p : ℕ) (phase : Phase) (operator checkpoint : Operator) (zs : List (List Reading)) (out : List Record) (rs : List Placed) →
+    rs ≡ inBucket (s .bucket) c zs → p ≡ c → Measured c p phase operator checkpoint (failureFree s zs c) out →
+    Measured (suc c) (suc p) phase (work s letterS c rs operator .operator) (work s letterS c rs operator .operator) (failureFree s zs (suc c)) (out ++ (work s letterS c rs operator .records ++ boundaryAt s c))
 unfolding failureFree
 measured-bucket s c p phase operator checkpoint zs out rs e q v =
     rw (e, v .level (sym q) .0, v .atCheckpoint)
@@ -106,7 +115,9 @@ measured-bucket s c p phase operator checkpoint zs out rs e q v =
     (work-onward s letterS c (inBucket (s .bucket) c zs) (failureFree s zs c .operator)) s c)
 
 module _ (s : Settings) (room : 0 < s .bucket) (t : Trace) (v : Invariant s t) where
-  input-kept : (k : Call) (kind : Kind) → kindOf (k .kind) ≡ kind → Passed s (t .node) k kind → Invariant s (record { node = accepted (k .now) (input (t .node) k kind) .node; monitor = observeInput (t .monitor) k kind; stables = modify (withStable k kind) (k .line - 1) (t .stables); acknowledged = t .acknowledged; output = t .output ++ accepted (k .now) (input (t .node) k kind) .records })
+  input-kept :
+      (k : Call) (kind : Kind) → kindOf (k .kind) ≡ kind → Passed s (t .node) k kind →
+      Invariant s (record { node = accepted (k .now) (input (t .node) k kind) .node; monitor = observeInput (t .monitor) k kind; stables = modify (withStable k kind) (k .line - 1) (t .stables); acknowledged = t .acknowledged; output = t .output ++ accepted (k .now) (input (t .node) k kind) .records })
   unfolding accepted input observeInput namedLine
   input-kept k kind e h =
       record {
@@ -143,7 +154,9 @@ module _ (s : Settings) (room : 0 < s .bucket) (t : Trace) (v : Invariant s t) w
             measured-withdraw _ _ _ _ _ _ _ (v .output) (failureFree-numbered s (t .stables) (t .node .c)) (record { 0 = 0 });
       }
 
-  stable-kept : (now : ArrivalTick) → isStableBucket s (t .node .c) (t .node .lines) ≡ true → t .node .p ≡ t .node .c → Invariant s (Stepped s t now Rule.WorkStable)
+  stable-kept :
+      (now : ArrivalTick) → isStableBucket s (t .node .c) (t .node .lines) ≡ true → t .node .p ≡ t .node .c →
+      Invariant s (Stepped s t now Rule.WorkStable)
   unfolding Stepped accepted act monitorAct worked inBucket
   stable-kept now e q =
       record {
@@ -160,7 +173,9 @@ module _ (s : Settings) (room : 0 < s .bucket) (t : Trace) (v : Invariant s t) w
       }
 
   -- what rule 2 gives are the failure-free run's next results
-  pub worked-free : isStableBucket s (t .node .c) (t .node .lines) ≡ true → t .node .p ≡ t .node .c → failureFree s (t .stables) (suc (t .node .c)) .records ≡ failureFree s (t .stables) (t .node .c) .records ++ worked s letterS (t .node .c) (t .node) .records
+  pub worked-free :
+      isStableBucket s (t .node .c) (t .node .lines) ≡ true → t .node .p ≡ t .node .c →
+      failureFree s (t .stables) (suc (t .node .c)) .records ≡ failureFree s (t .stables) (t .node .c) .records ++ worked s letterS (t .node .c) (t .node) .records
   unfolding failureFree worked inBucket
   worked-free e q =
       let readings : sort (gather (s .bucket) (t .node .c) 1 (keptOf (t .node .lines))) ≡ sort (gather (s .bucket) (t .node .c) 1 (t .stables)) =

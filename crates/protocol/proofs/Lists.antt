@@ -30,7 +30,8 @@ module _ {A : Type 0} where
       ]
 
   -- what every kept element has, every element has, where those left out have it
-  pub every-from-kept : (P : A → Type 0) (test : A → Bool) (xs : List A) → Every (λ x. test x ≡ false → P x) xs → Every P (keep test xs) → Every P xs
+  pub every-from-kept :
+      (P : A → Type 0) (test : A → Bool) (xs : List A) → Every (λ x. test x ≡ false → P x) xs → Every P (keep test xs) → Every P xs
   unfolding keep
   every-from-kept P test [] h k = tt
   every-from-kept P test (x ∷ xs) h k =

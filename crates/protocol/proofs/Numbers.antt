@@ -30,10 +30,13 @@ pub record Numbered (letter from to : ℕ) (r : Record) : Type 0 where
   pub above : from < r .id
   pub up : r .id ≤ to
 
-pub wider : {kind from to : ℕ} (from₁ to₁ : ℕ) → from₁ ≤ from → to ≤ to₁ → (r : Record) → Numbered kind from to r → Numbered kind from₁ to₁ r
+pub wider :
+    {kind from to : ℕ} (from₁ to₁ : ℕ) → from₁ ≤ from → to ≤ to₁ → (r : Record) → Numbered kind from to r → Numbered kind from₁ to₁ r
 wider from₁ to₁ h g r b = record { kind = b .kind; above = omega (arith, b .above); up = omega (arith, b .up) }
 
-pub results-numbered : (kind : ℕ) (start : ReadingTime) (i number : ℕ) (ms : List Meter) → Every (Numbered kind number (number + length (results kind start i number ms))) (results kind start i number ms)
+pub results-numbered :
+    (kind : ℕ) (start : ReadingTime) (i number : ℕ) (ms : List Meter) →
+    Every (Numbered kind number (number + length (results kind start i number ms))) (results kind start i number ms)
 unfolding results result
 results-numbered kind start i number [] = tt
 results-numbered kind start i number (m ∷ ms) =
@@ -89,7 +92,9 @@ work-onward s kind j rs o =
     ])
 
 -- the records of the failure-free run are stable results, numbered from 1
-pub failureFree-numbered : (s : Settings) (ls : List (List Reading)) (n : ℕ) → Every (Numbered letterS 0 (failureFree s ls n .operator .number)) (failureFree s ls n .records)
+pub failureFree-numbered :
+    (s : Settings) (ls : List (List Reading)) (n : ℕ) →
+    Every (Numbered letterS 0 (failureFree s ls n .operator .number)) (failureFree s ls n .records)
 unfolding failureFree
 failureFree-numbered s ls zero = tt
 failureFree-numbered s ls (suc n) =

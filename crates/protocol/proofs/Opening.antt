@@ -32,7 +32,9 @@ line-opened s =
       past = omega arith;
     }
 
-each-opened : (s : Settings) (n : ℕ) → Each (Agrees s 0) (replicate n noLine) (replicate n (record { boundary = record { 0 = 0 }; entries = [] })) (replicate n [])
+each-opened :
+    (s : Settings) (n : ℕ) →
+    Each (Agrees s 0) (replicate n noLine) (replicate n (record { boundary = record { 0 = 0 }; entries = [] })) (replicate n [])
 each-opened s zero = done
 each-opened s (suc n) = more (line-opened s) (each-opened s n)
 

@@ -94,17 +94,23 @@ unfolding doneDue marker
 undo-due due n time = refl
 
 module _ (c p : ℕ) (phase : Phase) (operator checkpoint : Operator) (past : Worked) (output : List Record) (v : Measured c p phase operator checkpoint past output) where
-  more-struck : (xs : List Record) → Every (λ (r : Record). r .kind ≡ letterT) (struck itself (applied itself [] output) xs) → Every (λ (r : Record). r .kind ≡ letterT) (struck itself [] (output ++ xs))
+  more-struck :
+      (xs : List Record) → Every (λ (r : Record). r .kind ≡ letterT) (struck itself (applied itself [] output) xs) →
+      Every (λ (r : Record). r .kind ≡ letterT) (struck itself [] (output ++ xs))
   more-struck xs h =
       rw (struck-append [] output xs) (every-append _ (struck itself [] output) (struck itself (applied itself [] output) xs) (v .strikes) h)
 
-  none-struck : (xs : List Record) → struck itself (applied itself [] output) xs ≡ [] → Every (λ (r : Record). r .kind ≡ letterT) (struck itself [] (output ++ xs))
+  none-struck :
+      (xs : List Record) → struck itself (applied itself [] output) xs ≡ [] →
+      Every (λ (r : Record). r .kind ≡ letterT) (struck itself [] (output ++ xs))
   none-struck xs e = more-struck xs (rw e tt)
 
   no-more-stable : (xs : List Record) → stableRecords itself xs ≡ [] → stableRecords itself (output ++ xs) ≡ past .records
   no-more-stable xs e = stable-append output xs ∙ rw (v .asTheyCame, e) (append-nil _)
 
-  pub measured-withdraw : Every (Numbered letterS 0 (past .operator .number)) (past .records) → (time : ReadingTime) → Measured c c Phase.Correcting checkpoint checkpoint past (output ++ marker letterU (checkpoint .number) time ∷ [])
+  pub measured-withdraw :
+      Every (Numbered letterS 0 (past .operator .number)) (past .records) → (time : ReadingTime) →
+      Measured c c Phase.Correcting checkpoint checkpoint past (output ++ marker letterU (checkpoint .number) time ∷ [])
   unfolding isCorrecting
   measured-withdraw f time =
       record {
@@ -132,7 +138,9 @@ module _ (c p : ℕ) (phase : Phase) (operator checkpoint : Operator) (past : Wo
       high : Every (λ (r : Record). checkpoint .number < r .id) (v .tentative)
       high = every-to (v .tentative) (λ r b. b .above) (v .numbers)
 
-  pub measured-stable : p ≡ c → (w : Worked) → Onward letterS (past .operator) w → (s : Settings) (j : ℕ) → Measured (suc c) (suc p) phase (w .operator) (w .operator) (record { operator = w .operator; records = past .records ++ w .records }) (output ++ (w .records ++ boundaryAt s j))
+  pub measured-stable :
+      p ≡ c → (w : Worked) → Onward letterS (past .operator) w → (s : Settings) (j : ℕ) →
+      Measured (suc c) (suc p) phase (w .operator) (w .operator) (record { operator = w .operator; records = past .records ++ w .records }) (output ++ (w .records ++ boundaryAt s j))
   measured-stable e w f s j =
       record {
         atCheckpoint = refl;
@@ -187,7 +195,9 @@ module _ (c p : ℕ) (phase : Phase) (operator checkpoint : Operator) (past : Wo
         asTheyCame = no-more-stable _ (done-not-stable 0 time);
       }
 
-  pub measured-tentative : c ≤ p → isCorrecting phase ≡ false → (w : Worked) → Onward letterT operator w → Measured c (suc p) Phase.Failure (w .operator) checkpoint past (output ++ w .records)
+  pub measured-tentative :
+      c ≤ p → isCorrecting phase ≡ false → (w : Worked) → Onward letterT operator w →
+      Measured c (suc p) Phase.Failure (w .operator) checkpoint past (output ++ w .records)
   unfolding isCorrecting
   measured-tentative h m w f =
       record {

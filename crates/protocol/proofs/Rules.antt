@@ -42,7 +42,10 @@ monitorAct y Rule.WorkTentative = record { d = y .d; t = suc (y .t); mark = y .m
 monitorAct y Rule.Idle = y
 
 -- the five cases of a step, with what the tests were
-pub rule-cases : (a b m d : Bool) (G : Rule → Type 0) → (a ≡ true → b ≡ true → G Rule.Withdraw) → (a ≡ true → b ≡ false → G Rule.WorkStable) → (a ≡ false → m ≡ true → G Rule.EndCorrection) → (a ≡ false → m ≡ false → d ≡ true → G Rule.WorkTentative) → (a ≡ false → m ≡ false → G Rule.Idle) → G (firstRule a b m d)
+pub rule-cases :
+    (a b m d : Bool) (G : Rule → Type 0) → (a ≡ true → b ≡ true → G Rule.Withdraw) → (a ≡ true → b ≡ false → G Rule.WorkStable) →
+    (a ≡ false → m ≡ true → G Rule.EndCorrection) → (a ≡ false → m ≡ false → d ≡ true → G Rule.WorkTentative) →
+    (a ≡ false → m ≡ false → G Rule.Idle) → G (firstRule a b m d)
 unfolding firstRule
 rule-cases true true m d G u f k t i = u refl refl
 rule-cases true false m d G u f k t i = f refl refl
@@ -51,7 +54,9 @@ rule-cases false b false true G u f k t i = t refl refl refl
 rule-cases false b false false G u f k t i = i refl refl
 
 -- the monitor's own chain of tests is the node's chain of rules
-by-tests : (y : Monitor) (a b m d : Bool) → cond a (cond b (monitorAct y Rule.Withdraw) (monitorAct y Rule.WorkStable)) (cond m (monitorAct y Rule.EndCorrection) (cond d (monitorAct y Rule.WorkTentative) (monitorAct y Rule.Idle))) ≡ monitorAct y (firstRule a b m d)
+by-tests :
+    (y : Monitor) (a b m d : Bool) →
+    cond a (cond b (monitorAct y Rule.Withdraw) (monitorAct y Rule.WorkStable)) (cond m (monitorAct y Rule.EndCorrection) (cond d (monitorAct y Rule.WorkTentative) (monitorAct y Rule.Idle))) ≡ monitorAct y (firstRule a b m d)
 unfolding firstRule
 by-tests y true true m d = refl
 by-tests y true false m d = refl
@@ -74,7 +79,8 @@ all-least x (l ∷ m ∷ ls) h =
     ap (_&&_ (leb x (l .boundary .0))) (all-least x (m ∷ ls) (omega arith)) ∙ sym (leb-min x (l .boundary .0) (leastBoundaryOf (m ∷ ls)))
 
 -- so bucket c is stable where it is below the least boundary divided by the bucket length
-pub stable-least : (s : Settings) (c : ℕ) (ls : List Line) → 0 < s .bucket → 0 < length ls → isStableBucket s c ls ≡ ltb c (leastBoundaryOf ls / s .bucket)
+pub stable-least :
+    (s : Settings) (c : ℕ) (ls : List Line) → 0 < s .bucket → 0 < length ls → isStableBucket s c ls ≡ ltb c (leastBoundaryOf ls / s .bucket)
 unfolding isStableBucket finishes bucketEnd
 stable-least s c ls room h =
     all-least (c * s .bucket + s .bucket) ls h ∙
@@ -91,13 +97,17 @@ stable-least s c ls room h =
 
 module _ (s : Settings) (c : ℕ) where
   -- they have the same least boundary
-  pub same-least : {ls : List Line} {gs : List LineMonitor} {zs : List (List Reading)} → Each (Agrees s c) ls gs zs → leastBoundaryOf ls ≡ leastBoundary gs
+  pub same-least :
+      {ls : List Line} {gs : List LineMonitor} {zs : List (List Reading)} → Each (Agrees s c) ls gs zs →
+      leastBoundaryOf ls ≡ leastBoundary gs
   unfolding leastBoundaryOf leastBoundary
   same-least done = refl
   same-least (more r done) = ap (λ (b : ReadingTime). b .0) (r .boundary)
   same-least (more r (more q rs)) = ap₂ min (ap (λ (b : ReadingTime). b .0) (r .boundary)) (same-least (more q rs))
 
-  overdue-from : (p : ℕ) (now : ArrivalTick) → c ≤ p → (rs : List Reading) → Every (λ (r : Reading). isOverdue s p now r ≡ true → isFrom (s .bucket) c r ≡ true) rs
+  overdue-from :
+      (p : ℕ) (now : ArrivalTick) → c ≤ p → (rs : List Reading) →
+      Every (λ (r : Reading). isOverdue s p now r ≡ true → isFrom (s .bucket) c r ≡ true) rs
   unfolding isOverdue isFrom
   overdue-from p now h rs =
       every-any _ rs
@@ -105,12 +115,15 @@ module _ (s : Settings) (c : ℕ) where
       let g : p ≤ bucketOf (s .bucket) (r .time) = leb-true _ _ (and-parts _ _ e .0) in
       le-leb c (bucketOf (s .bucket) (r .time)) (omega arith))
 
-  entries-due : (p : ℕ) (now : ArrivalTick) (rs : List Reading) → someOf (entryDue s p now) (map entryOfReading rs) ≡ someOf (isOverdue s p now) rs
+  entries-due :
+      (p : ℕ) (now : ArrivalTick) (rs : List Reading) → someOf (entryDue s p now) (map entryOfReading rs) ≡ someOf (isOverdue s p now) rs
   unfolding entryDue isOverdue entryOfReading bucketOf isDue
   entries-due p now rs = some-map entryOfReading (entryDue s p now) rs
 
   -- an overdue reading of bucket p or later is kept
-  pub overdue-kept : {ls : List Line} {gs : List LineMonitor} {zs : List (List Reading)} (p : ℕ) (now : ArrivalTick) → c ≤ p → Each (Agrees s c) ls gs zs → someOverdue s p now ls ≡ anyDue s p now gs
+  pub overdue-kept :
+      {ls : List Line} {gs : List LineMonitor} {zs : List (List Reading)} (p : ℕ) (now : ArrivalTick) → c ≤ p → Each (Agrees s c) ls gs zs →
+      someOverdue s p now ls ≡ anyDue s p now gs
   unfolding someOf someOverdue anyDue
   overdue-kept p now h done = refl
   overdue-kept p now h (more {b = g} r rs) =
@@ -121,7 +134,10 @@ module _ (s : Settings) (c : ℕ) where
       ap (someOf (entryDue s p now)) (sym (r .entries)))
       (overdue-kept p now h rs)
 
-pub same-rule : (s : Settings) → 0 < s .bucket → (n : Node) (y : Monitor) (zs : List (List Reading)) (now : ArrivalTick) → 0 < length (n .lines) → n .c ≡ y .d → n .p ≡ y .t → isCorrecting (n .phase) ≡ y .mark → n .c ≤ n .p → Each (Agrees s (n .c)) (n .lines) (y .lines) zs → ruleOf s n now ≡ monitorRule s y now
+pub same-rule :
+    (s : Settings) → 0 < s .bucket → (n : Node) (y : Monitor) (zs : List (List Reading)) (now : ArrivalTick) → 0 < length (n .lines) →
+    n .c ≡ y .d → n .p ≡ y .t → isCorrecting (n .phase) ≡ y .mark → n .c ≤ n .p → Each (Agrees s (n .c)) (n .lines) (y .lines) zs →
+    ruleOf s n now ≡ monitorRule s y now
 unfolding ruleOf monitorRule stableBuckets
 same-rule s room n y zs now h same-c same-p same-mark order v =
     rw (

@@ -73,10 +73,13 @@ pub record Kept (s : Settings) (t : Trace) : Type 0 where
   pub held : HeldIn (t .node)
 
 -- where no tentative work is out, the numbering is the checkpoint's
-level-number : (s : Settings) (t : Trace) → Invariant s t → t .node .p ≡ t .node .c → t .node .operator .number ≡ t .node .checkpoint .number
+level-number :
+    (s : Settings) (t : Trace) → Invariant s t → t .node .p ≡ t .node .c → t .node .operator .number ≡ t .node .checkpoint .number
 level-number s t v e = ap (λ (o : Operator). o .number) (v .output .level (sym e) .0)
 
-next-same : (s : Settings) (t : Trace) (e : Event) → t .node .acknowledged ≡ t .acknowledged → next s t e .node .acknowledged ≡ next s t e .acknowledged
+next-same :
+    (s : Settings) (t : Trace) (e : Event) → t .node .acknowledged ≡ t .acknowledged →
+    next s t e .node .acknowledged ≡ next s t e .acknowledged
 unfolding next acknowledgedBy
 next-same s t Event.turnedAway h = h
 next-same s t (Event.journal k) h = outcome-acknowledged s (t .node) k ∙ h
@@ -132,7 +135,9 @@ module _ (s : Settings) (room : 0 < s .bucket) (t : Trace) (v : Kept s t) where
       (t .monitor .d < stableBuckets s (t .monitor)) × (t .monitor .t ≡ t .monitor .d) ×
       (leastOf (t .acknowledged) + heldResults < length (failureFree s (t .stables) (suc (t .monitor .d)) .records))
 
-  stable-full : isStableBucket s (t .node .c) (t .node .lines) ≡ true → ltb (t .node .c) (t .node .p) ≡ false → lacksPlaces s (t .node) Rule.WorkStable ≡ true → Full
+  stable-full :
+      isStableBucket s (t .node .c) (t .node .lines) ≡ true → ltb (t .node .c) (t .node .p) ≡ false →
+      lacksPlaces s (t .node) Rule.WorkStable ≡ true → Full
   unfolding lacksPlaces freePlaces givenUpTo stableBuckets stableResults
   stable-full a b e =
       let i = v .invariant in

@@ -134,7 +134,8 @@ module _ (s : Settings) (room : 0 < s .bucket) where
   unfolding leftToWork stableBuckets bucketsLeft
   left-same {t} v = sym (ap₂ (λ (m c : ℕ). m / s .bucket - c) (same-least s (t .node .c) (v .lines)) (v .same-c))
 
-  steps-take : {n : ℕ} {t u : Trace} → TraceSteps s t n u → Invariant s t → Invariant s u × (stepsAhead s (u .node) ≡ stepsAhead s (t .node) - n)
+  steps-take :
+      {n : ℕ} {t u : Trace} → TraceSteps s t n u → Invariant s t → Invariant s u × (stepsAhead s (u .node) ≡ stepsAhead s (t .node) - n)
   unfolding next acknowledgedBy stepsAhead bucketsLeft
   steps-take rest v = (v, omega arith)
   steps-take {u} (step {t = t} {n = n} k e a q) v =

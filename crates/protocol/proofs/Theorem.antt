@@ -35,7 +35,9 @@ use Rattle.protocol.proofs.Settling.{left-and-two, settled}
 
 -- the buckets worked are below the least boundary
 
-all-past : (s : Settings) (c : ℕ) {ls : List Line} {gs : List LineMonitor} {zs : List (List Reading)} → Each (Agrees s c) ls gs zs → allOf (λ (l : Line). leb (c * s .bucket) (l .boundary .0)) ls ≡ true
+all-past :
+    (s : Settings) (c : ℕ) {ls : List Line} {gs : List LineMonitor} {zs : List (List Reading)} → Each (Agrees s c) ls gs zs →
+    allOf (λ (l : Line). leb (c * s .bucket) (l .boundary .0)) ls ≡ true
 unfolding allOf
 all-past s c done = refl
 all-past s c (more {a = l} r rs) = rw (le-leb (c * s .bucket) (l .boundary .0) (r .past), all-past s c rs)
@@ -96,7 +98,9 @@ least-boundaries [] = refl
 least-boundaries (g ∷ []) = refl
 least-boundaries (g ∷ h ∷ gs) = ap (min (g .boundary .0)) (least-boundaries (h ∷ gs))
 
-all-worked : (s : Settings) → 0 < s .bucket → (t : Trace) → Invariant s t → leftToWork s (t .monitor) ≡ 0 → t .monitor .d ≡ least (boundaries t) / s .bucket
+all-worked :
+    (s : Settings) → 0 < s .bucket → (t : Trace) → Invariant s t → leftToWork s (t .monitor) ≡ 0 →
+    t .monitor .d ≡ least (boundaries t) / s .bucket
 unfolding leftToWork boundaries stableBuckets
 all-worked s room t v e =
     let none : t .monitor .d ≡ leastBoundary (t .monitor .lines) / s .bucket = omega (arith, worked-stable s room t v) in
@@ -106,7 +110,9 @@ of-sent : (s : Settings) (t : Trace) → stableResults s t ≡ failureFree s (se
 unfolding stableResults sent
 of-sent s t = ap (λ (w : Worked). w .records) (sym (failureFree-without s (t .stables) (t .monitor .d)))
 
-same-results : (s : Settings) → 0 < s .bucket → (t u : Trace) → Invariant s t → Invariant s u → sent t ≡ sent u → boundaries t ≡ boundaries u → leftToWork s (t .monitor) ≡ 0 → leftToWork s (u .monitor) ≡ 0 → stableResults s t ≡ stableResults s u
+same-results :
+    (s : Settings) → 0 < s .bucket → (t u : Trace) → Invariant s t → Invariant s u → sent t ≡ sent u → boundaries t ≡ boundaries u →
+    leftToWork s (t .monitor) ≡ 0 → leftToWork s (u .monitor) ≡ 0 → stableResults s t ≡ stableResults s u
 same-results s room t u v w same-sent same-boundaries et eu =
     let same : t .monitor .d ≡ u .monitor .d =
     all-worked s room t v et ∙ ap (λ (bs : List ReadingTime). least bs / s .bucket) same-boundaries ∙ sym (all-worked s room u w eu) in

@@ -22,7 +22,9 @@ unfolding applied
 applied-append results [] ys = refl
 applied-append results (x ∷ xs) ys = applied-append (applyOne itself results x) xs ys
 
-pub struck-append : (results xs ys : List Record) → struck itself results (xs ++ ys) ≡ struck itself results xs ++ struck itself (applied itself results xs) ys
+pub struck-append :
+    (results xs ys : List Record) →
+    struck itself results (xs ++ ys) ≡ struck itself results xs ++ struck itself (applied itself results xs) ys
 unfolding struck applied
 struck-append results [] ys = refl
 struck-append results (x ∷ xs) ys =
