@@ -8,9 +8,11 @@ use borrow.Rule.Slice.PartMut.{putMid, same-len-mid}
 use Rattle.area.specs.Laid.{inFront}
 use Rattle.node.specs.Opening.{Opened}
 use Rattle.playback_reply.specs.Reply.{answerLine, openingText}
+use Rattle.playback_reply.specs.Put.{PutInFront}
 use Rattle.playback_cursor.specs.declared.Cursor.{Cursor}
 use Rattle.playback_cursor.specs.Cut.{part, textAt, replied, Stands, Ready, Lies}
 use Rattle.playback_cursor.proofs.Cuts.{part-used}
+use Rattle.playback.specs.Replied.{Answered}
 
 -- what is laid in front of an area that stays as long as it was is no longer than it
 front-within : (t l : List ℕ) {used : ℕ} {m : List ℕ} → (used ≡ length t) × (m ≡ inFront t l) → length m ≡ length l → used ≤ length l
@@ -35,13 +37,13 @@ ready-replied c buf out text e lies used m reply count laid kept =
 -- what an opening leaves, and its answer line laid down
 pub opening-laid :
     {made q : Opened} → made ≡ q → (before last : List ℕ) (used : ℕ) →
-    (used ≡ length (answerLine (made .answer) 0 (made .state .settings .lines) (made .state .phase))) ×
-    (last ≡ inFront (answerLine (made .answer) 0 (made .state .settings .lines) (made .state .phase)) before) →
-    (made .state ≡ q .state) × (made .lent ≡ q .lent) × (used ≡ length (openingText q)) × (last ≡ inFront (openingText q) before)
+    PutInFront before (answerLine (made .answer) 0 (made .state .settings .lines) (made .state .phase)) used last →
+    Answered q before (record { state = made .state; used = used }) (made .lent) last
 unfolding openingText
-opening-laid same before last used laidDown = (
-  ap (λ (c : Opened). c .state) same,
-  ap (λ (c : Opened). c .lent) same,
-  laidDown .0 ∙ ap (λ (c : Opened). length (openingText c)) same,
-  laidDown .1 ∙ ap (λ (c : Opened). inFront (openingText c) before) same,
-)
+opening-laid same before last used laidDown =
+    record {
+      state = ap (λ (c : Opened). c .state) same;
+      lent = ap (λ (c : Opened). c .lent) same;
+      used = laidDown .0 ∙ ap (λ (c : Opened). length (openingText c)) same;
+      text = laidDown .1 ∙ ap (λ (c : Opened). inFront (openingText c) before) same;
+    }

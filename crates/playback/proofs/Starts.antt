@@ -18,8 +18,9 @@ use Rattle.node.specs.View.{Lent}
 use Rattle.node.specs.Opening.{Opened, closedState, openedOn}
 use Rattle.playback_reply.specs.Reply.{openingText, longestReply}
 use Rattle.playback_cursor.specs.declared.Cursor.{Cursor}
-use Rattle.playback_cursor.specs.Cut.{holdsLine, textAt, allRead, Ready, Unplayed, over, failed, endless, Fetched, Followed}
-use Rattle.playback.specs.declared.Started.{Started}
+use Rattle.playback_cursor.specs.Cut.{holdsLine, part, textAt, allRead, Ready, Unplayed, over, failed, endless, Fetched, Followed}
+use Rattle.playback.specs.declared.Played.{Played}
+use Rattle.playback.specs.Replied.{Answered}
 use Rattle.playback.specs.Start.{lastIf, Begun}
 
 -- ---- the first text
@@ -54,37 +55,41 @@ front-laid out bytes at e = rw (e, zero-add (length bytes))
 
 -- ---- the whole
 
-pub begun : (buf out : List ℕ) (x : Lent) (begin : Cursor) → begin ≡ allRead 0 false false false → (first : Cursor) (held : List ℕ)
-    → Fetched false begin buf first held (length out) → (closed : State) → closed ≡ closedState
-    → (r : Started) (y : Lent) (text : List ℕ) → text ≡ textAt held first → (used : ℕ) (m : List ℕ)
-    → (r .state ≡ openedOn closed x text .state) × (y ≡ openedOn closed x text .lent)
-    × (used ≡ length (openingText (openedOn closed x text)))
-    × (m ≡ inFront (openingText (openedOn closed x text)) (take (length out - first .used) (drop (first .used) out)))
-    → (after : List ℕ) → length (putMid (first .used) (length out - first .used) out m) ≡ length out
-    → Followed (lastIf (eqb (r .state .settings .lines) 0) first) (length text) used held (r .cursor) after
-    (length (putMid (first .used) (length out - first .used) out m))
-    → Begun buf out x r after (putMid (first .used) (length out - first .used) out m) y
-begun buf out x begin b first held f closed z r y text t used m p after same o =
+pub begun :
+    (buf out : List ℕ) (x : Lent) (begin : Cursor) → begin ≡ allRead 0 false false false →
+    (first : Cursor) (held : List ℕ) → Fetched false begin buf first held (length out) →
+    (closed : State) → closed ≡ closedState →
+    (text : List ℕ) → text ≡ textAt held first →
+    (p : Played) (y : Lent) (m : List ℕ) → Answered (openedOn closed x text) (part out (first .used) (length out)) p y m →
+    length (putMid (first .used) (length out - first .used) out m) ≡ length out →
+    (next : Cursor) (after : List ℕ) →
+    Followed (lastIf (eqb (p .state .settings .lines) 0) first) (length text) (p .used) held next after
+    (length (putMid (first .used) (length out - first .used) out m)) →
+    Begun buf out x (record { state = p .state; cursor = next }) after (putMid (first .used) (length out - first .used) out m) y
+begun buf out x begin b first held f closed z text t p y m e same next after o =
     let found : Fetched false (allRead 0 false false false) buf first held (length out) =
     subst (λ (c : Cursor). Fetched false c buf first held (length out)) b f in
     let made : openedOn closed x text ≡ openedOn closedState x (textAt held first) =
     ap (λ (s : State). openedOn s x text) z ∙ ap (openedOn closedState x) t in
-    let last : Cursor = lastIf (eqb (r .state .settings .lines) 0) first in
+    let size : p .used ≡ length (openingText (openedOn closedState x (textAt held first))) =
+    e .used ∙ ap (λ (q : Opened). length (openingText q)) made in
+    let last : Cursor = lastIf (eqb (p .state .settings .lines) 0) first in
     record {
       first = first;
       held = held;
       fetched = found;
       plays = first-plays buf first held (length out) found;
-      state = p .0 ∙ ap (λ (q : Opened). q .state) made;
-      lent = p .1 ∙ ap (λ (q : Opened). q .lent) made;
+      state = e .state ∙ ap (λ (q : Opened). q .state) made;
+      lent = e .lent ∙ ap (λ (q : Opened). q .lent) made;
       answer =
-          ap (putMid (first .used) (length out - first .used) out) (p .3)
+          ap (putMid (first .used) (length out - first .used) out) (e .text)
           ∙ lent-inFront out (openingText (openedOn closed x text)) (first .used)
           ∙ front-laid out (openingText (openedOn closed x text)) (first .used) (first-unused buf first held (length out) found)
           ∙ ap (λ (q : Opened). inFront (openingText q) out) made;
       onward =
-          subst (λ (i : ℕ). Followed last i (length (openingText (openedOn closedState x (textAt held first)))) held (r .cursor) after
-          (length out)) (ap length t)
-          (subst (λ (i : ℕ). Followed last (length text) i held (r .cursor) after (length out)) (p .2 ∙ ap (λ (q : Opened). length (openingText q)) made)
-          (subst (λ (i : ℕ). Followed last (length text) used held (r .cursor) after i) same o));
+          subst
+          (λ (i : ℕ). Followed last i (length (openingText (openedOn closedState x (textAt held first)))) held next after (length out))
+          (ap length t)
+          (subst (λ (i : ℕ). Followed last (length text) i held next after (length out)) size
+          (subst (λ (i : ℕ). Followed last (length text) (p .used) held next after i) same o));
     }

@@ -4,16 +4,15 @@ ghost use mathlib.Core.List.{List};
 ghost use mathlib.Core.Bool.{cond};
 ghost use Prim.Native.Nat.{ℕ, _-_, _≤_, _<_};
 ghost use lib.ListN.{length};
-ghost use Rattle.area.specs.Laid.{inFront};
 ghost use Rattle.store.specs.Columns.{columnsOf};
 ghost use Rattle.node.specs.View.{Lent, lentOf};
-ghost use Rattle.node.specs.Opening.{Opened, openedOn};
-ghost use Rattle.playback_reply.specs.Reply.{openingText, longestAnswer, longestReply};
+ghost use Rattle.node.specs.Opening.{openedOn};
+ghost use Rattle.playback_reply.specs.Reply.{longestAnswer, longestReply};
 ghost use Rattle.playback_cursor.specs.Cut.{Lies, textAt};
 ghost use Rattle.playback.specs.Start.{Begun};
 ghost use Rattle.node.specs.Calls.{Called};
 ghost use Rattle.playback_dispatch.specs.Dispatch.{dispatched};
-ghost use Rattle.playback.specs.Replied.{Replied};
+ghost use Rattle.playback.specs.Replied.{Answered, Replied};
 ghost use Rattle.playback.specs.Turn.{Turned};
 ghost use Rattle.playback.specs.Run.{Standing, standing, PlayedOut, Finished};
 use node::State;
@@ -50,9 +49,7 @@ fn play_settings(
         (columnsOf (now (ids .exit)) (now (times .exit)) (now (values .exit)) (now (arrivals .exit)) (now (kinds .exit))
         (now (meters .exit)))
         (now (sent .exit)) in
-        let opened : Opened = openedOn state before (now (text .entry)) in
-        ⌜ (r .state ≡ opened .state) × (after ≡ opened .lent) × (r .used ≡ length (openingText opened)) ×
-        (now (out .exit) ≡ inFront (openingText opened) (now (out .entry))) ⌝ }
+        ⌜ Answered (openedOn state before (now (text .entry))) (now (out .entry)) r after (now (out .exit)) ⌝ }
 {
     let done = call_opening::open(
         state,

@@ -64,7 +64,7 @@ ready p =
     let f = first p .fetch in
     let g = p .play-settings in
     ready-replied (f .result) (f .last .1 .1 .0) (out (first p)) (lined p .next-line .result .now) (lined p .next-line .ensures .0)
-    (f .ensures .lies) (g .result .used) (g .last .1 .1 .1 .1 .1 .1 .1 .1 .1 .0) _ (g .ensures .2) (g .ensures .3) (g .kept .1 .1 .1 .1 .1 .1 .1 .1 .1 .0)
+    (f .ensures .lies) (g .result .used) (g .last .1 .1 .1 .1 .1 .1 .1 .1 .1 .0) _ (g .ensures .used) (g .ensures .text) (g .kept .1 .1 .1 .1 .1 .1 .1 .1 .1 .0)
 
 -- ---- the needs
 
@@ -151,9 +151,9 @@ returns c =
     let b = begin f in
     let z = closed (lined p) .closed-state in
     begun (entered b .args .buf .now) (out f) _ (b .begin .result) (b .begin .ensures) (f .fetch .result) (f .fetch .last .1 .1 .0)
-    (f .fetch .ensures) (z .result) (z .ensures) _ _ (lined p .next-line .result .now) (lined p .next-line .ensures .0)
-    (p .play-settings .result .used) (p .play-settings .last .1 .1 .1 .1 .1 .1 .1 .1 .1 .0) (p .play-settings .ensures) (o .onward .last .1 .1 .1 .0)
-    (same-output p) (o .onward .ensures)
+    (f .fetch .ensures) (z .result) (z .ensures) (lined p .next-line .result .now) (lined p .next-line .ensures .0)
+    (p .play-settings .result) _ (p .play-settings .last .1 .1 .1 .1 .1 .1 .1 .1 .1 .0) (p .play-settings .ensures) (same-output p)
+    (o .onward .result) (o .onward .last .1 .1 .1 .0) (o .onward .ensures)
 
 pub start-spec : {M : Type 1} → statement M
 start-spec =
