@@ -6,7 +6,7 @@ use Rattle.settings.specs.Limits.{withinLimits}
 use Rattle.store.specs.Lists.{allOf}
 use Rattle.store.proofs.Choices.{and-parts}
 use Rattle.store.specs.Columns.{Columns}
-use Rattle.operator.specs.Bounds.{meterOk}
+use Rattle.operator_meter.specs.Bounds.{meterOk}
 use Rattle.node.specs.declared.State.{State}
 use Rattle.node.specs.View.{view}
 use Rattle.node.specs.Shape.{headOk, keptOk, bucketsOk, numbersOk, stateInShape}

@@ -11,7 +11,7 @@ use Rattle.record.specs.declared.Record.{Record}
 use Rattle.store.specs.declared.Reading.{Reading}
 use Rattle.store.specs.Lists.{keep}
 use Rattle.store.proofs.Amounts.{CommutativeMonoid}
-use Rattle.operator.specs.Meters.{noMeter, withValue}
+use Rattle.operator_meter.specs.Values.{noMeter, withValue}
 use Rattle.operator.specs.Results.{result}
 use Rattle.operator.proofs.Measures.{Measure, brought, reportedOf}
 use Rattle.consistency.specs.Runs.{Input, recordIn}

@@ -27,7 +27,7 @@ use Rattle.store.proofs.Choices.{cond-either}
 use Rattle.store.proofs.Permutations.{append-permuted, permutation-between, permutation-back}
 use Rattle.store.proofs.Keeping.{keep-append}
 use Rattle.store.proofs.Amounts.{none-plus, totalOf}
-use Rattle.operator.specs.Meters.{noMeter, isCounted}
+use Rattle.operator_meter.specs.Values.{noMeter, isCounted}
 use Rattle.operator.proofs.Measures.{reports, brought, brought-append, brought-permuted, reportedOf}
 use Rattle.protocol.specs.Node.{Line, keptOf}
 use Rattle.protocol.specs.FailureFree.{stableReading, stableAfter}

@@ -18,7 +18,8 @@ use Rattle.journal.specs.Kinds.{letterS, letterT}
 use Rattle.store.specs.Lists.{Every}
 use Rattle.store.specs.Order.{inBucket}
 use Rattle.operator.specs.declared.Operator.{Operator}
-use Rattle.operator.specs.Meters.{meterCount, noMeter, fresh}
+use Rattle.operator_meter.specs.Values.{noMeter}
+use Rattle.operator.specs.Meters.{meterCount, fresh}
 use Rattle.protocol.specs.declared.Phase.{Phase}
 use Rattle.protocol.specs.declared.Phase.the-variants as Phase
 use Rattle.protocol.specs.Kinds.{Kind, kindOf, uses, isStep}
@@ -35,7 +36,7 @@ use Rattle.node.proofs.Lists.{every-replicate}
 use Rattle.node.proofs.Limits.{Limits, limits-hold}
 use Rattle.node.proofs.Shape.{PhaseShape}
 use Rattle.node.proofs.Outcomes.{outcome-lines, outcome-kept}
-use Rattle.operator.proofs.Meters.{Counted, no-counted}
+use Rattle.operator_meter.proofs.Bounds.{Counted, no-counted}
 use Rattle.node.proofs.Fits.{NodeFits, opened-fits, values-fit, outcome-fits}
 use Rattle.node.proofs.Times.{stable-end-fits, due-start-fits}
 use Rattle.node.proofs.Records.{few-readings}

@@ -14,15 +14,15 @@ use Rattle.signed.specs.Range.{InRange}
 use Rattle.journal.specs.Kinds.{letterS, letterT}
 use Rattle.store.specs.declared.Reading.{Reading}
 use Rattle.store.specs.Lists.{Every, allOf}
-use Rattle.operator.specs.declared.Meter.{Meter}
+use Rattle.operator_meter.specs.declared.Meter.{Meter}
 use Rattle.operator.specs.Meters.{meterCount}
 use Rattle.protocol.specs.declared.Phase.{Phase}
 use Rattle.protocol.specs.declared.Phase.the-variants as Phase
 use Rattle.protocol.specs.Node.{Line}
 use Rattle.store.specs.Sizes.{readingsPerLine}
 use Rattle.node.specs.Sizes.{resultsPerBucket, lastBucket}
-use Rattle.operator.specs.Bounds.{countLimit, sumOk, meterOk}
-use Rattle.operator.proofs.Meters.{Counted}
+use Rattle.operator_meter.specs.Bounds.{countLimit, sumOk, meterOk}
+use Rattle.operator_meter.proofs.Bounds.{Counted}
 use Rattle.store_columns.specs.Shape.{rises, isReadingKind}
 use Rattle.node.specs.View.{Lent, view}
 use Rattle.retransmission.specs.Sizes.{heldResults}

@@ -16,15 +16,17 @@ use Rattle.settings.specs.Limits.{maxLines, minBucket}
 use Rattle.store.specs.Lists.{Every}
 use Rattle.store.specs.Order.{Placed}
 use Rattle.store.proofs.Pairs.{every-to}
-use Rattle.operator.specs.declared.Meter.{Meter}
+use Rattle.operator_meter.specs.declared.Meter.{Meter}
 use Rattle.operator.specs.declared.Operator.{Operator}
-use Rattle.operator.specs.Meters.{meterCount, noMeter, clear, addAll}
+use Rattle.operator_meter.specs.Values.{noMeter}
+use Rattle.operator.specs.Meters.{meterCount, clear, addAll}
 use Rattle.operator.specs.Work.{close, work}
 use Rattle.operator.proofs.Closing.{work-number}
 use Rattle.store.specs.Sizes.{readingsPerLine}
 use Rattle.node.specs.Sizes.{resultsPerBucket, lastBucket}
 use Rattle.node.proofs.Lists.{every-replicate}
-use Rattle.operator.proofs.Meters.{ValueFits, Counted, no-counted, counted-addAll}
+use Rattle.operator_meter.proofs.Bounds.{Counted, no-counted}
+use Rattle.operator.proofs.Meters.{ValueFits, counted-addAll}
 use Rattle.node.proofs.Fits.{OperatorFits}
 use Rattle.node.proofs.Results.{length-work}
 

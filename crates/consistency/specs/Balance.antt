@@ -12,8 +12,9 @@ use Rattle.journal.specs.Kinds.{letterS}
 use Rattle.record.specs.declared.Record.{Record}
 use Rattle.store.specs.declared.Reading.{Reading}
 use Rattle.store.specs.Lists.{keep}
-use Rattle.operator.specs.declared.Meter.{Meter}
-use Rattle.operator.specs.Meters.{meterCount, noMeter, isCounted}
+use Rattle.operator_meter.specs.declared.Meter.{Meter}
+use Rattle.operator_meter.specs.Values.{noMeter, isCounted}
+use Rattle.operator.specs.Meters.{meterCount}
 use Rattle.protocol.specs.Node.{keptOf}
 use Rattle.node.specs.View.{view}
 use Rattle.consistency.specs.Runs.{Box, Input, leftAfter, recordIn}

@@ -16,8 +16,8 @@ use Rattle.journal.specs.declared.CallRead.the-variants as CallRead
 use Rattle.journal.specs.ReadLine.{callOf}
 use Rattle.record.specs.Fields.{wordAt}
 use Rattle.store.specs.declared.Reading.{Reading}
-use Rattle.operator.specs.declared.Meter.{Meter}
-use Rattle.operator.specs.Meters.{noMeter}
+use Rattle.operator_meter.specs.declared.Meter.{Meter}
+use Rattle.operator_meter.specs.Values.{noMeter}
 use Rattle.protocol.specs.Node.{Line}
 use Rattle.node.specs.declared.State.{State}
 use Rattle.node.specs.View.{Lent, view}

@@ -32,10 +32,11 @@ use Rattle.store.specs.Columns.{storeLength, rowAt, rowsFrom, rows, withRows, z
 use Rattle.store_columns.specs.Shape.{rises, isReadingKind}
 use Rattle.retransmission.specs.Places.{pieces, joined, placesOf, withPlaces, placeOf, emptyPlace}
 use Rattle.retransmission.specs.Places.{holding, givenUp, heldBehind, placeOk, placesOk}
-use Rattle.operator.specs.Meters.{noMeter, withValue, clear, fresh, isCounted, add, addAll}
-use Rattle.operator.specs.Bounds.{sumOk, meterOk}
+use Rattle.operator_meter.specs.Values.{noMeter, withValue, isCounted, hasResult}
+use Rattle.operator.specs.Meters.{clear, fresh, add, addAll}
+use Rattle.operator_meter.specs.Bounds.{sumOk, meterOk}
 use Rattle.record.specs.Markers.{marker}
-use Rattle.operator.specs.Results.{hasResult, result, results}
+use Rattle.operator.specs.Results.{result, results}
 use Rattle.operator.specs.Work.{windowResults, close, work}
 use Rattle.protocol.specs.Kinds.{kindOf, uses, isStep}
 use Rattle.protocol.specs.Node.{Node, noLine, opened, isStableBucket, keepsTentative, keptOf, readingOf, onLine}

@@ -10,7 +10,7 @@ use lib.IntN.{ℤ, pos, negℤ}
 use lib.ListN.{getD, replicate}
 use Rattle.record.specs.declared.Record.{Record}
 use Rattle.store.specs.Lists.{keep}
-use Rattle.operator.specs.Meters.{noMeter}
+use Rattle.operator_meter.specs.Values.{noMeter}
 use Rattle.protocol.specs.Node.{keptOf}
 use Rattle.node.specs.View.{view}
 use Rattle.node.specs.Opening.{closedState}

@@ -20,7 +20,8 @@ use Rattle.store.specs.Order.{Placed, isIn, inBucket}
 use Rattle.store.proofs.Pairs.{every-to, every-append, every-keep, every-map}
 use Rattle.store.specs.Lists.{Every}
 use Rattle.operator.specs.declared.Operator.{Operator}
-use Rattle.operator.specs.Meters.{meterCount, noMeter, clear, fresh, addAll}
+use Rattle.operator_meter.specs.Values.{noMeter}
+use Rattle.operator.specs.Meters.{meterCount, clear, fresh, addAll}
 use Rattle.operator.specs.Work.{close, work}
 use Rattle.protocol.specs.Kinds.{Kind, kindOf, uses, isStep}
 use Rattle.protocol.specs.Node.{Line, Node, noLine, opened, keptOf, readingOf, onLine}
@@ -31,7 +32,8 @@ use Rattle.protocol.specs.Refusals.{answerTo}
 use Rattle.protocol.specs.Calls.{input, done, accepted, outcomeOf}
 use Rattle.node.proofs.Lists.{every-replicate, every-modify}
 use Rattle.operator.proofs.Adding.{addAll-length}
-use Rattle.operator.proofs.Meters.{LastFits, ValueFits, no-last, lasts-addAll}
+use Rattle.operator_meter.proofs.Bounds.{LastFits, no-last}
+use Rattle.operator.proofs.Meters.{ValueFits, lasts-addAll}
 use Rattle.node.proofs.Gathered.{every-inBucket}
 
 -- ---- within the widths

@@ -34,9 +34,9 @@ use Rattle.store.specs.Sizes.{readingsPerLine}
 use Rattle.protocol.specs.Calls.{input, done, accepted, outcomeOf}
 use Rattle.protocol.proofs.Rules.{rule-cases}
 use Rattle.node.specs.Sizes.{resultsPerBucket, recordsPerCall, lastBucket}
-use Rattle.operator.specs.Bounds.{countLimit}
+use Rattle.operator_meter.specs.Bounds.{countLimit}
 use Rattle.node.proofs.Limits.{limits-hold}
-use Rattle.operator.proofs.Meters.{Counted}
+use Rattle.operator_meter.proofs.Bounds.{Counted}
 use Rattle.node.proofs.Gathered.{length-inBucket}
 use Rattle.node.proofs.Fits.{NodeFits, values-fit}
 use Rattle.node.proofs.Times.{start-fits, stable-end-fits, stable-start-fits, due-start-fits}

@@ -16,17 +16,19 @@ use Rattle.record.specs.Within.{Within}
 use Rattle.record.specs.Kinds.{isRecord}
 use Rattle.store.specs.Order.{Placed}
 use Rattle.store.specs.Lists.{Every}
-use Rattle.operator.specs.declared.Meter.{Meter}
+use Rattle.operator_meter.specs.declared.Meter.{Meter}
 use Rattle.operator.specs.declared.Operator.{Operator}
 use Rattle.operator.specs.Meters.{meterCount, addAll}
 use Rattle.record.specs.Markers.{marker}
-use Rattle.operator.specs.Results.{hasResult, result, results}
+use Rattle.operator_meter.specs.Values.{hasResult}
+use Rattle.operator.specs.Results.{result, results}
 use Rattle.operator.specs.Work.{windowResults, close, work}
 use Rattle.store.proofs.Pairs.{every-both}
 use Rattle.operator.proofs.Adding.{addAll-number, addAll-length}
 use Rattle.operator.proofs.Results.{results-most}
-use Rattle.operator.proofs.Sums.{range-fits}
-use Rattle.operator.proofs.Meters.{LastFits, ValueFits, Counted, lasts-addAll, counted-addAll}
+use Rattle.operator_meter.proofs.Sums.{range-fits}
+use Rattle.operator_meter.proofs.Bounds.{LastFits, Counted}
+use Rattle.operator.proofs.Meters.{ValueFits, lasts-addAll, counted-addAll}
 use Rattle.node.proofs.Fits.{OperatorFits}
 
 -- a record whose bytes are read back

@@ -21,9 +21,8 @@ use Rattle.protocol.specs.declared.Phase.the-variants as Phase
 use Rattle.protocol.specs.Node.{Line}
 use Rattle.store.specs.Sizes.{readingsPerLine}
 use Rattle.node.specs.Sizes.{resultsPerBucket, lastBucket}
-use Rattle.operator.specs.Bounds.{countLimit, meterOk}
-use Rattle.operator.proofs.Meters.{Counted}
-use Rattle.operator.proofs.Bounds.{meters-ok}
+use Rattle.operator_meter.specs.Bounds.{countLimit, meterOk}
+use Rattle.operator_meter.proofs.Bounds.{Counted, meters-ok}
 use Rattle.store_columns.specs.Shape.{rises, isReadingKind}
 use Rattle.retransmission.specs.Sizes.{heldResults}
 use Rattle.store.specs.Columns.{Columns}

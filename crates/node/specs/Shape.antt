@@ -11,7 +11,7 @@ use Rattle.store.specs.Sizes.{readingsPerLine}
 use Rattle.store.specs.Lists.{allOf}
 use Rattle.store_columns.specs.Shape.{rises, isReadingKind}
 use Rattle.operator.specs.Meters.{meterCount}
-use Rattle.operator.specs.Bounds.{meterOk}
+use Rattle.operator_meter.specs.Bounds.{meterOk}
 use Rattle.protocol.specs.declared.Phase.{Phase}
 use Rattle.protocol.specs.declared.Phase.the-variants as Phase
 use Rattle.protocol.specs.Node.{Line}

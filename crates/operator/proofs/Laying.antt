@@ -17,10 +17,11 @@ use Rattle.record.specs.Sizes.{recordBytes}
 use Rattle.record.specs.Layout.{bytesOf, allBytes}
 use Rattle.record.proofs.BytesOf.{length-bytesOf}
 use Rattle.record.proofs.AllBytes.{length-allBytes}
-use Rattle.operator.specs.declared.Meter.{Meter}
+use Rattle.operator_meter.specs.declared.Meter.{Meter}
 use Rattle.operator.specs.declared.NextResult.the-variants as NextResult
 use Rattle.operator.specs.declared.Operator.{Operator}
-use Rattle.operator.specs.Meters.{meterCount, noMeter, clear}
+use Rattle.operator_meter.specs.Values.{noMeter}
+use Rattle.operator.specs.Meters.{meterCount, clear}
 use Rattle.operator.specs.Results.{result, results}
 use Rattle.operator.specs.Parts.{nextResult}
 use Rattle.operator.specs.Work.{windowResults, close}

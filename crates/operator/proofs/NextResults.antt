@@ -12,11 +12,11 @@ use lib.Dec.{ltb}
 use lib.ListN.{length, getD, drop}
 use Rattle.clock.specs.declared.ReadingTime.{ReadingTime}
 use Rattle.store.proofs.Choices.{not-both}
-use Rattle.operator.specs.declared.Meter.{Meter}
+use Rattle.operator_meter.specs.declared.Meter.{Meter}
 use Rattle.operator.specs.declared.NextResult.{NextResult}
 use Rattle.operator.specs.declared.NextResult.the-variants as NextResult
-use Rattle.operator.specs.Meters.{noMeter}
-use Rattle.operator.specs.Results.{hasResult, result, results}
+use Rattle.operator_meter.specs.Values.{noMeter, hasResult}
+use Rattle.operator.specs.Results.{result, results}
 use Rattle.operator.specs.Parts.{nextResult}
 use Rattle.operator.proofs.FromPlace.{next-from-giver, next-from-other, next-from-end, results-from-giver, results-from-other, results-from-end}
 

@@ -23,10 +23,10 @@ use Rattle.store.proofs.Pairs.{every-to}
 use Rattle.store.proofs.Permutations.{every-permuted}
 use Rattle.store.proofs.Order.{before-times, not-before-times}
 use Rattle.store.proofs.Sorting.{sort-permutes, sort-sorted}
-use Rattle.operator.specs.declared.Meter.{Meter}
+use Rattle.operator_meter.specs.declared.Meter.{Meter}
 use Rattle.operator.specs.declared.Operator.{Operator}
-use Rattle.operator.specs.Meters.{meterCount, noMeter, withValue, isCounted, addAll}
-use Rattle.operator.specs.Parts.{withOlderValue}
+use Rattle.operator_meter.specs.Values.{noMeter, withValue, isCounted, withOlderValue}
+use Rattle.operator.specs.Meters.{meterCount, addAll}
 use Rattle.operator.proofs.Values.{countsFor, valuesOf, total, lastOr, countOf, sumOf, countOf-permuted, sumOf-permuted}
 use Rattle.operator.proofs.Adding.{meterOf, set-read, addAll-length, addAll-number}
 use Rattle.operator.proofs.Totals.{addAll-count, addAll-sum, addAll-last}

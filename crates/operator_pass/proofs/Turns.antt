@@ -16,12 +16,12 @@ use Rattle.signed.specs.Range.{InRange}
 use Rattle.store.specs.Lists.{Every}
 use Rattle.store.proofs.Choices.{cond-either}
 use Rattle.store.proofs.Pairs.{every-to, every-set, every-at}
-use Rattle.operator.specs.declared.Meter.{Meter}
+use Rattle.operator_meter.specs.declared.Meter.{Meter}
 use Rattle.operator.specs.declared.Operator.{Operator}
-use Rattle.operator.specs.Bounds.{countLimit}
-use Rattle.operator.specs.Meters.{noMeter, isCounted}
-use Rattle.operator.proofs.Sums.{add-range}
-use Rattle.operator.proofs.Meters.{Counted, no-counted}
+use Rattle.operator_meter.specs.Bounds.{countLimit}
+use Rattle.operator_meter.specs.Values.{noMeter, isCounted}
+use Rattle.operator_meter.proofs.Sums.{add-range}
+use Rattle.operator_meter.proofs.Bounds.{Counted, no-counted}
 use Rattle.operator_pass.proofs.Pass.{Passing, started, valued, valued-count, valued-sum, entered, meet, meetPlaces}
 
 -- ---- how much a pass counts

@@ -6,7 +6,8 @@ use Rattle.retransmission.specs.Places.{placeOf}
 use Rattle.store.specs.Lists.{keep, allOf}
 use Rattle.store.specs.Order.{sort, gather, inBucket}
 use Rattle.operator.specs.Meters.{addAll}
-use Rattle.operator.specs.Results.{hasResult, result, results}
+use Rattle.operator_meter.specs.Values.{hasResult}
+use Rattle.operator.specs.Results.{result, results}
 use Rattle.operator.specs.Work.{windowResults, close, work}
 use Rattle.protocol.specs.Kinds.{kindOf, uses, isStep}
 use Rattle.protocol.specs.Node.{isStableBucket, keptOf}

@@ -8,7 +8,7 @@ use Rattle.settings.specs.declared.Settings.{Settings}
 use Rattle.journal.specs.declared.Call.{Call}
 use Rattle.journal.specs.Kinds.{letterP}
 use Rattle.retransmission.specs.Places.{placeOf}
-use Rattle.operator.specs.declared.Meter.{Meter}
+use Rattle.operator_meter.specs.declared.Meter.{Meter}
 use Rattle.protocol.specs.declared.Phase.the-variants as Phase
 use Rattle.protocol.specs.Node.{Line, Node}
 use Rattle.protocol.specs.Refusals.{answerTo}

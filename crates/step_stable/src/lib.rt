@@ -119,8 +119,8 @@ fn stable_records(
             records: records,
         };
     }
-    let end = clock::bucket_end(settings.bucket, stable_bucket) as u32;
-    let boundary = record::marker(record::BOUNDARY, 0, ReadingTime(end));
+    let end = ReadingTime(clock::bucket_end(settings.bucket, stable_bucket) as u32);
+    let boundary = record::marker(record::BOUNDARY, 0, end);
     let at = results as usize * record::RECORD_BYTES;
     record::put_record(&mut area[at..], boundary);
     let with_boundary = records + 1;

@@ -126,7 +126,7 @@ returns c =
 bucket-end-requires : tie.Need-bucket-end-requires
 bucket-end-requires c κs = search needs
 
-cast-end : tie.Need-cast-end
+cast-end : tie.Need-cast-t24
 cast-end c = search needs
 
 marker-requires : tie.Need-marker-requires

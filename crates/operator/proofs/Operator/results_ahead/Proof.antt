@@ -7,7 +7,8 @@ use native.Mathlib.Numerals.{add-one}
 use native.Mathlib.Omega.{arith}
 use borrow.Author.Needs.{needs}
 use lib.ListN.{length, drop}
-use Rattle.operator.specs.Meters.{meterCount, noMeter}
+use Rattle.operator_meter.specs.Values.{noMeter}
+use Rattle.operator.specs.Meters.{meterCount}
 use Rattle.operator.specs.Work.{close}
 use Rattle.operator.proofs.Results.{givers}
 use Rattle.operator.proofs.Closing.{window-results-length}

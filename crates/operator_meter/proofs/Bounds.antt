@@ -1,6 +1,6 @@
--- A meter within its bounds: what the test says of its count and sum, and the test as the code makes it, one way out after the other.
--- By the sum's sign.
-use Prim.Native.Nat.{ℕ, zero, suc, _-_, _*_, _^_, _<_, _≤_}
+-- A meter within its bounds: count, sum and last value with one value more, what the test says of them, and the test as the code makes it,
+-- one way out after the other. By the sum's sign.
+use Prim.Native.Nat.{ℕ, zero, suc, _+_, _-_, _*_, _^_, _<_, _≤_}
 use mathlib.Core.Path.{_≡_, sym, ap, _∙_}
 use mathlib.Core.Bool.{Bool, true, false, true≢false}
 use mathlib.Core.List.{List}
@@ -8,14 +8,42 @@ use native.Mathlib.Omega.{arith}
 use borrow.Author.Tests.{leb-true, le-leb, lt-leb, ltb-true}
 use lib.Dec.{leb, leb·suc-suc}
 use lib.IntN.{ℤ, pos, negsuc, negℤ}
-use lib.Signed.{leZ, ltZ}
+use lib.Signed.{leZ, ltZ, mag}
 use Rattle.signed.specs.Range.{InRange}
 use Rattle.store.specs.Lists.{allOf, Every}
 use Rattle.store.proofs.Choices.{and-parts}
 use Rattle.store.proofs.Pairs.{every-to, every-passes}
-use Rattle.operator.specs.declared.Meter.{Meter}
-use Rattle.operator.specs.Bounds.{countLimit, sumOk, meterOk}
-use Rattle.operator.proofs.Meters.{Counted}
+use Rattle.operator_meter.specs.declared.Meter.{Meter}
+use Rattle.operator_meter.specs.Values.{noMeter, withValue}
+use Rattle.operator_meter.specs.Bounds.{countLimit, sumOk, meterOk}
+use Rattle.operator_meter.proofs.Sums.{add-range}
+
+-- the last value fits 32 bits
+abbrev pub LastFits : Meter → Type 0
+LastFits m = mag (m .last) < 2 ^ 31
+
+-- at most n values, and a sum that so many can have
+pub record Counted (n : ℕ) (m : Meter) : Type 0 where
+  pub count : m .count ≤ n
+  pub range : InRange (m .sum) (m .count)
+
+pub no-last : LastFits noMeter
+unfolding noMeter
+no-last = omega arith
+
+pub no-counted : (n : ℕ) → Counted n noMeter
+unfolding noMeter
+no-counted n = record { count = omega arith; range = omega arith }
+
+pub counted-value : (n : ℕ) (v : ℤ) (m : Meter) → mag v < 2 ^ 31 → Counted n m → Counted (suc n) (withValue v m)
+unfolding withValue
+counted-value n v m f h = record { count = omega (arith, h .count); range = add-range (m .count) (m .sum) v (h .range) f }
+
+pub last-value : (v : ℤ) (m : Meter) → mag v < 2 ^ 31 → LastFits (withValue v m)
+unfolding withValue
+last-value v m f = f
+
+-- ---- the test of both
 
 sum-ok : (z : ℤ) (count : ℕ) → sumOk z count ≡ true → InRange z count
 unfolding sumOk

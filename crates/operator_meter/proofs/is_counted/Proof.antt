@@ -1,11 +1,11 @@
--- `operator::is_counted` meets its contract: the two tests of the definition, on the numbers that are passed.
+-- `operator_meter::is_counted` meets its contract: the two tests of the definition, on the numbers that are passed.
 use mir.Syntax.{w32}
 use mir.Val.{SFits}
 use mir.Facts.{toZ-ofZ}
 use borrow.Author.Needs.{needs}
-use Rattle.operator.specs.Meters.{isCounted}
-use Rattle.operator.proofs.is_counted.Statement.{statement}
-use Rattle.operator.proofs.is_counted.Tie as tie
+use Rattle.operator_meter.specs.Values.{isCounted}
+use Rattle.operator_meter.proofs.is_counted.Statement.{statement}
+use Rattle.operator_meter.proofs.is_counted.Tie as tie
 
 returns : tie.Need-returns
 unfolding isCounted

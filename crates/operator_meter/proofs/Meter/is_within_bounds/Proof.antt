@@ -1,4 +1,4 @@
--- `operator::Meter::is_within_bounds` meets its contract: a count within its limit times 2^31 fits 64 bits, and each way out is the
+-- `operator_meter::Meter::is_within_bounds` meets its contract: a count within its limit times 2^31 fits 64 bits, and each way out is the
 -- definition's.
 use mathlib.Core.Path.{_≡_, sym, ap, _∙_}
 use Prim.Native.Nat.{_*_, _<_, _^_}
@@ -9,9 +9,9 @@ use mir.Syntax.{w64}
 use mir.Val.{SFits, toZ}
 use mir.Facts.{toZ-ofZ, toZ-pos}
 use Rattle.signed.proofs.Negation.{neg-fits, minus, minus-fits}
-use Rattle.operator.proofs.Bounds.{count-above, sum-none, sum-above, sum-below}
-use Rattle.operator.proofs.Meter.is_within_bounds.Statement.{statement}
-use Rattle.operator.proofs.Meter.is_within_bounds.Tie as tie
+use Rattle.operator_meter.proofs.Bounds.{count-above, sum-none, sum-above, sum-below}
+use Rattle.operator_meter.proofs.Meter.is_within_bounds.Statement.{statement}
+use Rattle.operator_meter.proofs.Meter.is_within_bounds.Tie as tie
 
 returns : tie.Need-returns
 returns c = count-above (c .before .before .args .self) (c .if1 .taken)

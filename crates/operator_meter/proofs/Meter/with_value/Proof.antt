@@ -1,4 +1,4 @@
--- `operator::Meter::with_value` meets its contract: the old sum is one of so many values, so the new one fits.
+-- `operator_meter::Meter::with_value` meets its contract: the old sum is one of so many values, so the new one fits.
 use mir.Syntax.{w64}
 use mir.Val.{SFits}
 use mir.Facts.{toZ-ofZ, sfits-widen}
@@ -6,11 +6,10 @@ use native.Mathlib.Omega.{arith}
 use Prim.Native.Nat.{_+_}
 use lib.IntN.{_+ℤ_}
 use borrow.Author.Needs.{needs}
-use Rattle.operator.specs.Meters.{withValue}
-use Rattle.operator.specs.Parts.{withOlderValue}
-use Rattle.operator.proofs.Sums.{range-fits, add-range}
-use Rattle.operator.proofs.Meter.with_value.Statement.{statement}
-use Rattle.operator.proofs.Meter.with_value.Tie as tie
+use Rattle.operator_meter.specs.Values.{withValue, withOlderValue}
+use Rattle.operator_meter.proofs.Sums.{range-fits, add-range}
+use Rattle.operator_meter.proofs.Meter.with_value.Statement.{statement}
+use Rattle.operator_meter.proofs.Meter.with_value.Tie as tie
 
 old-fits : (s : tie.Start) → SFits w64 (s .args .self .sum)
 old-fits s = record { sfits = range-fits (s .args .self .count) (s .args .self .sum) (omega arith) (s .pre .1) }

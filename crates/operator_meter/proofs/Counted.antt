@@ -4,9 +4,9 @@ use mathlib.Core.Bool.{Bool, true, false, _&&_}
 use mathlib.Core.Logic.{_↔_}
 use lib.Dec.{T}
 use lib.IntN.{ℤ}
-use lib.Signed.{leZ, _≤ℤ_, leZ-yes, ≤ℤ-refl}
+use lib.Signed.{leZ, _≤ℤ_, leZ-yes}
 use Rattle.settings.specs.declared.Settings.{Settings}
-use Rattle.operator.specs.Meters.{isCounted}
+use Rattle.operator_meter.specs.Values.{isCounted}
 
 both : (a b : Bool) → (a && b ≡ true) ↔ (T a × T b)
 both true b = (λ e. (tt, subst T (sym e) tt), λ h. holds b (h .1))
@@ -22,10 +22,3 @@ counted-within s v = (
   λ e. let h : T (leZ (s .low) v) × T (leZ v (s .high)) = both (leZ (s .low) v) (leZ v (s .high)) .0 e in (leZ-yes (h .0), leZ-yes (h .1)),
   λ h. both (leZ (s .low) v) (leZ v (s .high)) .1 (h .0 .le, h .1 .le),
 )
-
--- the ends are counted
-pub counted-low : (s : Settings) → s .low ≤ℤ s .high → isCounted s (s .low) ≡ true
-counted-low s h = counted-within s (s .low) .1 (≤ℤ-refl _, h)
-
-pub counted-high : (s : Settings) → s .low ≤ℤ s .high → isCounted s (s .high) ≡ true
-counted-high s h = counted-within s (s .high) .1 (h, ≤ℤ-refl _)

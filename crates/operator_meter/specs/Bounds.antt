@@ -3,7 +3,7 @@ use Prim.Native.Nat.{ℕ, suc, _*_, _-_, _^_}
 use mathlib.Core.Bool.{Bool, _&&_}
 use lib.Dec.{leb}
 use lib.IntN.{ℤ, pos, negsuc}
-use Rattle.operator.specs.declared.Meter.{Meter}
+use Rattle.operator_meter.specs.declared.Meter.{Meter}
 
 -- the largest count of a meter
 abbrev pub countLimit : ℕ
