@@ -26,12 +26,21 @@ slice-aggregate-remove-bucket-5 c = search needs
 slice-aggregate-remove-bucket-6 : tie.Need-slice-aggregate-remove-bucket-6
 slice-aggregate-remove-bucket-6 c = search needs
 
+-- the start, seen from the call
+abbrev entered : tie.After-meters2 → tie.Start
+entered c = c .before .before .before .before .before .before .before .before .before .before .before .before
+
 remove-bucket-requires : tie.Need-remove-bucket-requires
 remove-bucket-requires c κs =
-    let b = c .before .before .before .before .before .before .before .before .before .before .before .before in
+    let b = entered c in
     let x = b .args .c in
-    let long : length (x .ids) ≡ 8 = search needs in
-    (search needs, search needs, search needs, within-eight (columnsOf (x .ids) (x .times) (x .values) (x .arrivals) (x .kinds) (x .meters)) long (search needs) (search needs) (search needs) (search needs) (search needs) (b .args .base + b .args .n) (search needs))
+    let long : length (x .ids) ≡ 8 = search needs in (
+      search needs,
+      search needs,
+      search needs,
+      within-eight (columnsOf (x .ids) (x .times) (x .values) (x .arrivals) (x .kinds) (x .meters)) long (search needs) (search needs)
+          (search needs) (search needs) (search needs) (b .args .base + b .args .n) (search needs),
+    )
 
 returns : tie.Need-returns
 returns c = search needs

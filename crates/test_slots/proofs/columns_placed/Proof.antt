@@ -26,12 +26,17 @@ slice-aggregate-place-5 c = search needs
 slice-aggregate-place-6 : tie.Need-slice-aggregate-place-6
 slice-aggregate-place-6 c = search needs
 
+-- the start, seen from the call
+abbrev entered : tie.After-meters2 → tie.Start
+entered c = c .before .before .before .before .before .before .before .before .before .before .before .before
+
 place-requires : tie.Need-place-requires
 place-requires c κs =
-    let b = c .before .before .before .before .before .before .before .before .before .before .before .before in
+    let b = entered c in
     let x = b .args .c in
     let long : length (x .ids) ≡ 8 = search needs in
-    within-eight (columnsOf (x .ids) (x .times) (x .values) (x .arrivals) (x .kinds) (x .meters)) long (search needs) (search needs) (search needs) (search needs) (search needs) (suc (b .args .at)) (search needs)
+    within-eight (columnsOf (x .ids) (x .times) (x .values) (x .arrivals) (x .kinds) (x .meters)) long (search needs) (search needs)
+    (search needs) (search needs) (search needs) (suc (b .args .at)) (search needs)
 
 returns : tie.Need-returns
 returns c = search needs
