@@ -79,7 +79,7 @@ pub struct Started {
 }
 
 // Plays the settings on the state before the first opening, and goes on to the first journal line; where they are refused, to the end.
-pub fn start(
+fn start(
     ids: &mut [u32],
     times: &mut [u32],
     values: &mut [i32],

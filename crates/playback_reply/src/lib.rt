@@ -79,7 +79,7 @@ fn put_text(out: &mut [u8], at: usize, bytes: &[u8]) -> usize
 }
 
 // Writes the texts of the area's first n records from `at` on; answers the place behind them.
-pub fn put_records(out: &mut [u8], at: usize, area: &[u8], n: usize) -> usize
+fn put_records(out: &mut [u8], at: usize, area: &[u8], n: usize) -> usize
     requires { ⌜ (n * recordBytes ≤ length (now area)) × (at + n * longestRecordText ≤ length (now out)) ⌝ }
     ensures { λ r. ⌜ PutAt (now (out .entry)) at (recordLines n (now (area .entry))) r (now (out .exit)) ⌝ }
 {
