@@ -31,7 +31,8 @@ unfolding laid
 laid-one l i x = refl
 
 -- the first bytes of a run, and one more
-pub laid-more : (l : List ℕ) (at i : ℕ) (s : List ℕ) → i < length s → set (laid l at (take i s)) (at + i) (getD s i 0) ≡ laid l at (take (suc i) s)
+pub laid-more :
+    (l : List ℕ) (at i : ℕ) (s : List ℕ) → i < length s → set (laid l at (take i s)) (at + i) (getD s i 0) ≡ laid l at (take (suc i) s)
 laid-more l at i s h =
     sym (laid-one (laid l at (take i s)) (at + i) (getD s i 0))
     ∙ laid-laid l at (at + i) (take i s) (getD s i 0 ∷ []) (omega (arith, length-take-le i s (omega arith)))

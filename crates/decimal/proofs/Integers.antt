@@ -52,7 +52,8 @@ asInteger-value Number.Malformed z e q = let c : _≡_ {A = ℕ} 0 1 = cc in abs
 abbrev pub WrittenAt : List ℕ → ℕ → ℤ → ℕ → Type 0
 WrittenAt s at z e = (drop at s ≡ decimal z ++ drop e s) × SFits w32 z × (e ≡ at + length (decimal z)) × (e ≤ length s)
 
-minus-sound : (s : List ℕ) (at m e : ℕ) → getD s at 0 ≡ 45 → numberAt (2 ^ 31) s (at + 1) ≡ Number.Value (suc m) e → WrittenAt s at (negsuc m) e
+minus-sound :
+    (s : List ℕ) (at m e : ℕ) → getD s at 0 ≡ 45 → numberAt (2 ^ 31) s (at + 1) ≡ Number.Value (suc m) e → WrittenAt s at (negsuc m) e
 unfolding decimal
 minus-sound s at m e b q =
     let r = number-sound (2 ^ 31) s (at + 1) (suc m) e (omega arith) q in
@@ -79,7 +80,9 @@ integer-sound s at z e q = by (eqb (getD s at 0) 45) refl
 
 -- ---- completeness
 
-pub integer-complete : (s : List ℕ) (at : ℕ) (z : ℤ) (r : List ℕ) → drop at s ≡ decimal z ++ r → NoDigit r → SFits w32 z → integerAt s at ≡ Integer.Value z (at + length (decimal z))
+pub integer-complete :
+    (s : List ℕ) (at : ℕ) (z : ℤ) (r : List ℕ) → drop at s ≡ decimal z ++ r → NoDigit r → SFits w32 z →
+    integerAt s at ≡ Integer.Value z (at + length (decimal z))
 unfolding decimal asInteger
 integer-complete s at (pos n) r e o f =
     let l = f .sfits in
@@ -94,6 +97,8 @@ integer-complete s at (negsuc n) r e o f =
     integer-minus s at (sym (head-drop at s) ∙ rw e) ∙ ap negated q ∙ negated-suc n (at + 1 + length (digits (suc n))) ∙ ap (Integer.Value (negsuc n)) (omega arith)
 
 -- a claim of its own: a whole number behind any text reads back as written
-pub integer-reads-back : (p : List ℕ) (z : ℤ) (r : List ℕ) → NoDigit r → SFits w32 z → integerAt (p ++ (decimal z ++ r)) (length p) ≡ Integer.Value z (length p + length (decimal z))
+pub integer-reads-back :
+    (p : List ℕ) (z : ℤ) (r : List ℕ) → NoDigit r → SFits w32 z →
+    integerAt (p ++ (decimal z ++ r)) (length p) ≡ Integer.Value z (length p + length (decimal z))
 integer-reads-back p z r n f =
     integer-complete (p ++ (decimal z ++ r)) (length p) z r (drop-append-seam p (decimal z ++ r)) n f

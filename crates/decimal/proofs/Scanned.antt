@@ -23,7 +23,8 @@ scanned-none s at = (refl, refl)
 
 module _ (s : List ℕ) (at i v : ℕ) (so : Scanned s at i v) where
   -- a digit taken in
-  pub scanned-digit : (next : ℕ) → i < length s → isDigit (getD s i 0) ≡ true → next ≡ v * 10 + (getD s i 0 - 48) → Scanned s at (suc i) next
+  pub scanned-digit :
+      (next : ℕ) → i < length s → isDigit (getD s i 0) ≡ true → next ≡ v * 10 + (getD s i 0 - 48) → Scanned s at (suc i) next
   unfolding Scanned
   scanned-digit next h e q =
       let b = getD s i 0 in

@@ -22,7 +22,9 @@ call-line text c fit p =
     let end : 0 + length (lineText c) ≡ length text = omega (arith, ap length p) in
     rw (call-complete text [] 0 c fit (whole-spelled text (lineText c) p), eq-eqb (0 + length (lineText c)) (length text) end)
 
-call-only : (text : List ℕ) (answer : CallAt) → callAt text 0 ≡ answer → (callAnswer (whole text answer) ≡ 6 → ⊥) → (c : Call) × CallFits c × (text ≡ lineText c)
+call-only :
+    (text : List ℕ) (answer : CallAt) → callAt text 0 ≡ answer → (callAnswer (whole text answer) ≡ 6 → ⊥) →
+    (c : Call) × CallFits c × (text ≡ lineText c)
 unfolding whole callAnswer
 call-only text (CallAt.Line c e) q n =
     let found = call-sound text 0 e c q in

@@ -12,7 +12,8 @@ use Rattle.journal.specs.declared.CallRead.the-variants as CallRead
 use Rattle.journal.proofs.Exact.{exact-call}
 
 -- a claim of its own: the line in front of the area
-pub reads-back : (c : Call) (area : List ℕ) → CallFits c → callOf (take (length (lineText c)) (inFront (lineText c) area)) ≡ CallRead.Accepted c
+pub reads-back :
+    (c : Call) (area : List ℕ) → CallFits c → callOf (take (length (lineText c)) (inFront (lineText c) area)) ≡ CallRead.Accepted c
 unfolding inFront
 reads-back c area fit =
     let text = take (length (lineText c)) (lineText c ++ drop (length (lineText c)) area) in

@@ -27,7 +27,9 @@ unfolding finishes
 not-finished m j h = lt-leb (bucketEnd 100 j) (m .0) h
 
 -- of two lines only the boundaries count
-two-lines : (a b : Line) {m n : ReadingTime} → a .boundary ≡ m → b .boundary ≡ n → isStableBucket settings 0 (a ∷ b ∷ []) ≡ finishes 100 m 0 && (finishes 100 n 0 && true)
+two-lines :
+    (a b : Line) {m n : ReadingTime} → a .boundary ≡ m → b .boundary ≡ n →
+    isStableBucket settings 0 (a ∷ b ∷ []) ≡ finishes 100 m 0 && (finishes 100 n 0 && true)
 unfolding settings isStableBucket allOf
 two-lines a b p q = ap₂ (λ (m n : ReadingTime). finishes 100 m 0 && (finishes 100 n 0 && true)) p q
 
@@ -37,7 +39,9 @@ unfolding isIn
 in-bucket r p = ap (λ (t : ReadingTime). eqb (bucketOf 100 t) 0) p
 
 -- at equal times of bucket 0 the lower line's reading is the first
-lower-line-first : (r s : Reading) → isIn 100 0 r ≡ true → isIn 100 0 s ≡ true → r .time ≡ s .time → inBucket 100 0 ((r ∷ []) ∷ (s ∷ []) ∷ []) ≡ on 1 r ∷ on 2 s ∷ []
+lower-line-first :
+    (r s : Reading) → isIn 100 0 r ≡ true → isIn 100 0 s ≡ true → r .time ≡ s .time →
+    inBucket 100 0 ((r ∷ []) ∷ (s ∷ []) ∷ []) ≡ on 1 r ∷ on 2 s ∷ []
 unfolding inBucket gather keep sort insert
 lower-line-first r s p q e =
     rw (p, q, earlier-before (on 1 r) (on 2 s) (by-line (ap (λ (t : ReadingTime). t .0) e) (omega arith)))

@@ -24,7 +24,9 @@ length-bytesOf r = refl
 -- ---- from a record to its bytes and back
 
 -- a signed number, as the word of its width
-signed-back : (width bits : ℕ) (z : ℤ) → 256 ^ width ≡ 2 ^ bits → 1 ≤ bits → mag z < 2 ^ (bits - 1) → signedOf bits (numberOf (littleEndian width (twos bits z))) ≡ z
+signed-back :
+    (width bits : ℕ) (z : ℤ) → 256 ^ width ≡ 2 ^ bits → 1 ≤ bits → mag z < 2 ^ (bits - 1) →
+    signedOf bits (numberOf (littleEndian width (twos bits z))) ≡ z
 signed-back width bits z e some fits = rw (numberOf-littleEndian width (twos bits z) (rw e (twos-fits bits z fits))) (signedOf-twos bits z some fits)
 
 pub fieldsOf-bytesOf : (r : Record) → Within r → fieldsOf (bytesOf r) ≡ r
@@ -84,7 +86,8 @@ module _ (b : List ℕ) (h : AreBytes b) (at width : ℕ) (fits : at + width ≤
   wordAt-bound = rw length-part at (numberOf-bound (take width (drop at b)) (areBytes-take width (drop at b) (areBytes-drop at b h)))
 
   -- also where the word is read as a signed number of so many bits, and written as a word again
-  littleEndian-signedAt : (bits : ℕ) → 256 ^ width ≡ 2 ^ bits → littleEndian width (twos bits (signedOf bits (wordAt at width b))) ≡ take width (drop at b)
+  littleEndian-signedAt :
+      (bits : ℕ) → 256 ^ width ≡ 2 ^ bits → littleEndian width (twos bits (signedOf bits (wordAt at width b))) ≡ take width (drop at b)
   littleEndian-signedAt bits e = rw (twos-signedOf bits (wordAt at width b) (rw e at wordAt-bound)) littleEndian-wordAt
 
 first-four : (b : List ℕ) → 4 ≤ length b → take 4 b ≡ getD b 0 0 ∷ getD b 1 0 ∷ getD b 2 0 ∷ getD b 3 0 ∷ []

@@ -50,7 +50,9 @@ module _ (l : List ℕ) (r : Record) where
   pub room-tail : {e k : ℕ} → length (recordText r) ≤ length l → e ≡ length (textHead r) → k ≡ length l → e + length (textTail r) ≤ k
   room-tail room e same = omega (arith, length-recordText r)
 
-  pub parts-laid : {e f : ℕ} {k m : List ℕ} → (e ≡ length (textHead r)) × (k ≡ laid l 0 (textHead r)) → LaidTo k e (textTail r) f m → (f ≡ length (recordText r)) × (m ≡ laid l 0 (recordText r))
+  pub parts-laid :
+      {e f : ℕ} {k m : List ℕ} → (e ≡ length (textHead r)) × (k ≡ laid l 0 (textHead r)) → LaidTo k e (textTail r) f m →
+      (f ≡ length (recordText r)) × (m ≡ laid l 0 (recordText r))
   parts-laid {e = e} p q = (
     omega (arith, length-recordText r),
     cc (recordText-parts r, laid-laid l 0 e (textHead r) (textTail r) (omega arith)),

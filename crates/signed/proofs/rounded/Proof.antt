@@ -17,7 +17,8 @@ some c = omega arith
 small : (c : tie.Else1) → c .before .args .a / c .before .args .n < 2 ^ 63
 small c = omega (arith, div-le-self (c .before .args .a) (c .before .args .n))
 
-due : (c : tie.Else1) {q : ℕ} → IsNearest (c .before .args .a) (c .before .args .n) q → q ≡ nearest (c .before .args .a) (c .before .args .n)
+due :
+    (c : tie.Else1) {q : ℕ} → IsNearest (c .before .args .a) (c .before .args .n) q → q ≡ nearest (c .before .args .a) (c .before .args .n)
 due c {q} = nearest-only (c .before .args .a) (c .before .args .n) q (some c)
 
 returns : tie.Need-returns
