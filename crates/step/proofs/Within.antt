@@ -1,5 +1,5 @@
--- Times of the lines within 32 bits, from what holding the state and the columns tells: every head's boundary, and every time of the column.
--- So a bucket that a rule works has an end, or a start, within 32 bits. By induction on the lines, and by cases on the rule's tests.
+-- Times of the lines within 32 bits, from what holding the state and the columns tells: every head's boundary, and every time of the
+-- column. So a bucket that a rule works has an end, or a start, within 32 bits. By induction on the lines, and by cases on the rule's tests.
 use Prim.Native.Nat.{ℕ, zero, suc, _<_, _≤_, _^_}
 use mathlib.Core.Path.{_≡_, refl}
 use mathlib.Core.Bool.{Bool, true, false}

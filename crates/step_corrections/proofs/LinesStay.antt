@@ -1,5 +1,5 @@
--- What a rule that changes no line leaves of state, store and area, field by field: heads and store stay as they were, and one record stands
--- in front of the area. By the laws on view and put.
+-- A rule that looks at no line: heads, store and the displays' last ids stay as they were, so what it leaves of the state alone, it leaves of
+-- state and store. By the laws on view and put.
 use Prim.Native.Nat.{ℕ, _≤_}
 use mathlib.Core.Path.{_≡_, refl, sym, _∙_, ap}
 use mathlib.Core.Bool.{true}

@@ -1,5 +1,5 @@
--- A line's overdue readings, by two columns alone: the test over the shares of times and arrivals is the test over the line's kept readings,
--- which are the first rows of its share.
+-- A line's overdue readings, by two columns alone: the test over the shares of times and arrivals is the test over the line's kept
+-- readings, which are the first rows of its share.
 use Prim.Native.Nat.{ℕ, _*_, _≤_, _<_}
 use mathlib.Core.Path.{_≡_, sym, ap, ap₂, _∙_}
 use mathlib.Core.Bool.{Bool}

@@ -27,6 +27,7 @@ abbrev pub linesWithout : Settings → ℕ → List LineHead → Columns → Lis
 linesWithout s j heads x = map (without s j) (viewLines (s .lines) heads (rows x (s .lines * readingsPerLine)))
 
 -- those lines laid into heads and store
-pub record ReadingsRemoved (s : Settings) (j : ℕ) (heads : List LineHead) (x : Columns) (heads′ : List LineHead) (x′ : Columns) : Type 0 where
+pub record ReadingsRemoved (s : Settings) (j : ℕ) (heads : List LineHead) (x : Columns) (heads′ : List LineHead) (x′ : Columns)
+    : Type 0 where
   pub lineHeads : heads′ ≡ headsWith heads (linesWithout s j heads x)
   pub columns : x′ ≡ withRows x (sharesWith heads (rows x (s .lines * readingsPerLine)) (linesWithout s j heads x))

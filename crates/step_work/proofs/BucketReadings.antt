@@ -1,5 +1,5 @@
--- A bucket's kept readings added, in state and store: the places that the lines' counts lead to hold the bucket's readings, line by line, so
--- a pass over them leaves the operator with the readings in their order. By the laws on shares, places and the shape.
+-- A bucket's kept readings added, in state and store: the places that the lines' counts lead to hold the bucket's readings, line by line,
+-- so a pass over them leaves the operator with the readings in their order. By the laws on shares, places and the shape.
 use Prim.Native.Nat.{ℕ, zero, suc, _-_, _*_, _≤_, _<_}
 use mathlib.Core.Path.{_≡_, refl, sym, ap, subst}
 use mathlib.Core.List.{List, [], _∷_, map}

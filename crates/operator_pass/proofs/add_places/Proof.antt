@@ -1,5 +1,5 @@
--- `operator_pass::add_places` meets its contract. The loop's invariant: the operator and the newest times are those of the pass over the first
--- k places, so what is left of it leads to the same end; each meter has room for one value more a place.
+-- `operator_pass::add_places` meets its contract. The loop's invariant: the operator and the newest times are those of the pass over the
+-- first k places, so what is left of it leads to the same end; each meter has room for one value more a place.
 use Prim.Native.Nat.{ℕ, _+_, _-_, _<_}
 use mathlib.Core.Path.{_≡_, sym, _∙_}
 use mathlib.Core.Logic.{⊎-elim}

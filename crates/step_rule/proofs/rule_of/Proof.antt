@@ -41,7 +41,8 @@ abbrev begin : tie.After-is-stable → tie.Start
 begin t = start (t .before)
 
 stable :
-    (t : tie.After-is-stable) → let s = begin t in t .is-stable .result ≡ isStableBucket (s .args .state .settings) (seen s .c) (seen s .lines)
+    (t : tie.After-is-stable) → let s = begin t in
+    t .is-stable .result ≡ isStableBucket (s .args .state .settings) (seen s .c) (seen s .lines)
 unfolding view places
 stable t = t .is-stable .ensures (store (begin t))
 

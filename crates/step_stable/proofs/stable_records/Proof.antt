@@ -120,7 +120,8 @@ returns : tie.Need-returns
 returns c =
     let w = asked (c .before) in
     let s = begin w in
-    goes-on-done (s .args .state) (store s) (s .args .area .now) (w .work .result) (laid w) (given w) (w .work .ensures .0) (w .work .ensures .1)
+    goes-on-done (s .args .state) (store s) (s .args .area .now) (w .work .result) (laid w) (given w) (w .work .ensures .0)
+    (w .work .ensures .1)
     (goes-on c)
 
 bucket-end-requires : tie.Need-bucket-end-requires
@@ -162,7 +163,8 @@ returns-2 c =
     let w = asked (closing m .before) in
     let s = begin w in
     let at : ℕ = (w .work .result .number - s .args .state .operator .number) * recordBytes in
-    closes-done (s .args .state) (store s) (s .args .area .now) (w .work .result) (laid w) (given w) (w .work .ensures .0) (w .work .ensures .1)
+    closes-done (s .args .state) (store s) (s .args .area .now) (w .work .result) (laid w) (given w) (w .work .ensures .0)
+    (w .work .ensures .1)
     (closes (closing m)) _ (m .marker .result) (boundary m)
     (record-lent (laid w) (p .put-record .last .0) (m .marker .result) at (p .put-record .ensures))
 

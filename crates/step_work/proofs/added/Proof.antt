@@ -1,5 +1,5 @@
--- `step_work::added` meets its contract: the places found are those of the bucket's readings, each can be worked, and a pass over them leaves
--- the operator with the bucket's readings in their order.
+-- `step_work::added` meets its contract: the places found are those of the bucket's readings, each can be worked, and a pass over them
+-- leaves the operator with the bucket's readings in their order.
 use Prim.Native.Nat.{_-_, _*_, _≤_}
 use mathlib.Core.Path.{_≡_}
 use native.Mathlib.Omega.{arith}
@@ -104,8 +104,8 @@ add-places-requires c κs =
     let at = chosen (c .before) in
     let s = start at in
     let few = found-few (s .args .state) (store s) (s .pre .0) (shape s) (s .args .j) in
-    rw (read-back at)
-    (omega (arith, few), found-workable (s .args .state) (store s) (s .pre .0) (shape s) (s .args .j), operator-within (s .args .state) (store s) (s .pre .1))
+    let workable = found-workable (s .args .state) (store s) (s .pre .0) (shape s) (s .args .j) in
+    rw (read-back at) (omega (arith, few), workable, operator-within (s .args .state) (store s) (s .pre .1))
 
 returns : tie.Need-returns
 returns c =

@@ -6,6 +6,7 @@ use native.Mathlib.Numerals.{add-one}
 use native.Mathlib.Omega.{arith}
 use borrow.Author.Needs.{needs}
 use lib.ListN.{length, take, length-set}
+use Rattle.settings.specs.Limits.{maxLines}
 use Rattle.node.specs.declared.LineHead.{LineHead}
 use Rattle.operator.proofs.FromPlace.{length-mapped}
 use Rattle.step_work.proofs.Fields.{filled-more, filled-all}
@@ -14,13 +15,13 @@ use Rattle.step_work.proofs.kept_of.Tie as tie
 
 abbrev Inv-loop : tie.InvT-loop
 Inv-loop heads kept₀ i₀ kept i =
-    (i ≤ 8) ×
-    (length heads ≡ 8) ×
-    (length kept ≡ 8) ×
+    (i ≤ maxLines) ×
+    (length heads ≡ maxLines) ×
+    (length kept ≡ maxLines) ×
     (take i kept ≡ map (λ (h : LineHead). h .kept) (take i heads))
 
 abbrev μ-loop : tie.MeasureT-loop
-μ-loop heads kept₀ i₀ kept i = 8 - i
+μ-loop heads kept₀ i₀ kept i = maxLines - i
 
 loop-holds : tie.Need-loop-holds Inv-loop μ-loop
 loop-holds c = (omega arith, search (needs, length-mapped), search needs, refl)
@@ -47,8 +48,12 @@ loop-again : tie.Need-loop-again Inv-loop μ-loop
 loop-again c =
     let l = c .before .before .loop in
     let heads = c .before .before .before .args .t1 in
-    rw add-one
-    (omega arith, l .inv .1, length-set (l .kept) (l .i) _ ∙ l .inv .2, filled-more (λ (h : LineHead). h .kept) heads (l .kept) (l .i) (l .inv .3) _ (omega arith) (omega arith))
+    rw add-one (
+      omega arith,
+      l .inv .1,
+      length-set (l .kept) (l .i) _ ∙ l .inv .2,
+      filled-more (λ (h : LineHead). h .kept) heads (l .kept) (l .i) (l .inv .3) _ (omega arith) (omega arith),
+    )
 
 returns : tie.Need-returns Inv-loop μ-loop
 returns c =

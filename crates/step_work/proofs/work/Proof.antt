@@ -70,7 +70,8 @@ returns c =
     let t = closed c .before .before in
     let a = asked (t .before) in
     let s = begin a in
-    rw (window-closed (s .args .state) (store s) (s .args .j) (a .added .result) (adds a) (s .args .kind) (closes t)) (closed c .close .ensures)
+    rw (window-closed (s .args .state) (store s) (s .args .j) (a .added .result) (adds a) (s .args .kind) (closes t))
+    (closed c .close .ensures)
 
 returns-2 : tie.Need-returns-2
 returns-2 c =
