@@ -46,6 +46,7 @@ use Rattle.node.proofs.Outcomes.{onLine-small}
 use Rattle.node.proofs.Calls.{HostPassed, host-passed}
 use Rattle.node.proofs.OneLine.{line-of, head-small, heads-line, putColumns-line}
 use Rattle.step_corrections.proofs.LinesStay.{Kept, fits, acknowledged-stay}
+use Rattle.call_inputs.proofs.OneInput.{lineFrom}
 
 -- ---- step or input
 
@@ -145,10 +146,6 @@ rising-ids [] e = refl
 rising-ids (r ∷ []) e = refl
 rising-ids (r ∷ q ∷ rs) e = rw (lt-ltb (r .id) (q .id) (e .0)) (rising-ids (q ∷ rs) (e .1))
 
--- the line with this head whose share begins at this place
-abbrev pub lineFrom : LineHead → Columns → ℕ → Line
-lineFrom head x base = viewLine head (rowsFrom x base readingsPerLine)
-
 -- what the function of an input asks for
 abbrev pub InputReady : LineHead → Columns → ℕ → Call → Type 0
 InputReady head x base k =
@@ -203,18 +200,28 @@ module _
     unfolding places viewLine namedLine
     input-ready =
         let small : head .kept ≤ readingsPerLine = head-small st x fitted (k .line - 1) line-last in
-        let below : k .line - 1 < length (view st x .lines) = omega (arith, line-last, view-sized st x (fitted .heads) (fitted .displays) .lines) in
-        let line : KeptShape (namedLine (view st x) k) = every-index KeptShape (view st x .lines) (k .line - 1) noLine below (shape .lines) in
+        let below : k .line - 1 < length (view st x .lines) =
+        omega (arith, line-last, view-sized st x (fitted .heads) (fitted .displays) .lines) in
+        let line : KeptShape (namedLine (view st x) k) =
+        every-index KeptShape (view st x .lines) (k .line - 1) noLine below (shape .lines) in
         let wide : base + readingsPerLine ≤ storeLength x = omega (arith, line-last, fitted .room) in
-        let kept : namedLine (view st x) k .kept ≡ rowsFrom x base (head .kept) = ap (λ (l : Line). l .kept) same-line ∙ take-rows x base readingsPerLine (head .kept) small in
-        let ids : rises (map (λ (r : Reading). r .id) (rowsFrom x base (head .kept))) ≡ true = rw kept at (rising-ids (namedLine (view st x) k .kept) (line .rising)) in
+        let kept : namedLine (view st x) k .kept ≡ rowsFrom x base (head .kept) =
+        ap (λ (l : Line). l .kept) same-line ∙ take-rows x base readingsPerLine (head .kept) small in
+        let ids : rises (map (λ (r : Reading). r .id) (rowsFrom x base (head .kept))) ≡ true =
+        rw kept at (rising-ids (namedLine (view st x) k .kept) (line .rising)) in
         (wide, small, free, rw (ids-share x base (head .kept) (omega arith)) at ids)
 
     -- what the function of an input ensures of line and share is what the call leaves; it gives no record, so the send-back store stays
     pub input-laid :
         {after : LineHead} {y : Columns} → after ≡ headOf (onLine k (kindOf (k .kind)) (lineFrom head x base)) →
         y ≡ withKept x base (head .kept) (onLine k (kindOf (k .kind)) (lineFrom head x base) .kept) →
-        record { answer = 0; records = 0; state = atTick (withHead st (k .line - 1) after) (k .now); lent = lentOf y (lent .sent); area = area } ≡
+        record {
+          answer = 0;
+          records = 0;
+          state = atTick (withHead st (k .line - 1) after) (k .now);
+          lent = lentOf y (lent .sent);
+          area = area;
+        } ≡
         calledWith st lent area (CallRead.Accepted k)
     unfolding input putState putLent allBytes inFront view viewLine holding
     input-laid e f =

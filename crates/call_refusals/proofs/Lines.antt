@@ -21,14 +21,18 @@ use Rattle.node.proofs.Shares.{SmallHead, line-at}
 use Rattle.node.proofs.Lines.{small-at, kept-rows}
 use Rattle.call_refusals.specs.Tests.{StandsIn}
 
-module _ (x : Columns) (n : ℕ) (hs : List LineHead) (i : ℕ) (small : Every SmallHead (take n hs)) (below : i < n) (many : n ≤ length hs) (room : n * readingsPerLine ≤ storeLength x) where
-  line-stands : StandsIn (getD hs i (headOf noLine)) (x .kinds) (i * readingsPerLine) (getD (viewLines n hs (rows x (n * readingsPerLine))) i noLine)
+module _
+    (x : Columns) (n : ℕ) (hs : List LineHead) (i : ℕ) (small : Every SmallHead (take n hs)) (below : i < n) (many : n ≤ length hs)
+    (room : n * readingsPerLine ≤ storeLength x) where
+  line-stands :
+      StandsIn (getD hs i (headOf noLine)) (x .kinds) (i * readingsPerLine) (getD (viewLines n hs (rows x (n * readingsPerLine))) i noLine)
   unfolding viewLine keepsTentative
   line-stands =
       let head : LineHead = getD hs i (headOf noLine) in
       let base : ℕ = i * readingsPerLine in
       let at : _ = line-at n hs (rows x (n * readingsPerLine)) i below many in
-      let kept : getD (viewLines n hs (rows x (n * readingsPerLine))) i noLine .kept ≡ rowsFrom x base (head .kept) = kept-rows x n hs i small below many in
+      let kept : getD (viewLines n hs (rows x (n * readingsPerLine))) i noLine .kept ≡ rowsFrom x base (head .kept) =
+      kept-rows x n hs i small below many in
       let fits : base + head .kept ≤ storeLength x = omega (arith, small-at n hs i small below many) in
       record {
         boundary = ap (λ (l : Line). l .boundary) at;
@@ -39,10 +43,13 @@ module _ (x : Columns) (n : ℕ) (hs : List LineHead) (i : ℕ) (small : Every S
       }
 
   -- of a state with these lines and heads, and a store with these kinds
-  pub viewed-line-stands : (st : State) {kinds : List ℕ} → st .settings .lines ≡ n → st .heads ≡ hs → x .kinds ≡ kinds → StandsIn (getD hs i (headOf noLine)) kinds (i * readingsPerLine) (getD (view st x .lines) i noLine)
+  pub viewed-line-stands :
+      (st : State) {kinds : List ℕ} → st .settings .lines ≡ n → st .heads ≡ hs → x .kinds ≡ kinds →
+      StandsIn (getD hs i (headOf noLine)) kinds (i * readingsPerLine) (getD (view st x .lines) i noLine)
   unfolding view places
   viewed-line-stands st e f g =
       let base : ℕ = i * readingsPerLine in
-      let lines : view st x .lines ≡ viewLines n hs (rows x (n * readingsPerLine)) = ap₂ (λ (m : ℕ) (heads : List LineHead). viewLines m heads (rows x (m * readingsPerLine))) e f in
+      let lines : view st x .lines ≡ viewLines n hs (rows x (n * readingsPerLine)) =
+      ap₂ (λ (m : ℕ) (heads : List LineHead). viewLines m heads (rows x (m * readingsPerLine))) e f in
       subst (λ (kinds : List ℕ). StandsIn (getD hs i (headOf noLine)) kinds base (getD (view st x .lines) i noLine)) g
       (subst (λ (ls : List Line). StandsIn (getD hs i (headOf noLine)) (x .kinds) base (getD ls i noLine)) (sym lines) line-stands)

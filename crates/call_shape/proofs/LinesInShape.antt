@@ -40,7 +40,9 @@ allOf-and p q (x ∷ xs) =
     ap (λ (b : Bool). (p x && q x) && b) (allOf-and p q xs) ∙ and-exchange (p x) (q x) (allOf p xs) (allOf q xs)
 
 -- the tests of a share's columns are those of its rows
-rows-ok : (x : Columns) (base n : ℕ) → base + n ≤ storeLength x → shareOk base n (x .ids) (x .kinds) (x .meters) ≡ allOf readingOk (rowsFrom x base n) && idsRise (rowsFrom x base n)
+rows-ok :
+    (x : Columns) (base n : ℕ) → base + n ≤ storeLength x →
+    shareOk base n (x .ids) (x .kinds) (x .meters) ≡ allOf readingOk (rowsFrom x base n) && idsRise (rowsFrom x base n)
 unfolding shareOk readingOk idsRise
 rows-ok x base n h =
     ap₂ _&&_
@@ -77,7 +79,9 @@ no-heads-left n hs i many h =
     let e : length (take n hs) ≡ n = length-take-le n hs many in
     drop-of-length-le (take n hs) {i = i} (omega arith)
 
-module _ (n : ℕ) (hs : List LineHead) (ids kinds meters : List ℕ) (many : n ≤ length hs) (i : ℕ) (v : LinesSoFar n hs ids kinds meters i) (x : Columns) (lent : Lends x n ids kinds meters) where
+module _
+    (n : ℕ) (hs : List LineHead) (ids kinds meters : List ℕ) (many : n ≤ length hs) (i : ℕ) (v : LinesSoFar n hs ids kinds meters i)
+    (x : Columns) (lent : Lends x n ids kinds meters) where
   pub lines-end : n ≤ i → true ≡ linesOk n hs x 0
   unfolding allOf
   lines-end h =
@@ -91,17 +95,23 @@ module _ (n : ℕ) (hs : List LineHead) (ids kinds meters : List ℕ) (many : n 
     pub lines-wrong-head : headOk (headAt hs i) ≡ false → false ≡ linesOk n hs x 0
     lines-wrong-head e = rw (head-left, e) at (v x lent)
 
-    module _ (right : headOk (headAt hs i) ≡ true) (ok : Bool) (told : ok ≡ shareOk (i * readingsPerLine) (headAt hs i .kept) ids kinds meters) where
+    module _
+        (right : headOk (headAt hs i) ≡ true) (ok : Bool)
+        (told : ok ≡ shareOk (i * readingsPerLine) (headAt hs i .kept) ids kinds meters) where
       line-ok : keptOk (lineAt hs (rows x (n * readingsPerLine)) i) ≡ ok
       unfolding keptOk
       line-ok =
           let small : headAt hs i .kept ≤ readingsPerLine = small-head (headAt hs i) right in
-          let lentShare : shareOk (i * readingsPerLine) (headAt hs i .kept) (x .ids) (x .kinds) (x .meters) ≡ shareOk (i * readingsPerLine) (headAt hs i .kept) ids kinds meters = cc in
+          let lentShare :
+          shareOk (i * readingsPerLine) (headAt hs i .kept) (x .ids) (x .kinds) (x .meters) ≡
+          shareOk (i * readingsPerLine) (headAt hs i .kept) ids kinds meters = cc in
           ap (λ (rs : List Reading). allOf readingOk rs && idsRise rs)
           (line-rows x (n * readingsPerLine) i (headAt hs i) small (omega arith)) ∙
           sym (rows-ok x (i * readingsPerLine) (headAt hs i .kept) (omega (arith, lent .room))) ∙ lentShare ∙ sym told
 
-      line-left : allOf keptOk (drop i (viewLines n hs (rows x (n * readingsPerLine)))) ≡ ok && allOf keptOk (drop (i + 1) (viewLines n hs (rows x (n * readingsPerLine))))
+      line-left :
+          allOf keptOk (drop i (viewLines n hs (rows x (n * readingsPerLine)))) ≡
+          ok && allOf keptOk (drop (i + 1) (viewLines n hs (rows x (n * readingsPerLine))))
       unfolding allOf
       line-left = rw (lines-left n hs (rows x (n * readingsPerLine)) i many below, line-ok)
 

@@ -27,6 +27,12 @@ min-below a b n =
 abbrev lacks : ℕ → ℕ → Bool
 lacks lines places = ltb places (lines * readingsPerLine)
 
-pub some-column-short : (lines : ℕ) (x : Columns) → sharesShort lines x ≡ lacks lines (length (x .ids)) || (lacks lines (length (x .times)) || (lacks lines (length (x .values)) || (lacks lines (length (x .arrivals)) || (lacks lines (length (x .kinds)) || lacks lines (length (x .meters))))))
+pub some-column-short :
+    (lines : ℕ) (x : Columns) →
+    sharesShort lines x ≡
+    lacks lines (length (x .ids)) ||
+    (lacks lines (length (x .times)) ||
+    (lacks lines (length (x .values)) ||
+    (lacks lines (length (x .arrivals)) || (lacks lines (length (x .kinds)) || lacks lines (length (x .meters))))))
 unfolding sharesShort storeLength
 some-column-short lines x = simp min-below

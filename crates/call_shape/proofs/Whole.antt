@@ -16,7 +16,11 @@ module _ (st : State) (x : Columns) where
   unfolding stateInShape
   wrong-settings e = rw e
 
-  pub parts-in-shape : withinLimits (st .settings) ≡ true → (lines buckets numbers operator checkpoint : Bool) → lines ≡ allOf headOk (take (st .settings .lines) (st .heads)) && allOf keptOk (view st x .lines) → buckets ≡ bucketsOk st → numbers ≡ numbersOk st → operator ≡ allOf meterOk (st .operator .meters) → checkpoint ≡ allOf meterOk (st .checkpoint .meters) → lines && (buckets && (numbers && (operator && checkpoint))) ≡ stateInShape st x
+  pub parts-in-shape :
+      withinLimits (st .settings) ≡ true → (lines buckets numbers operator checkpoint : Bool) →
+      lines ≡ allOf headOk (take (st .settings .lines) (st .heads)) && allOf keptOk (view st x .lines) → buckets ≡ bucketsOk st →
+      numbers ≡ numbersOk st → operator ≡ allOf meterOk (st .operator .meters) → checkpoint ≡ allOf meterOk (st .checkpoint .meters) →
+      lines && (buckets && (numbers && (operator && checkpoint))) ≡ stateInShape st x
   unfolding stateInShape
   parts-in-shape e lines buckets numbers operator checkpoint l b n o k = rw (e, l, b, n, o, k, and-assoc)
 

@@ -41,7 +41,9 @@ shape-fits st x h d room e =
     }
 
 -- an outcome fits as what it was got from
-pub outcome-sized : (st : State) (x : Lent) (k : Call) → Fits st (x .readings) → Sized (st .settings) (outcomeOf (st .settings) (view st (x .readings)) k .node)
+pub outcome-sized :
+    (st : State) (x : Lent) (k : Call) → Fits st (x .readings) →
+    Sized (st .settings) (outcomeOf (st .settings) (view st (x .readings)) k .node)
 outcome-sized st x k f =
     let v : Sized (st .settings) (view st (x .readings)) = view-sized st (x .readings) (f .heads) (f .displays) in
     record {
@@ -60,23 +62,30 @@ module _ (st : State) (x : Lent) (text area : List ℕ) (v : AcceptedOn st x tex
   pub accepted-lent : calledOn st x text area .lent ≡ putLent st x (outcomeOf (st .settings) (view st (x .readings)) (v .call))
   accepted-lent = ap (λ (r : Called). r .lent) (v .leaves)
 
-  pub accepted-columns : calledOn st x text area .lent .readings ≡ putColumns st (x .readings) (outcomeOf (st .settings) (view st (x .readings)) (v .call) .node)
+  pub accepted-columns :
+      calledOn st x text area .lent .readings ≡
+      putColumns st (x .readings) (outcomeOf (st .settings) (view st (x .readings)) (v .call) .node)
   unfolding putLent
   accepted-columns = ap (λ (y : Lent). y .readings) accepted-lent
 
-  pub accepted-sent : calledOn st x text area .lent .sent ≡ withPlaces (x .sent) (holding (placesOf (x .sent)) (outcomeOf (st .settings) (view st (x .readings)) (v .call) .records))
+  pub accepted-sent :
+      calledOn st x text area .lent .sent ≡
+      withPlaces (x .sent) (holding (placesOf (x .sent)) (outcomeOf (st .settings) (view st (x .readings)) (v .call) .records))
   unfolding putLent
   accepted-sent = ap (λ (y : Lent). y .sent) accepted-lent
 
   pub accepted-records : calledOn st x text area .records ≡ length (outcomeOf (st .settings) (view st (x .readings)) (v .call) .records)
   accepted-records = ap (λ (r : Called). r .records) (v .leaves)
 
-  pub accepted-area : calledOn st x text area .area ≡ inFront (allBytes (outcomeOf (st .settings) (view st (x .readings)) (v .call) .records)) area
+  pub accepted-area :
+      calledOn st x text area .area ≡ inFront (allBytes (outcomeOf (st .settings) (view st (x .readings)) (v .call) .records)) area
   accepted-area = ap (λ (r : Called). r .area) (v .leaves)
 
   module _ (f : Fits st (x .readings)) where
     -- what state and store stand for afterwards is the outcome's node
-    pub accepted-view : view (calledOn st x text area .state) (calledOn st x text area .lent .readings) ≡ outcomeOf (st .settings) (view st (x .readings)) (v .call) .node
+    pub accepted-view :
+        view (calledOn st x text area .state) (calledOn st x text area .lent .readings) ≡
+        outcomeOf (st .settings) (view st (x .readings)) (v .call) .node
     accepted-view =
         ap₂ view accepted-state accepted-columns ∙ view-put st (x .readings) f after (outcome-sized st x (v .call) f)
 

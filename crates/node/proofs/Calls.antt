@@ -147,7 +147,9 @@ module _ (st : State) (x : Lent) (text area : List ℕ) where
       refl e
 
   -- what holds after a refused call and after an accepted one holds after any
-  pub either-way : (P : Called → Type 0) → (Untouched st x area (calledOn st x text area) → P (calledOn st x text area)) → (AcceptedOn st x text area → P (calledOn st x text area)) → P (calledOn st x text area)
+  pub either-way :
+      (P : Called → Type 0) → (Untouched st x area (calledOn st x text area) → P (calledOn st x text area)) →
+      (AcceptedOn st x text area → P (calledOn st x text area)) → P (calledOn st x text area)
   either-way P refused accepted =
       (elim (eqb (calledOn st x text area .answer) 0) as
       (λ b. eqb (calledOn st x text area .answer) 0 ≡ b → P (calledOn st x text area)) [

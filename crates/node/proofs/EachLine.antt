@@ -21,7 +21,9 @@ abbrev pub lineAt : List LineHead → List Reading → ℕ → Line
 lineAt hs rs i = viewLine (getD hs i (headOf noLine)) (take readingsPerLine (drop (i * readingsPerLine) rs))
 
 -- the lines from line i on
-pub lines-left : (n : ℕ) (hs : List LineHead) (rs : List Reading) (i : ℕ) → n ≤ length hs → i < n → drop i (viewLines n hs rs) ≡ lineAt hs rs i ∷ drop (i + 1) (viewLines n hs rs)
+pub lines-left :
+    (n : ℕ) (hs : List LineHead) (rs : List Reading) (i : ℕ) → n ≤ length hs → i < n →
+    drop i (viewLines n hs rs) ≡ lineAt hs rs i ∷ drop (i + 1) (viewLines n hs rs)
 lines-left n hs rs i room h =
     let e : length (viewLines n hs rs) ≡ n = length-viewLines n hs rs room in
     rw (add-one, drop-cons (viewLines n hs rs) i noLine (omega arith), line-at n hs rs i h room)

@@ -1,5 +1,5 @@
--- No call gives more records than 65, whatever the state: an operator has 64 meters, and a bucket's work gives a result for each at most and
--- a boundary. By the rule of the step.
+-- No call gives more records than 65, whatever the state: an operator has 64 meters, and a bucket's work gives a result for each at most
+-- and a boundary. By the rule of the step.
 use mathlib.Core.Path.{_≡_}
 use mathlib.Core.Bool.{true, false, cond}
 use mathlib.Core.List.{List, [], _∷_}

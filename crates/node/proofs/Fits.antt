@@ -119,7 +119,9 @@ line-fits k f Kind.P l h = h
 
 -- ---- a step
 
-work-fits : (s : Settings) (kind j : ℕ) (rs : List Placed) (o : Operator) → Every ValueFits rs → OperatorFits o → OperatorFits (work s kind j rs o .operator)
+work-fits :
+    (s : Settings) (kind j : ℕ) (rs : List Placed) (o : Operator) → Every ValueFits rs → OperatorFits o →
+    OperatorFits (work s kind j rs o .operator)
 unfolding work close clear
 work-fits s kind j rs o f h =
     elim (closesWindow (s .window) j) as

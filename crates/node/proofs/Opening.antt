@@ -146,13 +146,17 @@ zeroedLent s x =
 -- ---- the opening
 
 -- both stores are long enough
-pub not-short : (lines : ℕ) (x : Lent) → isShort lines x ≡ false → (lines * readingsPerLine ≤ storeLength (x .readings)) × (heldBytes ≤ length (x .sent))
+pub not-short :
+    (lines : ℕ) (x : Lent) → isShort lines x ≡ false →
+    (lines * readingsPerLine ≤ storeLength (x .readings)) × (heldBytes ≤ length (x .sent))
 unfolding isShort sharesShort
 not-short lines x e =
     let both = neither (ltb (storeLength (x .readings)) (lines * readingsPerLine)) (ltb (length (x .sent)) heldBytes) e in
     (ltb-false _ _ (both .0), ltb-false _ _ (both .1))
 
-pub long-enough : (lines : ℕ) (x : Lent) → lines * readingsPerLine ≤ storeLength (x .readings) → heldBytes ≤ length (x .sent) → isShort lines x ≡ false
+pub long-enough :
+    (lines : ℕ) (x : Lent) → lines * readingsPerLine ≤ storeLength (x .readings) → heldBytes ≤ length (x .sent) →
+    isShort lines x ≡ false
 unfolding isShort sharesShort
 long-enough lines x h g = rw (le-ltb (storeLength (x .readings)) (lines * readingsPerLine) h, le-ltb (length (x .sent)) heldBytes g)
 
@@ -171,7 +175,9 @@ openedIf st x s short =
     cond short (record { answer = 3; state = st; lent = x })
     (record { answer = 0; state = freshState s; lent = zeroedLent s x })
 
-opened-read : (st : State) (x : Lent) (text : List ℕ) (r : SettingsRead) → settingsOf text ≡ r → openedWith st x r .answer ≡ 0 → OpenedOn st x text
+opened-read :
+    (st : State) (x : Lent) (text : List ℕ) (r : SettingsRead) → settingsOf text ≡ r → openedWith st x r .answer ≡ 0 →
+    OpenedOn st x text
 unfolding openedOn openedWith isShort settingsAnswer
 opened-read st x text (SettingsRead.Accepted s) q e =
     (elim (isShort (s .lines) x) as
@@ -198,7 +204,9 @@ pub opened-on : (st : State) (x : Lent) (text : List ℕ) → openedOn st x text
 unfolding openedOn
 opened-on st x text e = opened-read st x text (settingsOf text) refl e
 
-refused-read : (st : State) (x : Lent) (r : SettingsRead) → (openedWith st x r .answer ≡ 0 → ⊥) → (openedWith st x r .state ≡ st) × (openedWith st x r .lent ≡ x)
+refused-read :
+    (st : State) (x : Lent) (r : SettingsRead) → (openedWith st x r .answer ≡ 0 → ⊥) →
+    (openedWith st x r .state ≡ st) × (openedWith st x r .lent ≡ x)
 unfolding openedWith
 refused-read st x (SettingsRead.Accepted s) e =
     (elim (isShort (s .lines) x) as
@@ -211,7 +219,9 @@ refused-read st x SettingsRead.Malformed e = (refl, refl)
 refused-read st x SettingsRead.OutsideLimits e = (refl, refl)
 
 -- a refused opening changes nothing (document 01, section 'Refusal by whom'): a claim of its own, which no proof needs
-pub refused-opening : (st : State) (x : Lent) (text : List ℕ) → (openedOn st x text .answer ≡ 0 → ⊥) → (openedOn st x text .state ≡ st) × (openedOn st x text .lent ≡ x)
+pub refused-opening :
+    (st : State) (x : Lent) (text : List ℕ) → (openedOn st x text .answer ≡ 0 → ⊥) →
+    (openedOn st x text .state ≡ st) × (openedOn st x text .lent ≡ x)
 unfolding openedOn
 refused-opening st x text e = refused-read st x (settingsOf text) e
 

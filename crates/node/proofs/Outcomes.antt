@@ -43,7 +43,9 @@ input-lines : (n : Node) (k : Call) (kind : Kind) → length (input n k kind .no
 unfolding input
 input-lines n k kind = length-modify (onLine k kind) (k .line - 1) (n .lines)
 
-input-small : (n : Node) (k : Call) (kind : Kind) → isFull (namedLine n k) kind ≡ false → Every SmallLine (n .lines) → Every SmallLine (input n k kind .node .lines)
+input-small :
+    (n : Node) (k : Call) (kind : Kind) → isFull (namedLine n k) kind ≡ false → Every SmallLine (n .lines) →
+    Every SmallLine (input n k kind .node .lines)
 unfolding input namedLine
 input-small n k kind e h =
     every-modify SmallLine (onLine k kind) noLine (k .line - 1) (n .lines) (onLine-small k kind (namedLine n k) e) h
@@ -81,7 +83,9 @@ done-lines s n k Kind.U = input-lines n k Kind.U
 done-lines s n k Kind.R = input-lines n k Kind.R
 done-lines s n k Kind.P = act-lines s n (ruleOf s n (k .now))
 
-done-small : (s : Settings) (n : Node) (k : Call) (kind : Kind) → isFull (namedLine n k) kind ≡ false → Every SmallLine (n .lines) → Every SmallLine (done s n k kind .node .lines)
+done-small :
+    (s : Settings) (n : Node) (k : Call) (kind : Kind) → isFull (namedLine n k) kind ≡ false → Every SmallLine (n .lines) →
+    Every SmallLine (done s n k kind .node .lines)
 unfolding done isStep uses
 done-small s n k Kind.S e h = input-small n k Kind.S e h
 done-small s n k Kind.T e h = input-small n k Kind.T e h

@@ -1,5 +1,5 @@
--- The records of a call on a node in shape: no more than an area has room for, each within a record's widths, so that its bytes are read back as the record.
--- By the rule that the step does.
+-- The records of a call on a node in shape: no more than an area has room for, each within a record's widths, so that its bytes are read
+-- back as the record. By the rule that the step does.
 use Prim.Native.Nat.{ℕ, _*_, _≤_, _<_, _^_}
 use mathlib.Core.Path.{_≡_, refl}
 use mathlib.Core.Bool.{true, false, cond}
@@ -95,7 +95,8 @@ module _ (s : Settings) (n : Node) (fits : NodeFits n) (shape : ShapeFacts s n) 
   unfolding worked
   length-worked kind j = length-work s kind j (inBucket (s .bucket) j (keptOf (n .lines))) (n .operator) (fits .operator .meters)
 
-  worked-readable : (kind j : ℕ) → kind < 2 ^ 8 → isRecord kind ≡ true → j * s .bucket < 2 ^ 32 → Every Readable (worked s kind j n .records)
+  worked-readable :
+      (kind j : ℕ) → kind < 2 ^ 8 → isRecord kind ≡ true → j * s .bucket < 2 ^ 32 → Every Readable (worked s kind j n .records)
   unfolding worked
   worked-readable kind j byte isKnown start =
       work-readable s kind j (inBucket (s .bucket) j (keptOf (n .lines))) (n .operator) (fits .operator) byte isKnown
@@ -117,7 +118,8 @@ module _ (s : Settings) (n : Node) (fits : NodeFits n) (shape : ShapeFacts s n) 
   stable-given : isStableBucket s (n .c) (n .lines) ≡ true → Given (act s n Rule.WorkStable .records)
   unfolding act
   stable-given e =
-      let end = stable-end-fits s (n .c) (n .lines) (omega (arith, shape .count, limits-hold s (shape .limits) .someLines)) (fits .lines) e in
+      let end =
+      stable-end-fits s (n .c) (n .lines) (omega (arith, shape .count, limits-hold s (shape .limits) .someLines)) (fits .lines) e in
       let boundary = boundary-given s (n .c) end in (
         rw (length-append (worked s letterS (n .c) n .records) (boundaryAt s (n .c))) (omega (arith, length-worked letterS (n .c), boundary .0)),
         every-append Readable (worked s letterS (n .c) n .records) (boundaryAt s (n .c))

@@ -56,7 +56,9 @@ module _ (kind : ℕ) (byte : kind < 2 ^ 8) (known : isRecord kind ≡ true) whe
     known,
   )
 
-  result-readable : (most : ℕ) → most < 2 ^ 32 → (start : ReadingTime) → start .0 < 2 ^ 32 → (i number : ℕ) → i < 2 ^ 8 → number < 2 ^ 32 → (m : Meter) → GoodMeter most m → Readable (result kind start i number m)
+  result-readable :
+      (most : ℕ) → most < 2 ^ 32 → (start : ReadingTime) → start .0 < 2 ^ 32 → (i number : ℕ) → i < 2 ^ 8 → number < 2 ^ 32 →
+      (m : Meter) → GoodMeter most m → Readable (result kind start i number m)
   unfolding result
   result-readable most few start f i number h g m v = (
     record {
@@ -72,7 +74,9 @@ module _ (kind : ℕ) (byte : kind < 2 ^ 8) (known : isRecord kind ≡ true) whe
     known,
   )
 
-  results-readable : (most : ℕ) → most < 2 ^ 32 → (start : ReadingTime) → start .0 < 2 ^ 32 → (i number : ℕ) (ms : List Meter) → i + length ms ≤ 2 ^ 8 → number + length ms < 2 ^ 32 → Every (GoodMeter most) ms → Every Readable (results kind start i number ms)
+  results-readable :
+      (most : ℕ) → most < 2 ^ 32 → (start : ReadingTime) → start .0 < 2 ^ 32 → (i number : ℕ) (ms : List Meter) →
+      i + length ms ≤ 2 ^ 8 → number + length ms < 2 ^ 32 → Every (GoodMeter most) ms → Every Readable (results kind start i number ms)
   unfolding results
   results-readable most few start f i number [] h g v = tt
   results-readable most few start f i number (m ∷ ms) h g v =
@@ -91,7 +95,9 @@ module _ (kind : ℕ) (byte : kind < 2 ^ 8) (known : isRecord kind ≡ true) whe
 
 -- ---- a bucket's work
 
-pub length-work : (s : Settings) (kind j : ℕ) (rs : List Placed) (o : Operator) → length (o .meters) ≡ meterCount → length (work s kind j rs o .records) ≤ meterCount
+pub length-work :
+    (s : Settings) (kind j : ℕ) (rs : List Placed) (o : Operator) → length (o .meters) ≡ meterCount →
+    length (work s kind j rs o .records) ≤ meterCount
 unfolding work close windowResults
 length-work s kind j rs o full =
     elim (closesWindow (s .window) j) as
@@ -106,7 +112,10 @@ length-work s kind j rs o full =
     ]
 
 module _ (s : Settings) (kind j : ℕ) (rs : List Placed) (o : Operator) (fits : OperatorFits o) where
-  pub work-readable : kind < 2 ^ 8 → isRecord kind ≡ true → windowStart (s .bucket) (s .window) j < 2 ^ 32 → (most : ℕ) → Every (Counted most) (o .meters) → most + length rs < 2 ^ 32 → Every ValueFits rs → o .number + meterCount < 2 ^ 32 → Every Readable (work s kind j rs o .records)
+  pub work-readable :
+      kind < 2 ^ 8 → isRecord kind ≡ true → windowStart (s .bucket) (s .window) j < 2 ^ 32 → (most : ℕ) →
+      Every (Counted most) (o .meters) → most + length rs < 2 ^ 32 → Every ValueFits rs → o .number + meterCount < 2 ^ 32 →
+      Every Readable (work s kind j rs o .records)
   unfolding work close windowResults
   work-readable byte known start most counted few values number =
       elim (closesWindow (s .window) j) as

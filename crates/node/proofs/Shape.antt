@@ -27,7 +27,8 @@ use Rattle.store_columns.specs.Shape.{rises, isReadingKind}
 use Rattle.retransmission.specs.Sizes.{heldResults}
 use Rattle.store.specs.Columns.{Columns}
 use Rattle.node.specs.View.{Lent, view}
-use Rattle.node.specs.Shape.{readingOk, idsRise, headOk, keptOk, phaseOk, bucketsOk, numbersOk, displayOk, displaysOk, sentOk, stateInShape, inShape}
+use Rattle.node.specs.Shape.{readingOk, idsRise, headOk, keptOk, phaseOk, bucketsOk, numbersOk}
+use Rattle.node.specs.Shape.{displayOk, displaysOk, sentOk, stateInShape, inShape}
 use Rattle.node.specs.declared.LineHead.{LineHead}
 use Rattle.node.specs.declared.State.{State}
 

@@ -54,7 +54,9 @@ unfolding putState
 length-heads-put st n = length-headsWith (st .heads) (n .lines)
 
 -- what state and store stand for has the state's lines, each within its share
-pub view-sized : (st : State) (x : Columns) → st .settings .lines ≤ length (st .heads) → st .settings .displays ≤ length (st .acknowledged) → Sized (st .settings) (view st x)
+pub view-sized :
+    (st : State) (x : Columns) → st .settings .lines ≤ length (st .heads) → st .settings .displays ≤ length (st .acknowledged) →
+    Sized (st .settings) (view st x)
 unfolding view
 view-sized st x h d =
     record {

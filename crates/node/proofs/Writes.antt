@@ -26,7 +26,8 @@ by-kept (h ∷ hs) rs (l ∷ ls) =
     ap (_++_ (shareWith (take readingsPerLine rs) (h .kept) (l .kept))) (by-kept hs (drop readingsPerLine rs) ls)
 
 -- where every line keeps what it kept, the store stays as it was
-pub putColumns-same : (st : State) (x : Columns) → Fits st x → (n : Node) → keptOf (n .lines) ≡ keptOf (view st x .lines) → putColumns st x n ≡ x
+pub putColumns-same :
+    (st : State) (x : Columns) → Fits st x → (n : Node) → keptOf (n .lines) ≡ keptOf (view st x .lines) → putColumns st x n ≡ x
 unfolding putColumns
 putColumns-same st x f n e =
     ap (withRows x)

@@ -1,4 +1,4 @@
--- `call::call` meets its contract: a call that is decided refused changes nothing, and what an accepted one leaves is what `accept` ensures.
+-- `call::call` meets its contract: a call that is refused changes nothing, and what an accepted one leaves is what `accept` ensures.
 use mathlib.Core.Path.{_≡_, refl, sym, ap, subst, _∙_}
 use native.Mathlib.Omega.{arith}
 use borrow.Author.Needs.{needs}

@@ -37,8 +37,8 @@ displays s = let owned = s .good .0 .1 .1 .1 .1 .1 .1 .1 .1 in search (needs, le
 abbrev stepping : tie.After-step-and-hold → tie.Then1
 stepping d = d .before .before .before .before .before .before .before .before .before
 
-abbrev stepped : tie.After-next → tie.After-step-and-hold
-stepped c = c .before .before .before .before .before .before .before .before .before .before .before .before .before .before .before .before
+abbrev acted : tie.After-next → tie.After-step-and-hold
+acted c = c .before .before .before .before .before .before .before .before .before .before .before .before .before .before .before .before
 
 -- the line that is named has a head
 below : (e : tie.Else1) → entry (e .before) .args .k .line - 1 < maxLines
@@ -67,32 +67,32 @@ step-and-hold-requires : tie.Need-step-and-hold-requires
 step-and-hold-requires c κs = search needs
 
 same-length : tie.Need-same-length
-same-length c = stepped c .step-and-hold .kept .1 .0
+same-length c = acted c .step-and-hold .kept .1 .0
 
 same-length-2 : tie.Need-same-length-2
-same-length-2 c = stepped c .step-and-hold .kept .1 .1 .0
+same-length-2 c = acted c .step-and-hold .kept .1 .1 .0
 
 same-length-3 : tie.Need-same-length-3
-same-length-3 c = stepped c .step-and-hold .kept .1 .1 .1 .0
+same-length-3 c = acted c .step-and-hold .kept .1 .1 .1 .0
 
 same-length-4 : tie.Need-same-length-4
-same-length-4 c = stepped c .step-and-hold .kept .1 .1 .1 .1 .0
+same-length-4 c = acted c .step-and-hold .kept .1 .1 .1 .1 .0
 
 same-length-5 : tie.Need-same-length-5
-same-length-5 c = stepped c .step-and-hold .kept .1 .1 .1 .1 .1 .0
+same-length-5 c = acted c .step-and-hold .kept .1 .1 .1 .1 .1 .0
 
 same-length-6 : tie.Need-same-length-6
-same-length-6 c = stepped c .step-and-hold .kept .1 .1 .1 .1 .1 .1 .0
+same-length-6 c = acted c .step-and-hold .kept .1 .1 .1 .1 .1 .1 .0
 
 same-length-7 : tie.Need-same-length-7
-same-length-7 c = stepped c .step-and-hold .kept .1 .1 .1 .1 .1 .1 .1 .0
+same-length-7 c = acted c .step-and-hold .kept .1 .1 .1 .1 .1 .1 .1 .0
 
 same-length-8 : tie.Need-same-length-8
-same-length-8 c = stepped c .step-and-hold .kept .1 .1 .1 .1 .1 .1 .1 .1 .1 .0
+same-length-8 c = acted c .step-and-hold .kept .1 .1 .1 .1 .1 .1 .1 .1 .1 .0
 
 returns : tie.Need-returns
 returns c =
-    let done = stepped c in
+    let done = acted c in
     let t = stepping done in
     let s = entry (t .before) in
     step-laid (s .args .state) (lent s) (s .args .area .now) (s .args .k) (s .pre .1) (t .if1 .taken) (done .step-and-hold .ensures)

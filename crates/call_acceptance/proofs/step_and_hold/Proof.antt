@@ -51,11 +51,11 @@ moved d =
     number-moves (s .args .state) (store s) (shape s) (s .args .tick) (d .step .result .state) (d .step .ensures .state)
 
 -- its results, once they are counted, and once they are held
-abbrev counted : tie.After-struct-known2 → tie.After-step
-counted c = c .before .before .before .before .before .before .before .before .before .before .before .before .before .before .before .before
+abbrev found : tie.After-struct-known2 → tie.After-step
+found c = c .before .before .before .before .before .before .before .before .before .before .before .before .before .before .before .before
 
 abbrev holding : tie.After-hold-arg2 → tie.After-step
-holding a = counted (a .before .before)
+holding a = found (a .before .before)
 
 abbrev holds : tie.After-slice-known14 → tie.After-hold
 holds c = c .before .before
@@ -71,7 +71,7 @@ step-requires c κs =
     (host s .room, state-in-shape (s .args .state) (lentOf (store s) (s .args .sent .now)) (host s .shape), host s .bytes)
 
 sub-results : tie.Need-sub-results
-sub-results c = omega (arith, moved (counted c))
+sub-results c = omega (arith, moved (found c))
 
 hold-requires : tie.Need-hold-requires
 hold-requires c κs =

@@ -1,5 +1,5 @@
--- `call_refusals::refusal` meets its contract: the first half of the tests decides where one of them fails; else a step passes, and for every
--- other kind the second half decides, on the line that the call names.
+-- `call_refusals::refusal` meets its contract: the first half of the tests decides where one of them fails; else a step passes, and for
+-- every other kind the second half decides, on the line that the call names.
 use Prim.Native.Nat.{_-_, _<_, _≤_}
 use mathlib.Core.Path.{_≡_, sym, _∙_, ap}
 use mathlib.Core.Bool.{true}

@@ -11,7 +11,8 @@ use Rattle.operator.proofs.FromPlace.{length-mapped}
 use Rattle.protocol.specs.Node.{noLine}
 use Rattle.node.specs.View.{headOf}
 use Rattle.node.specs.Shape.{headOk}
-use Rattle.call_shape.proofs.LinesInShape.{headAt, LinesSoFar, small-head, lines-wrong-head, lines-wrong-share, lines-turn, lines-end}
+use Rattle.call_shape.proofs.LinesInShape.{headAt, LinesSoFar, small-head}
+use Rattle.call_shape.proofs.LinesInShape.{lines-wrong-head, lines-wrong-share, lines-turn, lines-end}
 use Rattle.call_shape.proofs.are_lines_ok.Statement.{statement}
 use Rattle.call_shape.proofs.are_lines_ok.Tie as tie
 
