@@ -1,5 +1,6 @@
 // Runs the same steps on the store as a slice of readings and on the store in six columns, and prints after each the ids in the slots and
-// whether both hold the same readings, place by place. The last step but one changes the columns alone, to see that a difference is noticed.
+// whether both hold the same readings, place by place. The last step but one changes the columns alone, to see that a difference is
+// noticed.
 //
 // The expected output was worked out by hand from the definitions of the crate store_slots (specs/Slots.antt); it was not recorded from
 // this program.
