@@ -116,7 +116,6 @@ pub finished :
 unfolding boxOf opening handedWith
 finished {buf = buf} {out = out} {r = r} {held = held} {answered = answered} {y = y} {z = z} {area = area} {bytes = bytes} {rest = rest}
     {written = written} b p =
-    let text : List ℕ = textAt (b .held) (b .first) in
     let f = turns-reached (p .turns) in
     record {
       buf = buf;
@@ -132,7 +131,6 @@ finished {buf = buf} {out = out} {r = r} {held = held} {answered = answered} {y 
       rest = rest;
       written = written;
       plays = p;
-      settings = text;
       calls =
           record {
             inputs = f .inputs;

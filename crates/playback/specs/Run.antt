@@ -76,8 +76,9 @@ pub record Reached (b after : Box) : Type 0 where
   pub inputs : List Input
   pub left : after ≡ leftAfter b inputs
 
--- a playback from nothing that leaves this state: how it begins, its turns to the end, and the calls that these are from the opening on
+-- a playback that leaves this state: how it begins, its turns to the end, and that these are calls of demand 3 from the opening on
 pub record Finished (mixed acknowledging : Bool) (st : State) : Type 0 where
+  -- the settings, on stores of zeros: buffer and output before and behind them, and the stores that the opening leaves
   pub buf : List ℕ
   pub out : List ℕ
   pub started : Started
@@ -85,6 +86,7 @@ pub record Finished (mixed acknowledging : Bool) (st : State) : Type 0 where
   pub answered : List ℕ
   pub opened : Lent
   pub begins : Begun buf out zeroedStores started held answered opened
+  -- the lines: the area that is lent, and what the last one leaves
   pub area : List ℕ
   pub after : Lent
   pub bytes : List ℕ
@@ -92,5 +94,4 @@ pub record Finished (mixed acknowledging : Bool) (st : State) : Type 0 where
   pub written : List ℕ
   pub plays :
       PlayedOut mixed acknowledging (standing (started .state) opened area held answered (started .cursor)) st after bytes rest written
-  pub settings : List ℕ
-  pub calls : Reached (boxOf (handedWith settings)) (record { state = st; lent = after })
+  pub calls : Reached (boxOf (handedWith (textAt (begins .held) (begins .first)))) (record { state = st; lent = after })

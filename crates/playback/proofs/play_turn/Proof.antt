@@ -26,8 +26,11 @@ entered k = k .before .before .before .before .before .before .before .before .b
 abbrev begun : tie.After-next-line → tie.Start
 begun n = entered (n .before .before .before)
 
-abbrev lined : tie.After-play-line → tie.After-next-line
-lined p = p .before .before .before .before .before .before .before .before .before .before
+abbrev lined : tie.After-play-line-arg8 → tie.After-next-line
+lined a = a .before .before .before .before .before .before .before .before
+
+abbrev cut : tie.After-play-line → tie.After-next-line
+cut p = lined (p .before .before)
 
 abbrev played : tie.After-onward-arg2 → tie.After-play-line
 played o = o .before .before .before .before .before .before .before .before .before .before .before .before .before .before .before .before .before .before .before .before
@@ -48,24 +51,24 @@ call s text =
 -- the output behind the reply is as long as it was
 abbrev output : tie.After-play-line → List ℕ
 output p =
-    let out = begun (lined p) .args .out .now in
-    let used = begun (lined p) .args .cursor .used in
+    let out = begun (cut p) .args .out .now in
+    let used = begun (cut p) .args .cursor .used in
     putMid used (length out - used) out (p .play-line .last .1 .1 .1 .1 .1 .1 .1 .1 .1 .1 .1 .1 .0)
 
-same-output : (p : tie.After-play-line) → length (output p) ≡ length (begun (lined p) .args .out .now)
+same-output : (p : tie.After-play-line) → length (output p) ≡ length (begun (cut p) .args .out .now)
 same-output p =
-    let out = begun (lined p) .args .out .now in
-    let used = begun (lined p) .args .cursor .used in
+    let out = begun (cut p) .args .out .now in
+    let used = begun (cut p) .args .cursor .used in
     same-len-mid used (length out - used) out (p .play-line .last .1 .1 .1 .1 .1 .1 .1 .1 .1 .1 .1 .1 .0)
     (p .play-line .kept .1 .1 .1 .1 .1 .1 .1 .1 .1 .1 .1 .1 .0)
 
 -- and the cursor behind both is one to go on from
 ready : (p : tie.After-play-line) →
-    Ready (begun (lined p) .args .buf .now) (length (output p))
-    (replied (begun (lined p) .args .cursor) (length (lined p .next-line .result .now)) (p .play-line .result .used))
+    Ready (begun (cut p) .args .buf .now) (length (output p))
+    (replied (begun (cut p) .args .cursor) (length (cut p .next-line .result .now)) (p .play-line .result .used))
 ready p =
-    let s = begun (lined p) in
-    ready-replied (s .args .cursor) (s .args .buf .now) (s .args .out .now) (lined p .next-line .result .now) (lined p .next-line .ensures .0)
+    let s = begun (cut p) in
+    ready-replied (s .args .cursor) (s .args .buf .now) (s .args .out .now) (cut p .next-line .result .now) (cut p .next-line .ensures .0)
     (s .pre) (p .play-line .result .used) (p .play-line .last .1 .1 .1 .1 .1 .1 .1 .1 .1 .1 .1 .1 .0) _
     (p .play-line .ensures .used) (p .play-line .ensures .text) (p .play-line .kept .1 .1 .1 .1 .1 .1 .1 .1 .1 .1 .1 .1 .0)
 
@@ -84,17 +87,17 @@ next-line-requires : tie.Need-next-line-requires
 next-line-requires c κs = tt
 
 sub-play-line : tie.Need-sub-play-line
-sub-play-line c = omega (arith, begun (c .before .before .before .before .before .before .before .before) .pre .1)
+sub-play-line c = omega (arith, begun (lined c) .pre .1)
 
 part-play-line-start : tie.Need-part-play-line-start
-part-play-line-start c = omega (arith, begun (c .before .before .before .before .before .before .before .before) .pre .1)
+part-play-line-start c = omega (arith, begun (lined c) .pre .1)
 
 part-play-line-end : tie.Need-part-play-line-end
-part-play-line-end c = omega (arith, begun (c .before .before .before .before .before .before .before .before) .pre .1)
+part-play-line-end c = omega (arith, begun (lined c) .pre .1)
 
 play-line-requires : tie.Need-play-line-requires
 play-line-requires c κs =
-    let s = begun (c .before .before .before .before .before .before .before .before .before) in
+    let s = begun (lined (c .before)) in
     let used = s .args .cursor .used in
     let out = s .args .out .now in
     omega (arith, s .pre .1, length-part used (length out) out (omega (arith, s .pre .1)) (omega arith))
@@ -136,8 +139,8 @@ returns : tie.Need-returns
 returns c =
     let o = onward c in
     let p = played (o .before) in
-    let s = begun (lined p) in
-    turned (call s) (s .args .cursor) (s .args .buf .now) (s .args .out .now) (lined p .next-line .result .now) (lined p .next-line .ensures .0)
+    let s = begun (cut p) in
+    turned (call s) (s .args .cursor) (s .args .buf .now) (s .args .out .now) (cut p .next-line .result .now) (cut p .next-line .ensures .0)
     (p .play-line .result) _ _ (p .play-line .last .1 .1 .1 .1 .1 .1 .1 .1 .1 .1 .1 .1 .0) (p .play-line .ensures) (same-output p)
     (o .onward .result) (o .onward .last .1 .1 .1 .0) (o .onward .ensures)
 

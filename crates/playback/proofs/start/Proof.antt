@@ -27,8 +27,11 @@ closed n = n .before .before .before
 abbrev fetched : tie.After-closed-state → tie.After-fetch
 fetched z = z .before .before .before
 
-abbrev lined : tie.After-play-settings → tie.After-next-line
-lined p = p .before .before .before .before .before .before .before .before .before
+abbrev lined : tie.After-play-settings-arg7 → tie.After-next-line
+lined a = a .before .before .before .before .before .before .before
+
+abbrev cut : tie.After-play-settings → tie.After-next-line
+cut p = lined (p .before .before)
 
 abbrev played : tie.After-onward-arg2 → tie.After-play-settings
 played o = o .before .before .before .before .before .before .before .before .before .before .before .before .before .before .before .before .before .before .before .before .before
@@ -39,7 +42,7 @@ onward c = c .before .before
 -- ---- what is known there
 
 abbrev first : tie.After-play-settings → tie.After-fetch
-first p = fetched (closed (lined p))
+first p = fetched (closed (cut p))
 
 abbrev out : tie.After-fetch → List ℕ
 out f = entered (begin f) .args .out .now
@@ -59,11 +62,11 @@ same-output p =
 -- and the cursor behind text and reply is one to go on from
 ready : (p : tie.After-play-settings) →
     Ready (first p .fetch .last .1 .1 .0) (length (output p))
-    (replied (first p .fetch .result) (length (lined p .next-line .result .now)) (p .play-settings .result .used))
+    (replied (first p .fetch .result) (length (cut p .next-line .result .now)) (p .play-settings .result .used))
 ready p =
     let f = first p .fetch in
     let g = p .play-settings in
-    ready-replied (f .result) (f .last .1 .1 .0) (out (first p)) (lined p .next-line .result .now) (lined p .next-line .ensures .0)
+    ready-replied (f .result) (f .last .1 .1 .0) (out (first p)) (cut p .next-line .result .now) (cut p .next-line .ensures .0)
     (f .ensures .lies) (g .result .used) (g .last .1 .1 .1 .1 .1 .1 .1 .1 .1 .0) _ (g .ensures .used) (g .ensures .text) (g .kept .1 .1 .1 .1 .1 .1 .1 .1 .1 .0)
 
 -- ---- the needs
@@ -82,7 +85,7 @@ closed-state-requires : tie.Need-closed-state-requires
 closed-state-requires c κs = tt
 
 sub-next-line : tie.Need-sub-next-line
-sub-next-line c = omega (arith, fetched (c) .fetch .ensures .lies .0 .0)
+sub-next-line c = omega (arith, fetched c .fetch .ensures .lies .0 .0)
 
 part-next-line-start : tie.Need-part-next-line-start
 part-next-line-start c =
@@ -98,17 +101,17 @@ next-line-requires : tie.Need-next-line-requires
 next-line-requires c κs = tt
 
 sub-play-settings : tie.Need-sub-play-settings
-sub-play-settings c = omega (arith, fetched (closed (c .before .before .before .before .before .before .before)) .fetch .ensures .lies .1)
+sub-play-settings c = omega (arith, fetched (closed (lined c)) .fetch .ensures .lies .1)
 
 part-play-settings-start : tie.Need-part-play-settings-start
-part-play-settings-start c = omega (arith, fetched (closed (c .before .before .before .before .before .before .before)) .fetch .ensures .lies .1)
+part-play-settings-start c = omega (arith, fetched (closed (lined c)) .fetch .ensures .lies .1)
 
 part-play-settings-end : tie.Need-part-play-settings-end
-part-play-settings-end c = omega (arith, fetched (closed (c .before .before .before .before .before .before .before)) .fetch .ensures .lies .1)
+part-play-settings-end c = omega (arith, fetched (closed (lined c)) .fetch .ensures .lies .1)
 
 play-settings-requires : tie.Need-play-settings-requires
 play-settings-requires c κs =
-    let f = fetched (closed (c .before .before .before .before .before .before .before .before)) in
+    let f = fetched (closed (lined (c .before))) in
     let used = f .fetch .result .used in
     let fits = f .fetch .ensures .lies .1 in
     omega (arith, fits, length-part used (length (out f)) (out f) (omega (arith, fits)) (omega arith))
@@ -149,9 +152,9 @@ returns c =
     let p = played (o .before) in
     let f = first p in
     let b = begin f in
-    let z = closed (lined p) .closed-state in
+    let z = closed (cut p) .closed-state in
     begun (entered b .args .buf .now) (out f) _ (b .begin .result) (b .begin .ensures) (f .fetch .result) (f .fetch .last .1 .1 .0)
-    (f .fetch .ensures) (z .result) (z .ensures) (lined p .next-line .result .now) (lined p .next-line .ensures .0)
+    (f .fetch .ensures) (z .result) (z .ensures) (cut p .next-line .result .now) (cut p .next-line .ensures .0)
     (p .play-settings .result) _ (p .play-settings .last .1 .1 .1 .1 .1 .1 .1 .1 .1 .0) (p .play-settings .ensures) (same-output p)
     (o .onward .result) (o .onward .last .1 .1 .1 .0) (o .onward .ensures)
 
