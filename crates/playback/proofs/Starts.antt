@@ -12,7 +12,7 @@ use lib.ListN.{length, take, drop}
 use borrow.Rule.Slice.PartMut.{putMid}
 use Rattle.area.specs.Laid.{inFront}
 use Rattle.area.proofs.Lent.{lent-inFront}
-use Rattle.store.proofs.Choices.{not-both}
+use Rattle.store.proofs.Choices.{not-both, true-unless}
 use Rattle.node.specs.declared.State.{State}
 use Rattle.node.specs.View.{Lent}
 use Rattle.node.specs.Opening.{Opened, closedState, openedOn}
@@ -34,10 +34,6 @@ none-unplayed : {buf fresh : List ℕ} → Unplayed false (allRead 0 false false
 none-unplayed (over e o) = not-both o refl
 none-unplayed (failed h) = omega arith
 none-unplayed (endless e n) = not-both e refl
-
-true-unless : (b : Bool) → (b ≡ false → ⊥) → b ≡ true
-true-unless true f = refl
-true-unless false f = absurd (f refl)
 
 module _ (buf : List ℕ) (first : Cursor) (held : List ℕ) (room : ℕ)
     (f : Fetched false (allRead 0 false false false) buf first held room) where
