@@ -10,14 +10,9 @@ use Rattle.commands.specs.declared.Command.the-variants as Command
 use Rattle.commands.specs.ReadLine.{commandOf}
 use Rattle.settings.specs.Limits.{maxDisplays}
 use Rattle.node.specs.declared.State.{State}
-use Rattle.node.specs.declared.CallReply.{CallReply}
 use Rattle.node.specs.View.{Lent}
 use Rattle.node.specs.Calls.{Called, calledOn}
 use Rattle.node.specs.Displays.{acknowledgedOn, fetchedOn}
-
--- what a function answers, with the stores and the area that it leaves
-abbrev pub calledOf : CallReply → Lent → List ℕ → Called
-calledOf r x area = record { answer = r .answer; records = r .records; state = r .state; lent = x; area = area }
 
 -- ---- displays that acknowledge what is new
 

@@ -8,9 +8,9 @@ use Rattle.operator.specs.Meters.{meterCount}
 use Rattle.operator.proofs.FromPlace.{length-mapped}
 use Rattle.store.specs.Columns.{columnsOf}
 use Rattle.node.specs.View.{Lent, lentOf}
-use Rattle.node.specs.Calls.{Called}
+use Rattle.node.specs.Calls.{Called, calledOf}
 use Rattle.node.proofs.Few.{Fewest}
-use Rattle.playback_dispatch.specs.Dispatch.{calledOf, dispatched}
+use Rattle.playback_dispatch.specs.Dispatch.{dispatched}
 use Rattle.playback_dispatch.proofs.Few.{dispatched-few}
 use Rattle.playback_reply.specs.Reply.{replyText}
 use Rattle.playback.proofs.play_line.Statement.{statement}

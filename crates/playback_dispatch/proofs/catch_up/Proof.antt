@@ -9,9 +9,9 @@ use lib.ListN.{length}
 use Rattle.settings.specs.Limits.{maxDisplays}
 use Rattle.store.specs.Columns.{columnsOf}
 use Rattle.node.specs.declared.CallReply.{CallReply}
-use Rattle.node.specs.Calls.{Called}
+use Rattle.node.specs.Calls.{Called, calledOf}
 use Rattle.node.specs.View.{lentOf}
-use Rattle.playback_dispatch.specs.Dispatch.{calledOf, isBehind, caughtUp, allCaughtUp}
+use Rattle.playback_dispatch.specs.Dispatch.{isBehind, caughtUp, allCaughtUp}
 use Rattle.playback_dispatch.proofs.CatchingUp.{up-to-date, was-behind, in-turn}
 use Rattle.playback_dispatch.proofs.catch_up.Statement.{statement}
 use Rattle.playback_dispatch.proofs.catch_up.Tie as tie
