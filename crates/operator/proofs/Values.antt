@@ -2,7 +2,7 @@
 -- readings behind another brings its values behind the other's, and number and sum do not mind the order. Sums are amounts that add up;
 -- the other laws go by the list.
 use Prim.Native.Nat.{ℕ}
-use mathlib.Core.Path.{_≡_, refl, _∙_, ap}
+use mathlib.Core.Path.{_≡_, refl, ap}
 use mathlib.Core.Bool.{Bool, true, false, cond, _&&_}
 use mathlib.Core.List.{List, [], _∷_, _++_, foldr, map}
 use lib.Dec.{eqb}

@@ -1,6 +1,6 @@
 -- A meter within its bounds: count, sum and last value with one value more, what the test says of them, and the test as the code makes it,
 -- one way out after the other. By the sum's sign.
-use Prim.Native.Nat.{ℕ, zero, suc, _+_, _-_, _*_, _^_, _<_, _≤_}
+use Prim.Native.Nat.{ℕ, zero, suc, _-_, _*_, _^_, _<_, _≤_}
 use mathlib.Core.Path.{_≡_, sym, ap, _∙_}
 use mathlib.Core.Bool.{Bool, true, false, true≢false}
 use mathlib.Core.List.{List}

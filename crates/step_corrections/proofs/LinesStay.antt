@@ -7,14 +7,9 @@ use mathlib.Core.List.{List, [], _∷_, append-nil}
 use lib.ListN.{length}
 use Rattle.area.specs.Laid.{inFront}
 use Rattle.settings.specs.Limits.{maxLines, maxDisplays}
-use Rattle.journal.specs.Kinds.{letterU, letterR}
 use Rattle.record.specs.declared.Record.{Record}
 use Rattle.record.specs.Layout.{bytesOf, allBytes}
 use Rattle.store.specs.Columns.{Columns, storeLength}
-use Rattle.operator.specs.declared.Operator.{Operator}
-use Rattle.record.specs.Markers.{marker}
-use Rattle.protocol.specs.declared.Phase.{Phase}
-use Rattle.protocol.specs.declared.Phase.the-variants as Phase
 use Rattle.protocol.specs.declared.Rule.the-variants as Rule
 use Rattle.protocol.specs.Rules.{act}
 use Rattle.node.specs.declared.State.{State}

@@ -13,7 +13,7 @@ use Rattle.store.specs.declared.Reading.{Reading}
 use Rattle.store.specs.Sizes.{readingsPerLine}
 use Rattle.store.specs.Lists.{keep, Every}
 use Rattle.store.specs.Order.{isIn}
-use Rattle.store.specs.Columns.{Columns, storeLength, rowsFrom, rows, zeroed, withRows}
+use Rattle.store.specs.Columns.{Columns, storeLength, rowsFrom, zeroed, withRows}
 use Rattle.store.specs.Parts.{withRowsAt, withKept}
 use Rattle.store.proofs.Pairs.{every-to, every-map}
 use Rattle.store.proofs.Columns.{length-rowsFrom, take-rows, drop-rows, withRowsAt-front}

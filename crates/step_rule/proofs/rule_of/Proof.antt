@@ -1,7 +1,6 @@
 -- `step_rule::rule_of` meets its contract: the tests in their order; what they need of the state, its shape gives.
 use mathlib.Core.Path.{_≡_, refl}
 use native.Mathlib.Omega.{arith}
-use borrow.Author.Needs.{needs}
 use lib.ListN.{take}
 use Rattle.store.specs.Columns.{Columns, columnsOf}
 use Rattle.store.proofs.Columns.{room}
