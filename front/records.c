@@ -7,7 +7,7 @@
  * The texts come from the verified library.
  *
  * Exit status: 0 all were records, 1 some were not, 2 the input could not be
- * read or the output not be written.
+ * read or the output not be written, or the arguments are not known.
  */
 #include "beanmorrow.h"
 
@@ -16,7 +16,19 @@
 #include <stdio.h>
 #include <string.h>
 
-enum { ALL_RECORDS = 0, SOME_MALFORMED = 1, INPUT_OUTPUT_ERROR = 2 };
+enum { ALL_RECORDS = 0, SOME_MALFORMED = 1, CANNOT = 2 };
+
+static const char usage[] = "usage: records [-h] <RECORDS\n";
+static const char help[] =
+    "\n"
+    "Prints each record of 32 bytes as a line of text. What is no record is "
+    "named on\n"
+    "standard error and passed over.\n"
+    "\n"
+    "  -h  prints this\n"
+    "\n"
+    "Exit status: 0 all were records, 1 some were not, 2 reading or writing "
+    "fails.\n";
 
 /* Places in a record that its refusal may be due to. */
 enum { KIND = 0, FIRST_ZERO = 2, SECOND_ZERO = 3 };
@@ -47,10 +59,11 @@ static void name_fault(uintmax_t number, const uint8_t *record, size_t length,
 static int give_up(const char *deed)
 {
     fprintf(stderr, "records: cannot %s: %s\n", deed, strerror(errno));
-    return INPUT_OUTPUT_ERROR;
+    return CANNOT;
 }
 
-int main(void)
+/* Prints the text of every record on standard input. */
+static int print_records(void)
 {
     uint8_t record[BEANMORROW_RECORD_BYTES] = {0};
     uint8_t text[BEANMORROW_LONGEST_RECORD_TEXT];
@@ -80,4 +93,25 @@ int main(void)
         return give_up("write standard output");
     }
     return status;
+}
+
+static int say_help(void)
+{
+    if (printf("%s%s", usage, help) < 0 || fflush(stdout) != 0) {
+        return give_up("write standard output");
+    }
+    return ALL_RECORDS;
+}
+
+int main(int count, char **arguments)
+{
+    if (count == 1) {
+        return print_records();
+    }
+    if (strcmp(arguments[1], "-h") == 0 ||
+        strcmp(arguments[1], "--help") == 0) {
+        return say_help();
+    }
+    fputs(usage, stderr);
+    return CANNOT;
 }

@@ -1,5 +1,5 @@
 -- Four runs of bytes laid over an area, each behind the one before. Room for the four together is room for each in its turn, by their lengths;
--- laid down they are one run, by the law on joined runs. Assumes nothing.
+-- laid down they are one run, by the law on joined runs.
 use mathlib.Core.List.{List, _++_}
 use Prim.Native.Nat.{ℕ, _+_, _≤_}
 use native.Mathlib.Omega.{arith}
@@ -22,7 +22,9 @@ module _ (l : List ℕ) (at : ℕ) (a b c d : List ℕ) where
     room-fourth {k} {m} {n} {e} {f} {g} p q r =
         omega (arith, length-four a b c d, length-laidTo l a k at e p, length-laidTo k b m e f q, length-laidTo m c n f g r)
 
-  pub runs-four : {k m n o : List ℕ} {e f g h : ℕ} → LaidTo l at a e k → LaidTo k e b f m → LaidTo m f c g n → LaidTo n g d h o → LaidTo l at (a ++ (b ++ (c ++ d))) h o
+  pub runs-four :
+      {k m n o : List ℕ} {e f g h : ℕ} → LaidTo l at a e k → LaidTo k e b f m → LaidTo m f c g n → LaidTo n g d h o →
+      LaidTo l at (a ++ (b ++ (c ++ d))) h o
   runs-four {e = e} {f = f} {g = g} p q r s = (
     omega (arith, length-four a b c d),
     cc (laid-four l at a b c e f (p .0) (q .0) d g (r .0)),

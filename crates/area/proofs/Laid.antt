@@ -1,4 +1,4 @@
--- Laws on bytes laid over an area: runs join, lengths stay, and a run from the first place on is a new front. Assumes nothing.
+-- Laws on bytes laid over an area: runs join, lengths stay, and a run from the first place on is a new front.
 use mathlib.Core.Path.{_≡_, refl, sym, ap, _∙_}
 use mathlib.Core.List.{List, [], _∷_, _++_}
 use Prim.Native.Nat.{ℕ, suc, _+_, _<_, _≤_}
@@ -31,7 +31,8 @@ unfolding laid
 laid-one l i x = refl
 
 -- the first bytes of a run, and one more
-pub laid-more : (l : List ℕ) (at i : ℕ) (s : List ℕ) → i < length s → set (laid l at (take i s)) (at + i) (getD s i 0) ≡ laid l at (take (suc i) s)
+pub laid-more :
+    (l : List ℕ) (at i : ℕ) (s : List ℕ) → i < length s → set (laid l at (take i s)) (at + i) (getD s i 0) ≡ laid l at (take (suc i) s)
 laid-more l at i s h =
     sym (laid-one (laid l at (take i s)) (at + i) (getD s i 0))
     ∙ laid-laid l at (at + i) (take i s) (getD s i 0 ∷ []) (omega (arith, length-take-le i s (omega arith)))

@@ -1,4 +1,4 @@
--- A part of an area, from a place to its end, lent to a writer that lays bytes in front of it, and come back. Assumes nothing.
+-- A part of an area, from a place to its end, lent to a writer that lays bytes in front of it, and come back.
 use mathlib.Core.Path.{_≡_}
 use mathlib.Core.List.{List, _++_, append-nil, append-assoc}
 use Prim.Native.Nat.{ℕ, _+_, _-_}

@@ -1,4 +1,4 @@
--- A run of bytes laid over an area: the place behind it, and the area with it. Assumes nothing.
+-- A run of bytes laid over an area: the place behind it, and the area with it.
 use mathlib.Core.Path.{_≡_, ap, _∙_}
 use mathlib.Core.List.{List}
 use Prim.Native.Nat.{ℕ, _+_}

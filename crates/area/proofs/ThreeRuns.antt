@@ -1,5 +1,5 @@
 -- Three runs of bytes laid over an area, each behind the one before. Room for the three together is room for each in its turn, by their
--- lengths; laid down they are one run, by the law on joined runs. Assumes nothing.
+-- lengths; laid down they are one run, by the law on joined runs.
 use mathlib.Core.List.{List, _++_}
 use Prim.Native.Nat.{ℕ, _+_, _≤_}
 use native.Mathlib.Omega.{arith}

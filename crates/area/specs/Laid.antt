@@ -1,4 +1,4 @@
--- An area with bytes laid over it. Assumes nothing.
+-- An area with bytes laid over it.
 use Prim.Native.Nat.{ℕ}
 use mathlib.Core.List.{List, _++_}
 use lib.ListN.{length, drop}

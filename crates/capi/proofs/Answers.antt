@@ -1,4 +1,4 @@
--- What the writer of a text answered is handed on to C: its number, the text's length and the area. Assumes nothing.
+-- What the writer of a text answered is handed on to C: its number, the text's length and the area.
 use mathlib.Core.Path.{_≡_, sym, ap, _∙_}
 use mathlib.Core.List.{List}
 use Prim.Native.Nat.{ℕ}

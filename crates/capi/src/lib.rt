@@ -7,13 +7,6 @@ ghost use Rattle.record.specs.Decoded.{decoded};
 ghost use Rattle.record_text.specs.RecordText.{textAnswer, textWritten};
 use fields::Written;
 
-// The answers, by their numbers.
-const ACCEPTED: u32 = 0;
-
-const SHORT_AREA: u32 = 5;
-
-const MALFORMED: u32 = 6;
-
 // Whether bytes are a journal line of the form.
 #[no_mangle]
 pub extern "C" fn beanmorrow_is_journal_line(line: &[u8]) -> bool
@@ -22,8 +15,8 @@ pub extern "C" fn beanmorrow_is_journal_line(line: &[u8]) -> bool
     journal::has_form(line)
 }
 
-// Writes the text of the record that these bytes are into the area, and its length into `written`: 0, or 6 for bytes that are no record, then 5
-// for an area shorter than this text; at both the length is 0 and the area stays as it is.
+// Writes the text of the record that these bytes are into the area, and its length into `written`: 0, or 6 for bytes that are no record,
+// then 5 for an area shorter than this text; at both the length is 0 and the area stays as it is.
 #[no_mangle]
 pub extern "C" fn beanmorrow_record_text(bytes: &[u8], text: &mut [u8], written: &mut usize) -> u32
     ensures { λ r. ⌜ r ≡ textAnswer (decoded (now (bytes .entry))) (now (text .entry)) ⌝ }
@@ -33,15 +26,15 @@ pub extern "C" fn beanmorrow_record_text(bytes: &[u8], text: &mut [u8], written:
     match record_text::write_text(bytes, text) {
         Written::Text(n) => {
             *written = n;
-            ACCEPTED
+            answer::ACCEPTED
         }
         Written::ShortArea => {
             *written = 0;
-            SHORT_AREA
+            answer::SHORT_AREA
         }
         Written::Malformed => {
             *written = 0;
-            MALFORMED
+            answer::MALFORMED
         }
     }
 }

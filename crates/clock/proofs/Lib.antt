@@ -2,4 +2,3 @@
 pub mod Room
 pub mod Buckets
 pub mod Windows
-pub mod Hold

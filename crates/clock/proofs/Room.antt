@@ -1,4 +1,4 @@
--- The product of two numbers of 32 bits, the first of which may be one more than the largest, leaves room in 64. Assumes nothing.
+-- The product of two numbers of 32 bits, the first of which may be one more than the largest, leaves room in 64.
 use Prim.Native.Nat.{ℕ, _-_, _*_, _<_, _≤_, _^_}
 use native.Mathlib.Nat.{mul-le-mul}
 use native.Mathlib.Omega.{arith}

@@ -12,25 +12,25 @@ pub struct ArrivalTick(pub u32);
 pub struct ReadingTime(pub u32);
 
 // The bucket of a time.
-pub fn bucket_of(length: u32, t: ReadingTime) -> u32
-    requires { ⌜ 0 < length ⌝ }
-    ensures { λ r. ⌜ r ≡ bucketOf length t ⌝ }
+pub fn bucket_of(bucket: u32, t: ReadingTime) -> u32
+    requires { ⌜ 0 < bucket ⌝ }
+    ensures { λ r. ⌜ r ≡ bucketOf bucket t ⌝ }
 {
-    t.0 / length
+    t.0 / bucket
 }
 
 // The end of bucket j, which may lie past the last time of 32 bits.
-pub fn bucket_end(length: u32, j: u32) -> u64
-    ensures { λ r. ⌜ r ≡ bucketEnd length j ⌝ }
+pub fn bucket_end(bucket: u32, j: u32) -> u64
+    ensures { λ r. ⌜ r ≡ bucketEnd bucket j ⌝ }
 {
-    (j as u64) * (length as u64) + (length as u64)
+    (j as u64) * (bucket as u64) + (bucket as u64)
 }
 
 // Whether a boundary finishes bucket j.
-pub fn is_finished(length: u32, boundary: ReadingTime, j: u32) -> bool
-    ensures { λ r. ⌜ r ≡ finishes length boundary j ⌝ }
+pub fn is_finished(bucket: u32, boundary: ReadingTime, j: u32) -> bool
+    ensures { λ r. ⌜ r ≡ finishes bucket boundary j ⌝ }
 {
-    bucket_end(length, j) <= boundary.0 as u64
+    bucket_end(bucket, j) <= boundary.0 as u64
 }
 
 // Whether bucket j closes a window.
@@ -42,19 +42,19 @@ pub fn closes_window(window: u32, j: u32) -> bool
 }
 
 // The start of the window that bucket j closes; a window that would begin before time 0 begins there.
-pub fn window_start(length: u32, window: u32, j: u32) -> u64
-    ensures { λ r. ⌜ r ≡ windowStart length window j ⌝ }
+pub fn window_start(bucket: u32, window: u32, j: u32) -> u64
+    ensures { λ r. ⌜ r ≡ windowStart bucket window j ⌝ }
 {
     let next = j as u64 + 1;
     if next < window as u64 {
         return 0;
     }
-    (next - window as u64) * (length as u64)
+    (next - window as u64) * (bucket as u64)
 }
 
 // Whether a reading that arrived then has waited out the hold now.
-pub fn is_due(hold: u32, arrival: ArrivalTick, now: ArrivalTick) -> bool
-    ensures { λ r. ⌜ r ≡ isDue hold arrival now ⌝ }
+pub fn is_due(hold: u32, arrival: ArrivalTick, tick: ArrivalTick) -> bool
+    ensures { λ r. ⌜ r ≡ isDue hold arrival tick ⌝ }
 {
-    (arrival.0 as u64) + (hold as u64) <= now.0 as u64
+    (arrival.0 as u64) + (hold as u64) <= tick.0 as u64
 }

@@ -43,7 +43,9 @@ module _ (word : List ℕ) where
   Claim text DisplayLine.Malformed = Unit {0}
 
   -- what is read is the text
-  line-sound : (text : List ℕ) (display id : ℕ) → displayLineOf start text ≡ DisplayLine.Fields display id → IsLine (displayText word) text display id
+  line-sound :
+      (text : List ℕ) (display id : ℕ) → displayLineOf start text ≡ DisplayLine.Fields display id →
+      IsLine (displayText word) text display id
   unfolding displayLineOf stretches
   line-sound text display id q =
       let z = DisplayLine.Malformed in
@@ -64,7 +66,9 @@ module _ (word : List ℕ) where
       )
 
   -- a text that is a line is read
-  line-complete : (text : List ℕ) (display id : ℕ) → IsLine (displayText word) text display id → displayLineOf start text ≡ DisplayLine.Fields display id
+  line-complete :
+      (text : List ℕ) (display id : ℕ) → IsLine (displayText word) text display id →
+      displayLineOf start text ≡ DisplayLine.Fields display id
   unfolding displayLineOf stretches withNumber isDigit
   line-complete text display id is =
       let line = displayText word display id in
@@ -75,5 +79,7 @@ module _ (word : List ℕ) where
       let end : e2 + 1 ≡ length text = omega (arith, simp length-append at size, simp length-append at n1) in
       rw (q1, q2, end-complete text [] e2 p2, eq-eqb (e2 + 1) (length text) end)
 
-  pub line-exact : (text : List ℕ) (display id : ℕ) → (displayLineOf (word ++ later displayKey) text ≡ DisplayLine.Fields display id) ↔ IsLine (displayText word) text display id
+  pub line-exact :
+      (text : List ℕ) (display id : ℕ) →
+      (displayLineOf (word ++ later displayKey) text ≡ DisplayLine.Fields display id) ↔ IsLine (displayText word) text display id
   line-exact text display id = (line-sound text display id, line-complete text display id)

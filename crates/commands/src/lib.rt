@@ -6,9 +6,9 @@ use decimal::Number;
 use decimal::WideNumber;
 
 // The widest numbers of 32 and of 64 bits.
-const WORD: u32 = 4_294_967_295;
+const WORD: u32 = u32::MAX;
 
-const LONG: u64 = 18_446_744_073_709_551_615;
+const LONG: u64 = u64::MAX;
 
 // A command with its display and its id; `None` for a text that is no command's.
 pub enum Command {

@@ -1,5 +1,4 @@
 -- Document 02, W11: the theorem. The node balances by any measure of readings, so by heat; carried to bytes, states and stores.
--- Assumes nothing.
 use Prim.Native.Nat.{ℕ, _<_}
 use mathlib.Core.Path.{_≡_, sym, _∙_, ap, ap₂}
 use mathlib.Core.Bool.{not}

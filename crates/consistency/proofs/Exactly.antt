@@ -1,5 +1,5 @@
 -- Document 02, W4: the theorem. An accepted step finds the box in shape, and takes exactly one off the steps that its node needs; a refused
--- call and a display's call take nothing. From an opening on the monitor has left to work what the node has. Assumes nothing.
+-- call and a display's call take nothing. From an opening on the monitor has left to work what the node has.
 use Prim.Native.Nat.{ℕ, _-_, _≤_}
 use mathlib.Core.Path.{_≡_, sym, _∙_, ap, ap₂, subst}
 use mathlib.Core.Bool.{true, false, false≢true}

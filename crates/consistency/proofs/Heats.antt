@@ -1,5 +1,5 @@
 -- Heat adds up, and is a measure of readings: what a meter holds grows by what a reading brings, and a result reports it. By it the
--- statement's words are those of the run on the meaning. Assumes nothing.
+-- statement's words are those of the run on the meaning.
 use Prim.Native.Nat.{ℕ}
 use mathlib.Core.Path.{_≡_, refl, _∙_, ap}
 use mathlib.Core.List.{List, map}
@@ -11,7 +11,7 @@ use Rattle.record.specs.declared.Record.{Record}
 use Rattle.store.specs.declared.Reading.{Reading}
 use Rattle.store.specs.Lists.{keep}
 use Rattle.store.proofs.Amounts.{CommutativeMonoid}
-use Rattle.operator.specs.Meters.{noMeter, withValue}
+use Rattle.operator_meter.specs.Values.{noMeter, withValue}
 use Rattle.operator.specs.Results.{result}
 use Rattle.operator.proofs.Measures.{Measure, brought, reportedOf}
 use Rattle.consistency.specs.Runs.{Input, recordIn}

@@ -12,6 +12,7 @@ pub mod ShapedWork
 pub mod ShapedLines
 pub mod Shaped
 pub mod ShapedRuns
+pub mod Forms
 pub mod Plain
 pub mod Stated
 pub mod PlainExactly

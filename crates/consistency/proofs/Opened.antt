@@ -1,5 +1,5 @@
 -- From an accepted opening on: the box stands for the node as opened, and a list of calls has the account and, in bytes, the output of a
--- run on the meaning. Assumes nothing.
+-- run on the meaning.
 use Prim.Native.Nat.{_<_}
 use mathlib.Core.Path.{_≡_, refl, sym, _∙_, ap, subst}
 use mathlib.Core.List.{List, map}
@@ -17,7 +17,8 @@ use Rattle.node.proofs.Fits.{opened-fits}
 use Rattle.node.proofs.Records.{Decodes}
 use Rattle.consistency.specs.Runs.{Input}
 use Rattle.consistency.specs.Accounts.{Account, emptyAccount}
-use Rattle.consistency.specs.Demand.{Handed, opening as openingOf, isOpened, boxOf, settingsIn, accountOf, outputOf, failureFreeBytes}
+use Rattle.consistency.specs.Demand.{Handed, opening as openingOf, isOpened, boxOf, settingsIn, accountOf, outputOf}
+use Rattle.consistency.specs.Demand.{failureFreeRecords, failureFreeBytes}
 use Rattle.consistency.proofs.Runs.{Stands, accountIn, eventsOf, runs}
 
 -- what an accepted opening leaves stands for the node as opened
@@ -66,9 +67,15 @@ mirrors h e is =
       laid = run .laid ∙ ap (map bytesOf) (sym (run .given));
     }
 
+-- and its stable results are the failure-free ones
+pub free-records :
+    (h : Handed) (is : List Input) → Mirrors (settingsIn h) h is →
+    failureFreeRecords h is ≡ stableResults (settingsIn h) (traceOf (settingsIn h) h is)
+unfolding failureFreeRecords stableResults accountIn
+free-records h is m = ap (λ (a : Account). failureFree (settingsIn h) (a .stables) (a .monitor .d) .records) (m .account)
+
 pub free-bytes :
     (h : Handed) (is : List Input) → Mirrors (settingsIn h) h is →
     failureFreeBytes h is ≡ map bytesOf (stableResults (settingsIn h) (traceOf (settingsIn h) h is))
-unfolding failureFreeBytes stableResults accountIn
-free-bytes h is m =
-    ap (λ (a : Account). map bytesOf (failureFree (settingsIn h) (a .stables) (a .monitor .d) .records)) (m .account)
+unfolding failureFreeBytes
+free-bytes h is m = ap (map bytesOf) (free-records h is m)

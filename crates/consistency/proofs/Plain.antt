@@ -1,5 +1,5 @@
 -- The statement gives demand 3 in the plain words of specs/Plain.antt: by induction on the list a plain run leaves what the statement's
--- lists of calls leave, and the statement's conditions are met by the plain ones. Uses the statement and not its proof. Assumes nothing.
+-- lists of calls leave, and the statement's conditions are met by the plain ones. Uses the statement and not its proof.
 use Prim.Native.Nat.{ℕ, zero, suc, _+_, _≤_}
 use mathlib.Core.Path.{_≡_, refl, sym, _∙_, ap, ap₂, subst}
 use mathlib.Core.Bool.{Bool, true, false, cond, _&&_, false≢true}
@@ -18,7 +18,8 @@ use Rattle.retransmission.specs.Places.{pieces}
 use Rattle.store.specs.declared.Reading.{Reading}
 use Rattle.store.specs.Lists.{Every}
 use Rattle.store.proofs.Choices.{and-parts}
-use Rattle.protocol.specs.Kinds.{Kind, kindOf, uses, isStep}
+use Rattle.store.proofs.Pairs.{every-to}
+use Rattle.protocol.specs.Kinds.{Kind, kindOf}
 use Rattle.protocol.specs.Monitor.{stableBuckets, leftToWork}
 use Rattle.protocol.specs.FailureFree.{withoutArrival, failureFree}
 use Rattle.protocol.specs.Undos.{applied, struck, stableRecords, doneDue}
@@ -28,11 +29,12 @@ use Rattle.node.specs.Calls.{calledOn}
 use Rattle.node.specs.Displays.{acknowledgedOn, fetchedOn}
 use Rattle.consistency.specs.Runs.{Box, Input, called, areaOf, left, leftAfter, given, output, recordIn}
 use Rattle.consistency.specs.Accounts.{Account, emptyAccount, accountWith, accountNext, accountAfter, sentIn, boundariesIn}
-use Rattle.consistency.specs.Demand.{Handed, opening, isOpened, boxOf, settingsIn, accountOf, outputOf, failureFreeBytes, remaining}
-use Rattle.consistency.specs.Demand.{Steps, Unchanged, Demand3}
+use Rattle.consistency.specs.Demand.{Handed, opening, isOpened, boxOf, settingsIn, accountOf, outputOf, remaining}
+use Rattle.consistency.specs.Demand.{failureFreeRecords, failureFreeBytes, Steps, Unchanged, Demand3}
 use Rattle.consistency.specs.Plain.{Run, cut, noted, counted, begun, answered, passedOver, continued, settingsOn, runOf}
-use Rattle.consistency.specs.Plain.{readsAsStep, onlySteps, acceptedOf, Sent, sentAs, sentOn, boundariesOn, leftOn, owed}
-use Rattle.consistency.specs.Plain.{LeftAlone, Neither3Nor4, Plain}
+use Rattle.consistency.specs.Plain.{isP, readsAsStep, onlySteps, acceptedOf, Sent, sentAs, sentOn, boundariesOn, leftOn}
+use Rattle.consistency.specs.Plain.{resultsOn, owed, HasForm, HasRoom, LeftAlone, Neither3Nor4, Plain}
+use Rattle.consistency.proofs.Forms.{form-of, room-of}
 
 -- ---- a plain run is a list of calls
 
@@ -104,8 +106,8 @@ bytes-are s y (Input.fetch display from area ∷ is) =
 
 -- ---- plain steps are steps
 
-step-kind : (kind : Kind) → isStep kind ≡ true → kind ≡ Kind.P
-unfolding isStep uses
+step-kind : (kind : Kind) → isP kind ≡ true → kind ≡ Kind.P
+unfolding isP
 step-kind Kind.S e = absurd (false≢true e)
 step-kind Kind.T e = absurd (false≢true e)
 step-kind Kind.B e = absurd (false≢true e)
@@ -209,7 +211,7 @@ neither d st x text e is i =
     subst (λ (b : Box). Neither3Nor4 (called b i .answer)) (opened-left st x text is) (d .inShape (handedOf st x text) e is i)
 
 pub plain : Demand3 → Plain
-unfolding isOpened opening settingsIn settingsOn failureFreeBytes owed stableBuckets called areaOf
+unfolding isOpened opening settingsIn settingsOn failureFreeRecords failureFreeBytes resultsOn owed stableBuckets called areaOf
 plain d =
     record {
       clean = λ st x text e is.
@@ -229,6 +231,10 @@ plain d =
             stables =
                 ap (stableRecords recordIn) (sym bytes) ∙ c .asTheyCame ∙
                 ap (λ (a : Account). map bytesOf (failureFree s (a .stables) (a .monitor .d) .records)) account;
+            forms = subst (Every HasForm) bytes (every-to (outputOf (handedOf st x text) is) form-of (c .allRecords));
+            rooms =
+                subst (λ (a : Account). Every HasRoom (failureFree s (a .stables) (a .monitor .d) .records)) account
+                (every-to (failureFreeRecords (handedOf st x text) is) room-of (c .uncut));
             noneAhead = subst (λ (a : Account). a .monitor .d ≤ stableBuckets s (a .monitor)) account (c .worked);
           };
       replicas = λ st x text zt z other e f same is js sent boundaries none-here none-there.

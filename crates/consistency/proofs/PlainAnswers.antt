@@ -14,7 +14,7 @@ use Rattle.journal.specs.declared.Call.{Call}
 use Rattle.journal.specs.declared.CallRead.{CallRead}
 use Rattle.journal.specs.declared.CallRead.the-variants as CallRead
 use Rattle.store.proofs.Choices.{and-parts}
-use Rattle.protocol.specs.Kinds.{Kind, kindOf, uses, isStep}
+use Rattle.protocol.specs.Kinds.{Kind, kindOf}
 use Rattle.protocol.specs.Displays.{leastOf}
 use Rattle.protocol.specs.Monitor.{leastBoundary, stableBuckets}
 use Rattle.protocol.specs.FailureFree.{failureFree}
@@ -22,7 +22,7 @@ use Rattle.protocol.proofs.Tests.{both-ways}
 use Rattle.protocol.proofs.Faults.{four-iff}
 use Rattle.protocol.proofs.Displays.{neither}
 use Rattle.node.specs.Sizes.{areaBytes}
-use Rattle.consistency.specs.Plain.{Run, leftOn}
+use Rattle.consistency.specs.Plain.{Run, isP, leftOn}
 use Rattle.consistency.proofs.SentAnswers.{by-tests}
 use Rattle.consistency.proofs.Plain.{accountOn}
 use Rattle.consistency.specs.PlainSentBack.{wanted, nextResults, answerIf, isBareStep, isLacking}
@@ -84,11 +84,11 @@ module _ (s : Settings) (area : List ℕ) (display : ℕ) (fits : Type 0) (f : B
 
 -- ---- want of places
 
-step-is : (kind : Kind) → (isStep kind ≡ true) ↔ (kind ≡ Kind.P)
-unfolding isStep uses
+step-is : (kind : Kind) → (isP kind ≡ true) ↔ (kind ≡ Kind.P)
+unfolding isP
 step-is kind = (only kind, λ e. rw e)
   where
-    only : (κ : Kind) → isStep κ ≡ true → κ ≡ Kind.P
+    only : (κ : Kind) → isP κ ≡ true → κ ≡ Kind.P
     only Kind.S e = absurd (false≢true e)
     only Kind.T e = absurd (false≢true e)
     only Kind.B e = absurd (false≢true e)
@@ -100,8 +100,8 @@ bare-is : (clock : ArrivalTick) (k : Call) → (isBareStep clock (CallRead.Accep
 unfolding isBareStep
 bare-is clock k = (
   λ e.
-      let p = and-parts (isStep (kindOf (k .kind)) && leb (clock .0) (k .now .0)) _ e in
-      let q = and-parts (isStep (kindOf (k .kind))) _ (p .0) in
+      let p = and-parts (isP (kindOf (k .kind)) && leb (clock .0) (k .now .0)) _ e in
+      let q = and-parts (isP (kindOf (k .kind))) _ (p .0) in
       let r = and-parts (eqb (k .line) 0) _ (p .1) in
       let f = four-iff (k .id) (k .time .0) (k .meter) (k .value) .0 (r .1) in
       record {

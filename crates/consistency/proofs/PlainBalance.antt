@@ -1,6 +1,6 @@
 -- The balance and its second text are one statement: what is sent in line by line is what is sent in call by call, since an accepted
 -- reading is on one of the lines; every piece of an output is a record, so that its bytes alone tell what it pays; and an equation of
--- heats is one of counts and one of sums. Uses the statement and not its proof. Assumes nothing.
+-- heats is one of counts and one of sums. Uses the statement and not its proof.
 use Prim.Native.Nat.{ℕ, zero, suc, _+_, _-_, _≤_, _<_}
 use mathlib.Core.Path.{_≡_, refl, sym, _∙_, ap, ap₂, subst}
 use mathlib.Core.Bool.{Bool, true, false, cond, _&&_}
@@ -27,7 +27,7 @@ use Rattle.store.proofs.Choices.{cond-either}
 use Rattle.store.proofs.Permutations.{append-permuted, permutation-between, permutation-back}
 use Rattle.store.proofs.Keeping.{keep-append}
 use Rattle.store.proofs.Amounts.{none-plus, totalOf}
-use Rattle.operator.specs.Meters.{noMeter, isCounted}
+use Rattle.operator_meter.specs.Values.{noMeter, isCounted}
 use Rattle.operator.proofs.Measures.{reports, brought, brought-append, brought-permuted, reportedOf}
 use Rattle.protocol.specs.Node.{Line, keptOf}
 use Rattle.protocol.specs.FailureFree.{stableReading, stableAfter}

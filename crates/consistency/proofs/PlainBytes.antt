@@ -21,10 +21,10 @@ use Rattle.node.specs.Sizes.{areaBytes}
 use Rattle.node.specs.Calls.{Called}
 use Rattle.consistency.specs.Runs.{Input}
 use Rattle.consistency.specs.Demand.{Handed, failureFreeBytes}
-use Rattle.consistency.specs.Plain.{Run}
-use Rattle.consistency.specs.PlainSentBack.{wanted, results, held}
+use Rattle.consistency.specs.Plain.{Run, resultsOn}
+use Rattle.consistency.specs.PlainSentBack.{wanted, held}
 use Rattle.consistency.specs.PlainSentBack.{StoreOn, FetchOn}
-use Rattle.consistency.specs.SentBack.{leastIn, newestIn, IsHeld, placeIn, Stored, Fetched}
+use Rattle.consistency.specs.SentBack.{leastIn, newestIn, IsHeld, placeIn, Stored, FetchedFrom}
 
 -- ---- bytes
 
@@ -80,22 +80,22 @@ byte-is bytes rs p q j l e = sym (place-byte bytes p j l) ∙ ap (λ (b : List �
 
 -- the results and what is wanted of them are the same
 pub record Alike (h : Handed) (is : List Input) (s : Settings) (y : Run) (last : ℕ → ℕ) : Type 0 where
-  pub bytes : failureFreeBytes h is ≡ map bytesOf (results s y)
+  pub bytes : failureFreeBytes h is ≡ map bytesOf (resultsOn s y)
   pub wants : (n : ℕ) → (wanted (s .displays) last n ≡ true) ↔ (leastIn h is < n)
 
 module _ (h : Handed) (is : List Input) (s : Settings) (y : Run) (last : ℕ → ℕ) (v : Alike h is s y last) where
-  pub newest-is : newestIn h is ≡ length (results s y)
+  pub newest-is : newestIn h is ≡ length (resultsOn s y)
   unfolding newestIn
-  newest-is = ap length (v .bytes) ∙ length-map (results s y) bytesOf
+  newest-is = ap length (v .bytes) ∙ length-map (resultsOn s y) bytesOf
 
   held-is : (n : ℕ) → (held s y last n ≡ true) ↔ IsHeld h is n
   unfolding held
   held-is n = (
     λ e.
-        let p = and-parts (wanted (s .displays) last n) (leb n (length (results s y))) e in
-        let high : n ≤ length (results s y) = leb-true _ _ (p .1) in
+        let p = and-parts (wanted (s .displays) last n) (leb n (length (resultsOn s y))) e in
+        let high : n ≤ length (resultsOn s y) = leb-true _ _ (p .1) in
         (v .wants n .0 (p .0), omega (arith, newest-is)),
-    λ p. rw (v .wants n .1 (p .0), le-leb n (length (results s y)) (omega (arith, p .1, newest-is))),
+    λ p. rw (v .wants n .1 (p .0), le-leb n (length (resultsOn s y)) (omega (arith, p .1, newest-is))),
   )
 
   -- ---- the store
@@ -110,14 +110,14 @@ module _ (h : Handed) (is : List Input) (s : Settings) (y : Run) (last : ℕ →
             let q = 512 * m + i / 32 in
             let place : (q + 1 - 1) % 512 ≡ i / 32 = omega arith in
             let one : q + 1 - 1 ≡ q = omega arith in
-            let there : placeIn sent (i / 32) ≡ getD (map bytesOf (results s y)) q [] =
+            let there : placeIn sent (i / 32) ≡ getD (map bytesOf (resultsOn s y)) q [] =
             ap (placeIn sent) (sym place) ∙ t .held (q + 1) (held-is (q + 1) .0 e) ∙
             ap (λ (bs : List (List ℕ)). getD bs (q + 1 - 1) []) (v .bytes) ∙
-            ap (λ (k : ℕ). getD (map bytesOf (results s y)) k []) one in
+            ap (λ (k : ℕ). getD (map bytesOf (resultsOn s y)) k []) one in
             let far : 32 * q + i % 32 ≡ 16384 * m + i = omega arith in
             ap (λ (k : ℕ). getD sent k 0) (sym (split i)) ∙
-            byte-is sent (results s y) (i / 32) q (i % 32) (mod-lt i (omega arith)) there ∙
-            ap (λ (k : ℕ). getD (allBytes (results s y)) k 0) far;
+            byte-is sent (resultsOn s y) (i / 32) q (i % 32) (mod-lt i (omega arith)) there ∙
+            ap (λ (k : ℕ). getD (allBytes (resultsOn s y)) k 0) far;
         none = λ i l free.
             let small : i % 32 < 32 = mod-lt i (omega arith) in
             let there : placeIn sent (i / 32) ≡ replicate 32 0 =
@@ -143,12 +143,12 @@ module _ (h : Handed) (is : List Input) (s : Settings) (y : Run) (last : ℕ →
             let p = (n - 1) % 512 in
             let m = (n - 1) / 512 in
             let small : p < 512 = mod-lt (n - 1) (omega arith) in
-            place-is sent (results s y) p (n - 1) (omega (arith, t .size, t .room)) (omega (arith, w .0, w .1, newest-is))
+            place-is sent (resultsOn s y) p (n - 1) (omega (arith, t .size, t .room)) (omega (arith, w .0, w .1, newest-is))
             (λ j l.
             let same : 512 * m + (32 * p + j) / 32 + 1 ≡ n = omega (arith, w .0) in
             let far : 16384 * m + (32 * p + j) ≡ 32 * (n - 1) + j = omega arith in
             t .byte m (32 * p + j) (omega arith) (ap (held s y last) same ∙ held-is n .1 w) ∙
-            ap (λ (k : ℕ). getD (allBytes (results s y)) k 0) far) ∙
+            ap (λ (k : ℕ). getD (allBytes (resultsOn s y)) k 0) far) ∙
             ap (λ (bs : List (List ℕ)). getD bs (n - 1) []) (sym (v .bytes));
         empty = λ i l free.
             let size : length (placeIn sent i) ≡ 32 = place-length sent i (omega (arith, t .size, t .room)) in
@@ -177,7 +177,7 @@ module _ (h : Handed) (is : List Input) (s : Settings) (y : Run) (last : ℕ →
     abbrev taken : List (List ℕ)
     taken = take 64 (drop (from - 1) (failureFreeBytes h is))
 
-    length-taken : length taken ≡ min 64 (length (results s y) + 1 - from)
+    length-taken : length taken ≡ min 64 (length (resultsOn s y) + 1 - from)
     unfolding newestIn
     length-taken =
         omega (
@@ -187,7 +187,7 @@ module _ (h : Handed) (is : List Input) (s : Settings) (y : Run) (last : ℕ →
           newest-is,
         )
 
-    taken-at : (q : ℕ) → q < 64 → getD taken q [] ≡ getD (map bytesOf (results s y)) (from - 1 + q) []
+    taken-at : (q : ℕ) → q < 64 → getD taken q [] ≡ getD (map bytesOf (resultsOn s y)) (from - 1 + q) []
     taken-at q l =
         getD-take 64 (drop (from - 1) (failureFreeBytes h is)) q [] l ∙
         getD-drop (from - 1) (failureFreeBytes h is) q [] ∙
@@ -197,21 +197,21 @@ module _ (h : Handed) (is : List Input) (s : Settings) (y : Run) (last : ℕ →
     unfolding placeIn
     piece-at k q bytes l = pieces-at k q bytes l
 
-    pub plain-fetch : Fetched h is from area r → FetchOn s y from area r
+    pub plain-fetch : FetchedFrom h is from area r → FetchOn s y from area r
     plain-fetch t =
-        let count : r .records ≡ min 64 (length (results s y) + 1 - from) =
+        let count : r .records ≡ min 64 (length (resultsOn s y) + 1 - from) =
         sym (length-pieces (r .records) (r .area)) ∙ ap length (t .records) ∙ length-taken in
         record {
           records = count;
           byte = λ i l.
               let q = i / 32 in
-              let there : placeIn (r .area) q ≡ getD (map bytesOf (results s y)) (from - 1 + q) [] =
+              let there : placeIn (r .area) q ≡ getD (map bytesOf (resultsOn s y)) (from - 1 + q) [] =
               sym (piece-at (r .records) q (r .area) (omega arith)) ∙
               ap (λ (bs : List (List ℕ)). getD bs q []) (t .records) ∙ taken-at q (omega (arith, count)) in
               let far : 32 * (from - 1 + q) + i % 32 ≡ 32 * (from - 1) + i = omega arith in
               ap (λ (k : ℕ). getD (r .area) k 0) (sym (split i)) ∙
-              byte-is (r .area) (results s y) q (from - 1 + q) (i % 32) (mod-lt i (omega arith)) there ∙
-              ap (λ (k : ℕ). getD (allBytes (results s y)) k 0) far;
+              byte-is (r .area) (resultsOn s y) q (from - 1 + q) (i % 32) (mod-lt i (omega arith)) there ∙
+              ap (λ (k : ℕ). getD (allBytes (resultsOn s y)) k 0) far;
           behind = λ i l.
               let n = r .records * 32 in
               let far : n + (i - n) ≡ i = omega arith in
@@ -228,7 +228,7 @@ module _ (h : Handed) (is : List Input) (s : Settings) (y : Run) (last : ℕ →
               );
         }
 
-    pub stated-fetch : FetchOn s y from area r → Fetched h is from area r
+    pub stated-fetch : FetchOn s y from area r → FetchedFrom h is from area r
     stated-fetch t =
         record {
           records =
@@ -237,10 +237,10 @@ module _ (h : Handed) (is : List Input) (s : Settings) (y : Run) (last : ℕ →
               (λ q l.
               let near : q < r .records = omega (arith, length-pieces (r .records) (r .area)) in
               piece-at (r .records) q (r .area) near ∙
-              place-is (r .area) (results s y) q (from - 1 + q) (omega (arith, t .records, t .size)) (omega (arith, t .records))
+              place-is (r .area) (resultsOn s y) q (from - 1 + q) (omega (arith, t .records, t .size)) (omega (arith, t .records))
               (λ j small.
               let far : 32 * (from - 1) + (32 * q + j) ≡ 32 * (from - 1 + q) + j = omega arith in
-              t .byte (32 * q + j) (omega arith) ∙ ap (λ (k : ℕ). getD (allBytes (results s y)) k 0) far) ∙
+              t .byte (32 * q + j) (omega arith) ∙ ap (λ (k : ℕ). getD (allBytes (resultsOn s y)) k 0) far) ∙
               sym (taken-at q (omega (arith, t .records))));
           rest =
               let n = r .records * 32 in

@@ -1,6 +1,6 @@
 -- The statement of document 02's W4 gives the plain table of specs/PlainExactly.antt, and the table gives the statement, so that neither
 -- can be weakened without the other. An accepted step has found the state in shape, where its word tells whether p is above c; where no
--- step is accepted it is enough that either count is 0 if the other is. Uses the two texts and no proof of either. Assumes nothing.
+-- step is accepted it is enough that either count is 0 if the other is. Uses the two texts and no proof of either.
 use Prim.Native.Nat.{ℕ, zero, suc, _≤_, _<_, min}
 use mathlib.Core.Path.{_≡_, refl, sym, _∙_, ap, subst}
 use mathlib.Core.Bool.{Bool, true, false}
@@ -27,7 +27,7 @@ use Rattle.consistency.specs.Runs.{Box, Input, called, left, leftAfter}
 use Rattle.consistency.specs.Demand.{Handed, opening, isOpened, boxOf, remaining, Steps}
 use Rattle.consistency.specs.Plain.{Run, settingsOn, runOf, onlySteps, acceptedOf, leftOn}
 use Rattle.consistency.specs.Exactly.{leftIn, stepsFrom, Exactly}
-use Rattle.consistency.specs.PlainExactly.{stepsIn, stateAfter, leastOf, leftBy, PlainExactly}
+use Rattle.consistency.specs.PlainExactly.{stepsIn, stateAfter, lowestOf, leftBy, PlainExactly}
 use Rattle.consistency.proofs.Refused.{same-box}
 use Rattle.consistency.proofs.Displays.{acknowledgement-aside, fetched-same}
 use Rattle.consistency.proofs.Plain.{boxOn, steps-are, handedOf, opened-left, opened-remaining}
@@ -120,8 +120,8 @@ module _ (k n needed : ℕ) (phase : Phase) where
 
 least-view :
     (n : ℕ) (hs : List LineHead) (rs : List Reading) →
-    leastBoundaryOf (viewLines n hs rs) ≡ leastOf (map (λ (h : LineHead). h .boundary .0) (take n hs))
-unfolding viewLines viewLine leastBoundaryOf leastOf
+    leastBoundaryOf (viewLines n hs rs) ≡ lowestOf (map (λ (h : LineHead). h .boundary .0) (take n hs))
+unfolding viewLines viewLine leastBoundaryOf lowestOf
 least-view zero hs rs = refl
 least-view (suc n) [] rs = refl
 least-view (suc zero) (h ∷ hs) rs = refl

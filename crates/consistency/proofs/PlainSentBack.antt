@@ -24,13 +24,14 @@ use Rattle.node.specs.Calls.{Called, calledOn}
 use Rattle.node.specs.Displays.{acknowledgedOn}
 use Rattle.consistency.specs.Runs.{Box, Input, called, left}
 use Rattle.consistency.specs.Accounts.{Account, emptyAccount}
-use Rattle.consistency.specs.Demand.{Handed, opening, isOpened, boxOf, settingsIn, accountOf, failureFreeBytes}
-use Rattle.consistency.specs.Plain.{Run, settingsOn, runOf}
+use Rattle.consistency.specs.Demand.{Handed, opening, isOpened, boxOf, settingsIn, accountOf}
+use Rattle.consistency.specs.Demand.{failureFreeRecords, failureFreeBytes}
+use Rattle.consistency.specs.Plain.{Run, settingsOn, runOf, resultsOn}
 use Rattle.consistency.proofs.Opened.{settings-limits}
 use Rattle.consistency.proofs.Plain.{boxOn, handedOf, opened-left, opened-account}
-use Rattle.consistency.specs.PlainSentBack.{lastOn, wanted, results, isBareStep, isLacking}
+use Rattle.consistency.specs.PlainSentBack.{lastOn, wanted, isBareStep, isLacking}
 use Rattle.consistency.specs.PlainSentBack.{FetchOn, SentOn, QuietOn, PlainSentBack}
-use Rattle.consistency.specs.SentBack.{lastIn, leastIn, newestIn, IsDisplay, Stored, Answers, Fetched}
+use Rattle.consistency.specs.SentBack.{lastIn, leastIn, newestIn, IsDisplay, Stored, Answers, FetchedFrom}
 use Rattle.consistency.specs.SentBack.{LacksPlaces, boxAfter, SentBack}
 use Rattle.consistency.proofs.PlainDisplays.{boxIn, last-is, count-is, wanted-least}
 use Rattle.consistency.proofs.PlainBytes.{Alike, newest-is, plain-store, stated-store, plain-fetch, stated-fetch}
@@ -72,7 +73,7 @@ module _ (h : Handed) (e : isOpened h) (is : List Input) where
       (wanted-least ids last (omega (arith, as-many, some-display)) (λ d low high. same-last d low (omega (arith, high, as-many))) n)
 
   alike : Alike h is s y last
-  unfolding failureFreeBytes results settingsIn opening settingsOn leastIn
+  unfolding failureFreeRecords failureFreeBytes resultsOn settingsIn opening settingsOn leastIn
   alike =
       record {
         bytes =
@@ -85,39 +86,39 @@ module _ (h : Handed) (e : isOpened h) (is : List Input) where
   unfolding boxAfter
   same-box = opened-left (h .state) (h .lent) (h .text) is
 
-  newest : newestIn h is ≡ length (results s y)
+  newest : newestIn h is ≡ length (resultsOn s y)
   newest = newest-is h is s y last alike
 
   -- the tests of either call's id
   acknowledgement-fits :
       (display id : ℕ) → (1 ≤ display) × (display ≤ s .displays) →
-      (leb (last display) id && leb id (length (results s y)) ≡ true) ↔ ((lastIn h is display ≤ id) × (id ≤ newestIn h is))
+      (leb (last display) id && leb id (length (resultsOn s y)) ≡ true) ↔ ((lastIn h is display ≤ id) × (id ≤ newestIn h is))
   unfolding lastIn
   acknowledgement-fits display id d =
       let same : lastOf ids display ≡ last display = same-last display (d .0) (d .1) in (
         λ q.
             let p = and-parts (leb (last display) id) _ q in
             let low : last display ≤ id = leb-true _ _ (p .0) in
-            let high : id ≤ length (results s y) = leb-true _ _ (p .1) in
+            let high : id ≤ length (resultsOn s y) = leb-true _ _ (p .1) in
             (omega (arith, low, same), omega (arith, high, newest)),
         λ p.
             let low : last display ≤ id = omega (arith, p .0, same) in
-            let high : id ≤ length (results s y) = omega (arith, p .1, newest) in
-            rw (le-leb (last display) id low, le-leb id (length (results s y)) high),
+            let high : id ≤ length (resultsOn s y) = omega (arith, p .1, newest) in
+            rw (le-leb (last display) id low, le-leb id (length (resultsOn s y)) high),
       )
 
   fetch-fits :
       (from : ℕ) →
-      (wanted (s .displays) last from && leb from (length (results s y) + 1) ≡ true) ↔ ((leastIn h is < from) × (from ≤ suc (newestIn h is)))
+      (wanted (s .displays) last from && leb from (length (resultsOn s y) + 1) ≡ true) ↔ ((leastIn h is < from) × (from ≤ suc (newestIn h is)))
   unfolding leastIn
   fetch-fits from = (
     λ q.
         let p = and-parts (wanted (s .displays) last from) _ q in
-        let high : from ≤ length (results s y) + 1 = leb-true _ _ (p .1) in
+        let high : from ≤ length (resultsOn s y) + 1 = leb-true _ _ (p .1) in
         (wants from .0 (p .0), omega (arith, high, newest)),
     λ p.
-        let high : from ≤ length (results s y) + 1 = omega (arith, p .1, newest) in
-        rw (wants from .1 (p .0), le-leb from (length (results s y) + 1) high),
+        let high : from ≤ length (resultsOn s y) + 1 = omega (arith, p .1, newest) in
+        rw (wants from .1 (p .0), le-leb from (length (resultsOn s y) + 1) high),
   )
 
   -- ---- each way, clause by clause
@@ -207,7 +208,7 @@ module _ (h : Handed) (e : isOpened h) (is : List Input) where
     stated-fetched :
         (display from : ℕ) (area : List ℕ) →
         let r : Called = called (boxAfter h is) (Input.fetch display from area) in
-        r .answer ≡ 0 → Fetched h is from area r
+        r .answer ≡ 0 → FetchedFrom h is from area r
     unfolding called
     stated-fetched display from area q =
         let p = stated-fetches display from area .accepted .0 q in

@@ -1,4 +1,4 @@
--- A call that is refused leaves box and area as they were and gives no record: by the node's laws on refused calls. Assumes nothing.
+-- A call that is refused leaves box and area as they were and gives no record: by the node's laws on refused calls.
 use mathlib.Core.Path.{_≡_}
 use Rattle.node.proofs.Calls.{Untouched, refused-call}
 use Rattle.node.proofs.Displays.{refused-acknowledgement, refused-fetch}

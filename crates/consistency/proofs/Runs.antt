@@ -1,6 +1,6 @@
 -- A list of calls on a box is a list of calls on the node that the box stands for. A call that is accepted does to the node, the account
 -- and the output what the meaning says, its records laid down in bytes that are read back; a refused one changes nothing, as one that was
--- turned away. Assumes nothing.
+-- turned away.
 use Prim.Native.Nat.{ℕ}
 use mathlib.Core.Path.{_≡_, refl, sym, _∙_, ap, ap₂, subst}
 use mathlib.Core.Bool.{true, false, cond}

@@ -18,7 +18,7 @@ use Rattle.journal.specs.Kinds.{letterS}
 use Rattle.store.proofs.Choices.{and-parts}
 use Rattle.operator.specs.declared.Operator.{Operator}
 use Rattle.retransmission.specs.Sizes.{heldResults}
-use Rattle.protocol.specs.Node.{Node, isStable}
+use Rattle.protocol.specs.Node.{Node, isStableBucket}
 use Rattle.protocol.specs.Refusals.{firstFailed, wrongId, answerTo}
 use Rattle.protocol.specs.Rules.{firstRule, ruleOf, worked}
 use Rattle.protocol.specs.Displays.{leastOf, givenUpTo, freePlaces, lacksPlaces, wrongDisplay, lastOf, wrongAcknowledgement, wrongFetch}
@@ -189,7 +189,7 @@ module _ (s : Settings) (room : 0 < s .bucket) (t : Trace) (v : Kept s t) where
       let level : n .p ≡ n .c = i .same-p ∙ l .level ∙ sym (i .same-c) in
       let high : n .c < leastBoundary (t .monitor .lines) / s .bucket =
       subst (λ (c : ℕ). c < leastBoundary (t .monitor .lines) / s .bucket) (sym (i .same-c)) (l .stable) in
-      let stable : isStable s (n .c) (n .lines) ≡ true =
+      let stable : isStableBucket s (n .c) (n .lines) ≡ true =
       stable-least s (n .c) (n .lines) room (i .some) ∙
       ap (λ (b : ℕ). ltb (n .c) (b / s .bucket)) (same-least s (n .c) (i .lines)) ∙ lt-ltb _ _ high in
       let all :

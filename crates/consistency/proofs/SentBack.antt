@@ -46,7 +46,7 @@ use Rattle.node.proofs.Sent.{isStableRecord, whole-bytes}
 use Rattle.consistency.specs.Runs.{Box, Input, called, leftAfter}
 use Rattle.consistency.specs.Accounts.{Account}
 use Rattle.consistency.specs.Demand.{Handed, isOpened, boxOf, settingsIn, accountOf, failureFreeBytes}
-use Rattle.consistency.specs.SentBack.{lastIn, leastIn, newestIn, IsDisplay, IsHeld, placeIn, Stored, Answers, Fetched, Quiet}
+use Rattle.consistency.specs.SentBack.{lastIn, leastIn, newestIn, IsDisplay, IsHeld, placeIn, Stored, Answers, FetchedFrom, Quiet}
 use Rattle.consistency.specs.SentBack.{IsStep, LacksPlaces, boxAfter, SentBack}
 use Rattle.consistency.proofs.Displays.{acknowledgement-aside, fetched-same}
 use Rattle.consistency.proofs.Runs.{accountIn}
@@ -324,7 +324,7 @@ module _ (h : Handed) (e : isOpened h) (is : List Input) where
   fetched-right :
       (display from : ℕ) (area : List ℕ) →
       let r : Called = called (boxAfter h is) (Input.fetch display from area) in
-      r .answer ≡ 0 → Fetched h is from area r
+      r .answer ≡ 0 → FetchedFrom h is from area r
   unfolding boxAfter called
   fetched-right display from area q =
       record { records = fetched-records display from area q; rest = fetched-rest display from area q }

@@ -16,7 +16,7 @@ use Rattle.record.proofs.Decoding.{decoded-well, decoded-ill}
 use Rattle.store.specs.Lists.{Every, keep}
 use Rattle.store.proofs.Pairs.{every-to, every-both, every-keep, every-index}
 use Rattle.store.proofs.Keeping.{keep-passes}
-use Rattle.operator.specs.Results.{plain}
+use Rattle.record.specs.Markers.{marker}
 use Rattle.retransmission.specs.Sizes.{heldResults, heldBytes}
 use Rattle.retransmission.specs.Places.{placesOf, withPlaces, emptyPlace, placeOk, placesOk}
 use Rattle.retransmission.proofs.Places.{heldOver, found, places-pass}
@@ -86,7 +86,7 @@ place-passes :
 unfolding stableRecords
 place-passes s room t v decode n low high =
     let rs = keep isStableRecord (t .output) in
-    let no = plain 0 0 (record { 0 = 0 }) in
+    let no = marker 0 0 (record { 0 = 0 }) in
     let at : n < length rs = omega (arith, length-map rs bytesOf) in
     let r = getD rs n no in
     let bytes : getD (shelf t) (n % heldResults) [] ≡ bytesOf r = shelf-at s room t v n low high ∙ getD-mapped bytesOf rs n [] no at in

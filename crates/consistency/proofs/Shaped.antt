@@ -1,5 +1,5 @@
 -- The node in shape, as the opening leaves it and as every call keeps it that was read and is accepted: by the kind of an input for its line, by the
--- rule of a step for c, p, the phase, the numbers and the meters. Assumes nothing.
+-- rule of a step for c, p, the phase, the numbers and the meters.
 use Prim.Native.Nat.{ℕ, suc, _*_, _≤_}
 use mathlib.Core.Path.{_≡_, refl, sym, _∙_, ap, subst}
 use mathlib.Core.Bool.{true, false, cond, true≢false}
@@ -18,11 +18,12 @@ use Rattle.journal.specs.Kinds.{letterS, letterT}
 use Rattle.store.specs.Lists.{Every}
 use Rattle.store.specs.Order.{inBucket}
 use Rattle.operator.specs.declared.Operator.{Operator}
-use Rattle.operator.specs.Meters.{meterCount, noMeter, fresh}
+use Rattle.operator_meter.specs.Values.{noMeter}
+use Rattle.operator.specs.Meters.{meterCount, fresh}
 use Rattle.protocol.specs.declared.Phase.{Phase}
 use Rattle.protocol.specs.declared.Phase.the-variants as Phase
 use Rattle.protocol.specs.Kinds.{Kind, kindOf, uses, isStep}
-use Rattle.protocol.specs.Node.{Line, Node, noLine, opened, isStable, keptOf}
+use Rattle.protocol.specs.Node.{Line, Node, noLine, opened, isStableBucket, keptOf}
 use Rattle.protocol.specs.declared.Rule.{Rule}
 use Rattle.protocol.specs.declared.Rule.the-variants as Rule
 use Rattle.protocol.specs.Rules.{isCorrecting, someOverdue, ruleOf, worked, act}
@@ -35,7 +36,7 @@ use Rattle.node.proofs.Lists.{every-replicate}
 use Rattle.node.proofs.Limits.{Limits, limits-hold}
 use Rattle.node.proofs.Shape.{PhaseShape}
 use Rattle.node.proofs.Outcomes.{outcome-lines, outcome-kept}
-use Rattle.operator.proofs.Meters.{Counted, no-counted}
+use Rattle.operator_meter.proofs.Bounds.{Counted, no-counted}
 use Rattle.node.proofs.Fits.{NodeFits, opened-fits, values-fit, outcome-fits}
 use Rattle.node.proofs.Times.{stable-end-fits, due-start-fits}
 use Rattle.node.proofs.Records.{few-readings}
@@ -132,13 +133,15 @@ module _ (s : Settings) (n : Node) (v : Shaped s n) where
       work-counted s kind j (inBucket (s .bucket) j (keptOf (n .lines))) (n .operator) (limits .someWindow)
       (values-fit (s .bucket) j (n .lines) (v .fits .lines)) (few-readings s (n .lines) (v .limits) (v .count) (v .short) j) h
 
-  worked-number : (kind j : ℕ) → (n .operator .number ≤ worked s kind j n .operator .number) × (worked s kind j n .operator .number ≤ resultsPerBucket * suc (n .p))
+  worked-number :
+      (kind j : ℕ) →
+      (n .operator .number ≤ worked s kind j n .operator .number) × (worked s kind j n .operator .number ≤ resultsPerBucket * suc (n .p))
   unfolding worked
   worked-number kind j =
       let rs = inBucket (s .bucket) j (keptOf (n .lines)) in
       (work-onwards s kind j rs (n .operator), omega (arith, work-few s kind j rs (n .operator) (v .fits .operator), v .work .newestNumber))
 
-  stable-work : isStable s (n .c) (n .lines) ≡ true → n .p ≡ n .c → WorkOf s (act s n Rule.WorkStable .node)
+  stable-work : isStableBucket s (n .c) (n .lines) ≡ true → n .p ≡ n .c → WorkOf s (act s n Rule.WorkStable .node)
   unfolding act
   stable-work e q =
       let w = v .work in
@@ -199,7 +202,7 @@ module _ (s : Settings) (n : Node) (v : Shaped s n) where
   step-work : (now : ArrivalTick) → WorkOf s (act s n (ruleOf s n now) .node)
   unfolding ruleOf
   step-work now =
-      rule-cases (isStable s (n .c) (n .lines)) (ltb (n .c) (n .p)) (isCorrecting (n .phase)) (someOverdue s (n .p) now (n .lines))
+      rule-cases (isStableBucket s (n .c) (n .lines)) (ltb (n .c) (n .p)) (isCorrecting (n .phase)) (someOverdue s (n .p) now (n .lines))
       (λ (rule : Rule). WorkOf s (act s n rule .node)) (λ _ _. withdraw-work)
       (λ e b. let h : n .p ≤ n .c = ltb-false _ _ b in stable-work e (omega (arith, v .work .order)))
       (λ _. correction-work) (λ _ _. tentative-work now) (λ _ _. idle-work)

@@ -1,5 +1,5 @@
 -- The lines of a node in shape: kept readings are S or T of a meter that there is, their ids rise and are at most the last id, and the last
--- stable id is no later. An accepted input keeps this of its line, and a bucket taken out of every line. Assumes nothing.
+-- stable id is no later. An accepted input keeps this of its line, and a bucket taken out of every line.
 use Prim.Native.Nat.{ℕ, zero, suc, _+_, _-_, _≤_, _<_}
 use mathlib.Core.Path.{_≡_}
 use mathlib.Core.Logic.{_⊎_, inl, inr}
@@ -20,7 +20,7 @@ use Rattle.store.proofs.Pairs.{every-to, every-append, every-keep, pairwise-app
 use Rattle.store.proofs.Keeping.{keep-passes}
 use Rattle.protocol.specs.Kinds.{Kind, kindOf}
 use Rattle.protocol.specs.Node.{Line, Node, noLine, readingOf, onLine}
-use Rattle.protocol.specs.Refusals.{lineOf, answerTo}
+use Rattle.protocol.specs.Refusals.{namedLine, answerTo}
 use Rattle.store.specs.Sizes.{readingsPerLine}
 use Rattle.protocol.specs.Rules.{without}
 use Rattle.protocol.proofs.Letters.{kind-S, kind-T}
@@ -70,24 +70,24 @@ kept-low : (id : ℕ) (rs : List Reading) → Every (UpTo id) (keep (λ (r : Rea
 kept-low id rs =
     every-to (keep (λ (r : Reading). leb (r .id) id) rs) (λ r e. leb-true (r .id) id e) (keep-passes (λ (r : Reading). leb (r .id) id) rs)
 
-module _ (s : Settings) (n : Node) (k : Call) (answered : answerTo s n k ≡ 0) (h : LineShaped (lineOf n k)) where
-  pub line-shaped : (kind : Kind) → kindOf (k .kind) ≡ kind → LineShaped (onLine k kind (lineOf n k))
+module _ (s : Settings) (n : Node) (k : Call) (answered : answerTo s n k ≡ 0) (h : LineShaped (namedLine n k)) where
+  pub line-shaped : (kind : Kind) → kindOf (k .kind) ≡ kind → LineShaped (onLine k kind (namedLine n k))
   unfolding onLine
   line-shaped Kind.S e =
       let f : ReadingFits s n k = accepts-S s n k e .0 answered .0 in
       record {
         stable = omega arith;
-        readings = behind-shaped k (lineOf n k) h (f .nextId) (inl (kind-S (k .kind) e)) (f .ofMeter);
-        rising = behind-rising k (lineOf n k) h (f .nextId);
-        low = behind-low k (lineOf n k) h (f .nextId);
+        readings = behind-shaped k (namedLine n k) h (f .nextId) (inl (kind-S (k .kind) e)) (f .ofMeter);
+        rising = behind-rising k (namedLine n k) h (f .nextId);
+        low = behind-low k (namedLine n k) h (f .nextId);
       }
   line-shaped Kind.T e =
       let f : ReadingFits s n k = accepts-T s n k e .0 answered in
       record {
         stable = omega (arith, h .stable, f .nextId);
-        readings = behind-shaped k (lineOf n k) h (f .nextId) (inr (kind-T (k .kind) e)) (f .ofMeter);
-        rising = behind-rising k (lineOf n k) h (f .nextId);
-        low = behind-low k (lineOf n k) h (f .nextId);
+        readings = behind-shaped k (namedLine n k) h (f .nextId) (inr (kind-T (k .kind) e)) (f .ofMeter);
+        rising = behind-rising k (namedLine n k) h (f .nextId);
+        low = behind-low k (namedLine n k) h (f .nextId);
       }
   line-shaped Kind.B e = record { stable = h .stable; readings = h .readings; rising = h .rising; low = h .low }
   line-shaped Kind.U e =
@@ -95,9 +95,9 @@ module _ (s : Settings) (n : Node) (k : Call) (answered : answerTo s n k ≡ 0) 
       let test : Reading → Bool = λ (r : Reading). leb (r .id) (k .id) in
       record {
         stable = f .notStable;
-        readings = every-keep ReadingShape test (lineOf n k .kept) (h .readings);
-        rising = pairwise-keep (λ (r q : Reading). r .id < q .id) test (lineOf n k .kept) (h .rising);
-        low = kept-low (k .id) (lineOf n k .kept);
+        readings = every-keep ReadingShape test (namedLine n k .kept) (h .readings);
+        rising = pairwise-keep (λ (r q : Reading). r .id < q .id) test (namedLine n k .kept) (h .rising);
+        low = kept-low (k .id) (namedLine n k .kept);
       }
   line-shaped Kind.R e = h
   line-shaped Kind.P e = h
@@ -105,7 +105,7 @@ module _ (s : Settings) (n : Node) (k : Call) (answered : answerTo s n k ≡ 0) 
 pub lines-shaped :
     (s : Settings) (n : Node) (k : Call) → answerTo s n k ≡ 0 → (kind : Kind) → kindOf (k .kind) ≡ kind → Every LineShaped (n .lines) →
     Every LineShaped (modify (onLine k kind) (k .line - 1) (n .lines))
-unfolding lineOf
+unfolding namedLine
 lines-shaped s n k answered kind e h =
     every-modify LineShaped (onLine k kind) noLine (k .line - 1) (n .lines) (λ g. line-shaped s n k answered g kind e) h
 
@@ -136,7 +136,9 @@ pub kept-shape : (l : Line) → LineShaped l → KeptShape l
 kept-shape l h = record { readings = h .readings; rising = rising-next (l .kept) (h .rising) }
 
 -- the heads of the lines that state and store stand for
-pub heads-shape : (n : ℕ) (hs : List LineHead) (rs : List Reading) → Every SmallHead (take n hs) → Every LineShaped (viewLines n hs rs) → Every HeadShape (take n hs)
+pub heads-shape :
+    (n : ℕ) (hs : List LineHead) (rs : List Reading) → Every SmallHead (take n hs) → Every LineShaped (viewLines n hs rs) →
+    Every HeadShape (take n hs)
 unfolding viewLines viewLine
 heads-shape zero hs rs f h = tt
 heads-shape (suc n) [] rs f h = tt

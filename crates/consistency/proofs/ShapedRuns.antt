@@ -1,5 +1,5 @@
 -- From an accepted opening on no call is refused for a short store or a state out of shape: the box has room and stands for a node in
--- shape, at the opening and after every call, and such a box passes the tests of refusals 3 and 4. Assumes nothing.
+-- shape, at the opening and after every call, and such a box passes the tests of refusals 3 and 4.
 use Prim.Native.Nat.{ℕ, _*_, _%_, _≤_, _<_}
 use mathlib.Core.Path.{_≡_, refl, sym, _∙_, ap}
 use mathlib.Core.Bool.{true, false, cond}
@@ -17,7 +17,7 @@ use Rattle.journal.specs.JournalLine.{callAnswer}
 use Rattle.journal.specs.ReadLine.{callOf}
 use Rattle.store.specs.Lists.{Every}
 use Rattle.store.proofs.Pairs.{every-to}
-use Rattle.operator.specs.declared.Meter.{Meter}
+use Rattle.operator_meter.specs.declared.Meter.{Meter}
 use Rattle.operator.specs.declared.Operator.{Operator}
 use Rattle.protocol.specs.Kinds.{kindOf}
 use Rattle.protocol.specs.Node.{Node}
@@ -44,8 +44,8 @@ use Rattle.node.proofs.Displays.{acknowledgedDown, accepted-acknowledgement, ac
 use Rattle.node.proofs.Displays.{fetchedDown, fetch-leaves}
 use Rattle.consistency.specs.Runs.{Box, Input, called, left, leftAfter}
 use Rattle.consistency.specs.Demand.{Handed, opening as openingOf, isOpened, boxOf, settingsIn}
-use Rattle.operator.specs.Bounds.{countLimit}
-use Rattle.operator.proofs.Meters.{Counted}
+use Rattle.operator_meter.specs.Bounds.{countLimit}
+use Rattle.operator_meter.proofs.Bounds.{Counted}
 use Rattle.consistency.proofs.Refused.{untouched}
 use Rattle.consistency.proofs.Opened.{some-bucket, traceOf, mirrors}
 use Rattle.consistency.proofs.SentShape.{held-displays, first-long, keeps-after, length-sent, sent-passes}

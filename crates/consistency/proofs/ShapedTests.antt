@@ -1,5 +1,5 @@
 -- A state and a store of which the facts of refusal 4 hold pass its test: the other direction of the node's law on shape. Each fact by
--- itself is turned into its test, then those of a list and the chain of all. Assumes nothing.
+-- itself is turned into its test, then those of a list and the chain of all.
 use Prim.Native.Nat.{ℕ, _+_, _*_}
 use mathlib.Core.Path.{_≡_, refl}
 use mathlib.Core.Logic.{⊎-elim}
@@ -14,16 +14,16 @@ use Rattle.signed.specs.Range.{InRange}
 use Rattle.journal.specs.Kinds.{letterS, letterT}
 use Rattle.store.specs.declared.Reading.{Reading}
 use Rattle.store.specs.Lists.{Every, allOf}
-use Rattle.operator.specs.declared.Meter.{Meter}
+use Rattle.operator_meter.specs.declared.Meter.{Meter}
 use Rattle.operator.specs.Meters.{meterCount}
 use Rattle.protocol.specs.declared.Phase.{Phase}
 use Rattle.protocol.specs.declared.Phase.the-variants as Phase
 use Rattle.protocol.specs.Node.{Line}
 use Rattle.store.specs.Sizes.{readingsPerLine}
 use Rattle.node.specs.Sizes.{resultsPerBucket, lastBucket}
-use Rattle.operator.specs.Bounds.{countLimit, sumOk, meterOk}
-use Rattle.operator.proofs.Meters.{Counted}
-use Rattle.columns.specs.Shape.{rises, isReadingKind}
+use Rattle.operator_meter.specs.Bounds.{countLimit, sumOk, meterOk}
+use Rattle.operator_meter.proofs.Bounds.{Counted}
+use Rattle.store_columns.specs.Shape.{rises, isReadingKind}
 use Rattle.node.specs.View.{Lent, view}
 use Rattle.retransmission.specs.Sizes.{heldResults}
 use Rattle.node.specs.Shape.{readingOk, idsRise, headOk, keptOk, phaseOk, bucketsOk, numbersOk, displayOk, displaysOk, sentOk, stateInShape, inShape}

@@ -1,5 +1,5 @@
 -- A bucket's work on an operator: its meters' counts stay below 2,048 for each bucket of the window so far, its number rises by at most
--- 64, and the buckets that can be worked are few, since their times fit 32 bits. Assumes nothing.
+-- 64, and the buckets that can be worked are few, since their times fit 32 bits.
 use Prim.Native.Nat.{ℕ, suc, _+_, _*_, _%_, _≤_, _<_, _^_}
 use mathlib.Core.Path.{_≡_, refl, _∙_, ap}
 use mathlib.Core.Bool.{true, false, cond}
@@ -16,15 +16,17 @@ use Rattle.settings.specs.Limits.{maxLines, minBucket}
 use Rattle.store.specs.Lists.{Every}
 use Rattle.store.specs.Order.{Placed}
 use Rattle.store.proofs.Pairs.{every-to}
-use Rattle.operator.specs.declared.Meter.{Meter}
+use Rattle.operator_meter.specs.declared.Meter.{Meter}
 use Rattle.operator.specs.declared.Operator.{Operator}
-use Rattle.operator.specs.Meters.{meterCount, noMeter, clear, addAll}
+use Rattle.operator_meter.specs.Values.{noMeter}
+use Rattle.operator.specs.Meters.{meterCount, clear, addAll}
 use Rattle.operator.specs.Work.{close, work}
 use Rattle.operator.proofs.Closing.{work-number}
 use Rattle.store.specs.Sizes.{readingsPerLine}
 use Rattle.node.specs.Sizes.{resultsPerBucket, lastBucket}
 use Rattle.node.proofs.Lists.{every-replicate}
-use Rattle.operator.proofs.Meters.{ValueFits, Counted, no-counted, counted-addAll}
+use Rattle.operator_meter.proofs.Bounds.{Counted, no-counted}
+use Rattle.operator.proofs.Meters.{ValueFits, counted-addAll}
 use Rattle.node.proofs.Fits.{OperatorFits}
 use Rattle.node.proofs.Results.{length-work}
 
@@ -74,7 +76,9 @@ work-counted s kind j rs o some values few h =
 
 -- ---- numbers
 
-pub work-few : (s : Settings) (kind j : ℕ) (rs : List Placed) (o : Operator) → OperatorFits o → work s kind j rs o .operator .number ≤ o .number + resultsPerBucket
+pub work-few :
+    (s : Settings) (kind j : ℕ) (rs : List Placed) (o : Operator) → OperatorFits o →
+    work s kind j rs o .operator .number ≤ o .number + resultsPerBucket
 work-few s kind j rs o fits = omega (arith, work-number s kind j rs o, length-work s kind j rs o (fits .meters))
 
 pub work-onwards : (s : Settings) (kind j : ℕ) (rs : List Placed) (o : Operator) → o .number ≤ work s kind j rs o .operator .number

@@ -1,25 +1,29 @@
 -- The plain table of specs/Plain.antt gives the statement: with proofs/Plain.antt the two are one statement in two texts, and neither can
--- be weakened without the other. Assumes nothing.
+-- be weakened without the other.
 use Prim.Native.Nat.{ℕ, _+_, _≤_}
 use mathlib.Core.Path.{_≡_, refl, sym, _∙_, ap, ap₂, subst}
 use mathlib.Core.Bool.{true, false}
 use mathlib.Core.List.{List, [], _∷_, _++_, map, map-map}
 use borrow.Author.Tests.{ne-eqb}
+use Rattle.record.specs.declared.Record.{Record}
+use Rattle.record.specs.declared.Decoded.the-variants as Decoded
+use Rattle.record.specs.Decoded.{decoded}
 use Rattle.record.specs.Layout.{bytesOf}
 use Rattle.record.specs.Kinds.{isTentative}
 use Rattle.store.specs.declared.Reading.{Reading}
 use Rattle.store.specs.Lists.{Every}
-use Rattle.protocol.specs.Kinds.{uses, isStep}
+use Rattle.store.proofs.Pairs.{every-to, every-both, every-keep, every-mapped}
 use Rattle.protocol.specs.Monitor.{stableBuckets}
 use Rattle.protocol.specs.FailureFree.{withoutArrival, failureFree}
 use Rattle.protocol.specs.Undos.{applied, struck, stableRecords, doneDue}
 use Rattle.node.specs.Calls.{calledOn}
 use Rattle.consistency.specs.Runs.{Box, Input, called, areaOf, left, leftAfter, recordIn}
 use Rattle.consistency.specs.Accounts.{Account, sentIn}
-use Rattle.consistency.specs.Demand.{Handed, opening, isOpened, boxOf, settingsIn, failureFreeBytes, remaining}
-use Rattle.consistency.specs.Demand.{Steps, Unchanged, Demand3}
-use Rattle.consistency.specs.Plain.{Run, settingsOn, runOf, readsAsStep, onlySteps, acceptedOf, sentAs, sentOn, owed}
-use Rattle.consistency.specs.Plain.{LeftAlone, Neither3Nor4, Plain}
+use Rattle.consistency.specs.Demand.{Handed, opening, isOpened, boxOf, settingsIn, remaining}
+use Rattle.consistency.specs.Demand.{failureFreeRecords, failureFreeBytes, Steps, Unchanged, Demand3}
+use Rattle.consistency.specs.Plain.{Run, settingsOn, runOf, isP, readsAsStep, onlySteps, acceptedOf, sentAs, sentOn}
+use Rattle.consistency.specs.Plain.{resultsOn, owed, HasForm, HasRoom, LeftAlone, Neither3Nor4, Plain}
+use Rattle.consistency.proofs.Forms.{form-read, room-back}
 use Rattle.consistency.proofs.Plain.{boxOn, accountOn, opened-left, opened-account, opened-bytes}
 use Rattle.consistency.proofs.Plain.{opened-remaining, opened-boundaries}
 
@@ -27,7 +31,7 @@ use Rattle.consistency.proofs.Plain.{opened-remaining, opened-boundarie
 pub steps-count :
     {b : Box} {n : ℕ} {is : List Input} → Steps b n is →
     (onlySteps (b .state) (b .lent) is ≡ true) × (acceptedOf (b .state) (b .lent) is ≡ n)
-unfolding onlySteps acceptedOf readsAsStep isStep uses called left
+unfolding onlySteps acceptedOf readsAsStep isP called left
 steps-count Steps.rest = (refl, refl)
 steps-count (Steps.step text area k read kind accepted more) =
     let rest = steps-count more in (rw (accepted, read, kind, rest .0), rw (accepted, rest .1))
@@ -71,11 +75,12 @@ in-shape p h e is i =
     neither (Input.fetch display from area) = p .inShapeToFetch (h .state) (h .lent) (h .text) e is display from area
 
 pub stated : Plain → Demand3
-unfolding isOpened opening settingsIn settingsOn failureFreeBytes owed stableBuckets Unchanged called left
+unfolding isOpened opening settingsIn settingsOn failureFreeRecords failureFreeBytes resultsOn owed stableRecords stableBuckets Unchanged called left
 stated p =
     record {
       clean = λ h e is.
           let s = settingsIn h in
+          let y = runOf (h .state) (h .lent) (h .text) is in
           let c = p .clean (h .state) (h .lent) (h .text) e is in
           let account = opened-account (h .state) (h .lent) (h .text) is in
           let bytes = opened-bytes (h .state) (h .lent) (h .text) is in
@@ -91,6 +96,16 @@ stated p =
             asTheyCame =
                 ap (stableRecords recordIn) bytes ∙ c .stables ∙
                 ap (λ (a : Account). map bytesOf (failureFree s (a .stables) (a .monitor .d) .records)) (sym account);
+            allRecords =
+                subst (Every (λ (b : List ℕ). decoded b ≡ Decoded.Is (recordIn b))) (sym bytes) (every-to (y .bytes) form-read (c .forms));
+            uncut =
+                subst
+                (λ (a : Account). Every (λ (r : Record). recordIn (bytesOf r) ≡ r) (failureFree s (a .stables) (a .monitor .d) .records))
+                (sym account)
+                (every-to (resultsOn s y) room-back
+                (every-both (λ (r : Record). HasForm (bytesOf r)) HasRoom (resultsOn s y)
+                (every-mapped bytesOf HasForm (resultsOn s y) (subst (Every HasForm) (c .stables) (every-keep HasForm _ (y .bytes) (c .forms))))
+                (c .rooms)));
             worked = subst (λ (a : Account). a .monitor .d ≤ stableBuckets s (a .monitor)) (sym account) (c .noneAhead);
           };
       replicas = λ h g eh eg same is js sent boundaries none-h none-g.

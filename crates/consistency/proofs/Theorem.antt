@@ -1,5 +1,5 @@
 -- Demand 3: the theorem. What holds of a run on the meaning, of its account and of its records, holds of a list of calls, of its account
--- and of the bytes of its records. Assumes nothing.
+-- and of the bytes of its records.
 use Prim.Native.Nat.{ℕ, _≤_}
 use mathlib.Core.Path.{_≡_, refl, sym, _∙_, ap, subst}
 use mathlib.Core.Bool.{true, false, cond}
@@ -7,6 +7,9 @@ use lib.Dec.{eqb}
 use mathlib.Core.List.{List, [], _∷_, _++_, map, map-append}
 use native.Mathlib.Omega.{arith}
 use Rattle.settings.specs.declared.Settings.{Settings}
+use Rattle.record.specs.declared.Record.{Record}
+use Rattle.record.specs.declared.Decoded.the-variants as Decoded
+use Rattle.record.specs.Decoded.{decoded}
 use Rattle.record.specs.Layout.{bytesOf}
 use Rattle.record.specs.Kinds.{isTentative}
 use Rattle.store.specs.Lists.{Every}
@@ -24,18 +27,19 @@ use Rattle.node.proofs.Calls.{accepted-call}
 use Rattle.consistency.specs.Runs.{Box, Input, called, left, leftAfter, recordIn}
 use Rattle.consistency.specs.Accounts.{Account, sentIn, boundariesIn}
 use Rattle.consistency.specs.Demand.{Handed, isOpened, boxOf, settingsIn, accountOf, outputOf, remaining, Clean, Steps, Demand3}
-use Rattle.store.proofs.Pairs.{every-right}
+use Rattle.store.proofs.Pairs.{every-to, every-right, every-keep, every-map}
 use Rattle.node.proofs.Records.{Decodes}
-use Rattle.consistency.proofs.Undos.{every-applied, every-struck, applied-bytesOf, struck-bytesOf, stableRecords-bytesOf, doneDue-bytesOf, tentative-bytesOf}
+use Rattle.consistency.proofs.Undos.{recordIn-bytesOf, is-record, every-applied, every-struck, applied-bytesOf, struck-bytesOf}
+use Rattle.consistency.proofs.Undos.{stableRecords-bytesOf, doneDue-bytesOf, tentative-bytesOf}
 use Rattle.consistency.proofs.Runs.{Stands, accountIn, eventOf, eventsOf, event-accepted, refused-event, fetch-did, input-did, runs}
-use Rattle.consistency.proofs.Opened.{box-stands, some-bucket, some-lines, traceOf, Mirrors, mirrors, free-bytes}
+use Rattle.consistency.proofs.Opened.{box-stands, some-bucket, some-lines, traceOf, Mirrors, mirrors, free-records, free-bytes}
 use Rattle.consistency.proofs.Refused.{refused}
 use Rattle.consistency.proofs.ShapedRuns.{in-shape}
 
 -- ---- 1 and 2
 
 clean : (h : Handed) → isOpened h → (is : List Input) → Clean h is
-unfolding accountIn
+unfolding accountIn stableRecords
 clean h e is =
     let s = settingsIn h in
     let t = traceOf s h is in
@@ -59,6 +63,12 @@ clean h e is =
           (tentative-bytesOf (struck itself [] (t .output)) (every-struck Decodes [] (t .output) tt (m .decode)) (c .neverStruck));
       asTheyCame =
           ap (stableRecords recordIn) (m .laid) ∙ stableRecords-bytesOf (t .output) (m .decode) ∙ ap (map bytesOf) (c .asTheyCame) ∙ sym free;
+      allRecords =
+          subst (Every (λ (b : List ℕ). decoded b ≡ Decoded.Is (recordIn b))) (sym (m .laid))
+          (every-map bytesOf (λ (b : List ℕ). decoded b ≡ Decoded.Is (recordIn b)) (t .output) (every-to (t .output) is-record (m .decode)));
+      uncut =
+          subst (Every (λ (r : Record). recordIn (bytesOf r) ≡ r)) (sym (free-records h is m))
+          (every-to (stableResults s t) recordIn-bytesOf (subst (Every Decodes) (c .asTheyCame) (every-keep Decodes _ (t .output) (m .decode))));
       worked = subst (λ (a : Account). a .monitor .d ≤ stableBuckets s (a .monitor)) (sym (m .account)) (c .worked);
     }
 
@@ -94,21 +104,21 @@ replicas h g eh eg same is js same-sent same-boundaries none-h none-g =
 -- an acknowledgement between steps
 acknowledged-steps :
     (s : Settings) {n : ℕ} (t : Trace) (b : Box) (display id : ℕ) (area : List ℕ) (u : Trace) →
-    meaning.Steps s (next s t (eventOf b (Input.acknowledge display id area))) n u → meaning.Steps s t n u
+    meaning.TraceSteps s (next s t (eventOf b (Input.acknowledge display id area))) n u → meaning.TraceSteps s t n u
 unfolding eventOf next
 acknowledged-steps s {n} t b display id area u steps =
     (elim (eqb (acknowledgedOn (b .state) (b .lent) display id area .answer) 0) as
     (λ wasAccepted.
-    meaning.Steps s (next s t (cond wasAccepted (Event.acknowledge display id) Event.turnedAway)) n u → meaning.Steps s t n u) [
-      | true ↦ λ q. meaning.Steps.aside display id q
+    meaning.TraceSteps s (next s t (cond wasAccepted (Event.acknowledge display id) Event.turnedAway)) n u → meaning.TraceSteps s t n u) [
+      | true ↦ λ q. meaning.TraceSteps.aside display id q
       | false ↦ λ q. q
     ])
     steps
 
 fetched-steps :
     (s : Settings) {n : ℕ} (t : Trace) (b : Box) (display from : ℕ) (area : List ℕ) (is : List Input) →
-    meaning.Steps s t n (after s t (eventsOf (left b (Input.fetch display from area)) is)) →
-    meaning.Steps s t n
+    meaning.TraceSteps s t n (after s t (eventsOf (left b (Input.fetch display from area)) is)) →
+    meaning.TraceSteps s t n
     (after s (next s t (eventOf b (Input.fetch display from area))) (eventsOf (left b (Input.fetch display from area)) is))
 unfolding eventOf next
 fetched-steps s t b display from area is q = q
@@ -116,9 +126,9 @@ fetched-steps s t b display from area is q = q
 -- steps on the box are steps on the meaning
 steps-follow :
     (s : Settings) {b : Box} {n : ℕ} {js : List Input} (t : Trace) → Stands s (b .state) (b .lent) (t .node) →
-    Steps b n js → meaning.Steps s t n (after s t (eventsOf b js))
+    Steps b n js → meaning.TraceSteps s t n (after s t (eventsOf b js))
 unfolding after eventsOf called next
-steps-follow s t stands Steps.rest = meaning.Steps.rest
+steps-follow s t stands Steps.rest = meaning.TraceSteps.rest
 steps-follow s {b} t stands (Steps.step {n = n} {is = is} text area k read kind accepted more) =
     let st = b .state in
     let x = b .lent in
@@ -130,13 +140,13 @@ steps-follow s {b} t stands (Steps.step {n = n} {is = is} text area k read kind 
     ap (λ (z : Node). answerTo (st .settings) z k) (sym (stands .is)) ∙
     ap (answerTo (st .settings) (view st (x .readings))) (sym same) ∙ v .answered in
     let rest = steps-follow s (next s t (eventOf b i)) (input-did s t b i stands .stands) more in
-    meaning.Steps.step k kind answered
-    (subst (λ (z : Event). meaning.Steps s (next s t z) n (after s (next s t (eventOf b i)) (eventsOf (left b i) is)))
+    meaning.TraceSteps.step k kind answered
+    (subst (λ (z : Event). meaning.TraceSteps s (next s t z) n (after s (next s t (eventOf b i)) (eventsOf (left b i) is)))
     (event-accepted b text area k read accepted) rest)
 steps-follow s {b} {n} t stands (Steps.refused {is = is} i wasRefused more) =
     let away = refused-event b i wasRefused in
     let same : Stands s (left b i .state) (left b i .lent) (t .node) = rw away at (input-did s t b i stands .stands) in
-    subst (λ (z : Event). meaning.Steps s t n (after s (next s t z) (eventsOf (left b i) is))) (sym away)
+    subst (λ (z : Event). meaning.TraceSteps s t n (after s (next s t z) (eventsOf (left b i) is))) (sym away)
     (steps-follow s t same more)
 steps-follow s {b} {n} t stands (Steps.acknowledge {is = is} display id area more) =
     let i = Input.acknowledge display id area in

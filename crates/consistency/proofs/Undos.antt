@@ -1,5 +1,5 @@
 -- Undos applied to records in bytes are undos applied to the records, where every record's bytes are read back as the record: every
--- test has the same value on both sides. Assumes nothing.
+-- test has the same value on both sides.
 use Prim.Native.Nat.{ℕ}
 use mathlib.Core.Path.{_≡_, refl, sym, _∙_, ap, ap₂}
 use mathlib.Core.Bool.{Bool, true, false, cond, not}
@@ -7,6 +7,8 @@ use mathlib.Core.List.{List, [], _∷_, _++_, map, map-append}
 use lib.Dec.{leb, eqb}
 use Rattle.journal.specs.Kinds.{letterU, letterR}
 use Rattle.record.specs.declared.Record.{Record}
+use Rattle.record.specs.declared.Decoded.the-variants as Decoded
+use Rattle.record.specs.Decoded.{decoded}
 use Rattle.record.specs.Kinds.{isResult, isStable, isTentative}
 use Rattle.record.specs.Layout.{bytesOf}
 use Rattle.store.specs.Lists.{Every, keep}
@@ -17,9 +19,12 @@ use Rattle.protocol.specs.Demand.{itself}
 use Rattle.consistency.specs.Runs.{readAs, recordIn}
 use Rattle.node.proofs.Records.{Decodes}
 
-recordIn-bytesOf : (r : Record) → Decodes r → recordIn (bytesOf r) ≡ r
+pub recordIn-bytesOf : (r : Record) → Decodes r → recordIn (bytesOf r) ≡ r
 unfolding recordIn readAs
 recordIn-bytesOf r d = ap readAs d
+
+pub is-record : (r : Record) → Decodes r → decoded (bytesOf r) ≡ Decoded.Is (recordIn (bytesOf r))
+is-record r d = d ∙ ap Decoded.Is (sym (recordIn-bytesOf r d))
 
 pub records-read : (rs : List Record) → Every Decodes rs → map recordIn (map bytesOf rs) ≡ rs
 records-read [] h = refl
@@ -52,12 +57,16 @@ every-applied law acc [] h k = h
 every-applied law acc (r ∷ rs) h k = every-applied law (applyOne itself acc r) rs (every-applyOne law acc r h (k .0)) (k .1)
 
 -- a test on ids
-keep-ids : (test : ℕ → Bool) (acc : List Record) → Every Decodes acc → keep (λ (x : List ℕ). test (recordIn x .id)) (map bytesOf acc) ≡ map bytesOf (keep (λ (x : Record). test (x .id)) acc)
+keep-ids :
+    (test : ℕ → Bool) (acc : List Record) → Every Decodes acc →
+    keep (λ (x : List ℕ). test (recordIn x .id)) (map bytesOf acc) ≡ map bytesOf (keep (λ (x : Record). test (x .id)) acc)
 keep-ids test acc h =
     keep-through bytesOf (λ (x : Record). test (x .id)) (λ (x : List ℕ). test (recordIn x .id)) acc
     (every-to acc (λ (x : Record) (e : Decodes x). ap (λ (q : Record). test (q .id)) (recordIn-bytesOf x e)) h)
 
-applyOne-bytesOf : (acc : List Record) (r : Record) → Every Decodes acc → Decodes r → applyOne recordIn (map bytesOf acc) (bytesOf r) ≡ map bytesOf (applyOne itself acc r)
+applyOne-bytesOf :
+    (acc : List Record) (r : Record) → Every Decodes acc → Decodes r →
+    applyOne recordIn (map bytesOf acc) (bytesOf r) ≡ map bytesOf (applyOne itself acc r)
 unfolding applyOne
 applyOne-bytesOf acc r h d =
     let kept = keep (λ (x : Record). leb (x .id) (r .id)) acc in
@@ -69,7 +78,9 @@ applyOne-bytesOf acc r h d =
     (cond-through (map bytesOf) (eqb (r .kind) letterU) kept acc bytesKept (map bytesOf acc)
     (keep-ids (λ (n : ℕ). leb n (r .id)) acc h) refl))
 
-pub applied-bytesOf : (acc rs : List Record) → Every Decodes acc → Every Decodes rs → applied recordIn (map bytesOf acc) (map bytesOf rs) ≡ map bytesOf (applied itself acc rs)
+pub applied-bytesOf :
+    (acc rs : List Record) → Every Decodes acc → Every Decodes rs →
+    applied recordIn (map bytesOf acc) (map bytesOf rs) ≡ map bytesOf (applied itself acc rs)
 unfolding applied
 applied-bytesOf acc [] h k = refl
 applied-bytesOf acc (r ∷ rs) h k =
@@ -78,7 +89,9 @@ applied-bytesOf acc (r ∷ rs) h k =
 
 -- ---- what they strike
 
-struckByOne-bytesOf : (acc : List Record) (r : Record) → Every Decodes acc → Decodes r → struckByOne recordIn (map bytesOf acc) (bytesOf r) ≡ map bytesOf (struckByOne itself acc r)
+struckByOne-bytesOf :
+    (acc : List Record) (r : Record) → Every Decodes acc → Decodes r →
+    struckByOne recordIn (map bytesOf acc) (bytesOf r) ≡ map bytesOf (struckByOne itself acc r)
 unfolding struckByOne
 struckByOne-bytesOf acc r h d =
     rw (recordIn-bytesOf r d)
@@ -86,7 +99,9 @@ struckByOne-bytesOf acc r h d =
     (keep (λ (x : List ℕ). not (leb (recordIn x .id) (r .id))) (map bytesOf acc)) []
     (keep-ids (λ (n : ℕ). not (leb n (r .id))) acc h) refl)
 
-pub struck-bytesOf : (acc rs : List Record) → Every Decodes acc → Every Decodes rs → struck recordIn (map bytesOf acc) (map bytesOf rs) ≡ map bytesOf (struck itself acc rs)
+pub struck-bytesOf :
+    (acc rs : List Record) → Every Decodes acc → Every Decodes rs →
+    struck recordIn (map bytesOf acc) (map bytesOf rs) ≡ map bytesOf (struck itself acc rs)
 unfolding struck
 struck-bytesOf acc [] h k = refl
 struck-bytesOf acc (r ∷ rs) h k =
@@ -109,7 +124,8 @@ every-struck law acc (r ∷ rs) h k =
 
 -- ---- the stable records, an R that is due, tentative kinds
 
-pub stableRecords-bytesOf : (rs : List Record) → Every Decodes rs → stableRecords recordIn (map bytesOf rs) ≡ map bytesOf (stableRecords itself rs)
+pub stableRecords-bytesOf :
+    (rs : List Record) → Every Decodes rs → stableRecords recordIn (map bytesOf rs) ≡ map bytesOf (stableRecords itself rs)
 unfolding stableRecords
 stableRecords-bytesOf rs h =
     keep-through bytesOf (λ (r : Record). isStable (r .kind)) (λ (b : List ℕ). isStable (recordIn b .kind)) rs
@@ -122,7 +138,9 @@ doneDue-bytesOf due (r ∷ rs) h =
     ap (λ (q : Record). doneDue recordIn (cond (eqb (q .kind) letterU) true (cond (eqb (q .kind) letterR) false due)) (map bytesOf rs)) (recordIn-bytesOf r (h .0)) ∙
     doneDue-bytesOf (cond (eqb (r .kind) letterU) true (cond (eqb (r .kind) letterR) false due)) rs (h .1)
 
-pub tentative-bytesOf : (rs : List Record) → Every Decodes rs → Every (λ (r : Record). isTentative (r .kind) ≡ true) rs → Every (λ (b : List ℕ). isTentative (recordIn b .kind) ≡ true) (map bytesOf rs)
+pub tentative-bytesOf :
+    (rs : List Record) → Every Decodes rs → Every (λ (r : Record). isTentative (r .kind) ≡ true) rs →
+    Every (λ (b : List ℕ). isTentative (recordIn b .kind) ≡ true) (map bytesOf rs)
 tentative-bytesOf [] h k = tt
 tentative-bytesOf (r ∷ rs) h k =
     (ap (λ (q : Record). isTentative (q .kind)) (recordIn-bytesOf r (h .0)) ∙ k .0, tentative-bytesOf rs (h .1) (k .1))

@@ -1,11 +1,12 @@
 -- What a list of calls is measured against, from the texts' fields and whether each call was accepted, and from nothing else: the monitor,
 -- which is document 01's day book, the accepted stable readings (section 'From the opening on'), and what each display has acknowledged
--- (document 02, W2). Assumes nothing.
+-- (document 02, W2).
 use Prim.Native.Nat.{ℕ}
 use mathlib.Core.Bool.{Bool}
 use mathlib.Core.List.{List, [], _∷_, map}
 use lib.Dec.{eqb}
 use lib.ListN.{replicate}
+use Rattle.clock.specs.declared.ReadingTime.{ReadingTime}
 use Rattle.settings.specs.declared.Settings.{Settings}
 use Rattle.journal.specs.declared.CallRead.{CallRead}
 use Rattle.journal.specs.declared.CallRead.the-variants as CallRead
@@ -55,5 +56,5 @@ unfoldable pub sentIn : Account → List (List Reading)
 sentIn a = map (map withoutArrival) (a .stables)
 
 -- each line's greatest boundary
-unfoldable pub boundariesIn : Account → List ℕ
+unfoldable pub boundariesIn : Account → List ReadingTime
 boundariesIn a = map (λ (g : LineMonitor). g .boundary) (a .monitor .lines)

@@ -1,5 +1,5 @@
 -- Document 02, W11: the heat balance, meter by meter. What was sent in is what was paid, what the window open at the checkpoint holds, and
--- what is still kept. The statement, over the lists of demand 3. Assumes nothing.
+-- what is still kept. The statement, over the lists of demand 3.
 use Prim.Native.Nat.{ℕ, _+_, _<_}
 use mathlib.Core.Path.{_≡_}
 use mathlib.Core.Bool.{Bool, _&&_}
@@ -12,8 +12,9 @@ use Rattle.journal.specs.Kinds.{letterS}
 use Rattle.record.specs.declared.Record.{Record}
 use Rattle.store.specs.declared.Reading.{Reading}
 use Rattle.store.specs.Lists.{keep}
-use Rattle.operator.specs.declared.Meter.{Meter}
-use Rattle.operator.specs.Meters.{meterCount, noMeter, isCounted}
+use Rattle.operator_meter.specs.declared.Meter.{Meter}
+use Rattle.operator_meter.specs.Values.{noMeter, isCounted}
+use Rattle.operator.specs.Meters.{meterCount}
 use Rattle.protocol.specs.Node.{keptOf}
 use Rattle.node.specs.View.{view}
 use Rattle.consistency.specs.Runs.{Box, Input, leftAfter, recordIn}
@@ -56,7 +57,8 @@ paysFor i r = eqb (r .kind) letterS && eqb (r .meter) i
 unfoldable pub sentHeat : Handed → List Input → ℕ → Heat
 sentHeat h is i = heatOf ofReading (keep (countsFor (settingsIn h) i) (flatten (accountOf h is .stables)))
 
--- paid: the stable results of the output as it came; fetched records are no part of it
+-- paid: the stable results of the output as it came, every piece of which is a record (`Clean` in Demand.antt); fetched records are no part
+-- of it
 unfoldable pub paidHeat : Handed → List Input → ℕ → Heat
 paidHeat h is i = heatOf ofResult (keep (paysFor i) (map recordIn (outputOf h is)))
 

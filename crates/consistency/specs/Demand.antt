@@ -1,4 +1,4 @@
--- Demand 3: the statement. It speaks of texts and areas, states and stores, and of bytes. Assumes nothing.
+-- Demand 3: the statement. It speaks of texts and areas, states and stores, and of bytes.
 use Prim.Native.Nat.{ℕ, zero, suc, _+_, _≤_}
 use mathlib.Core.Path.{_≡_}
 use mathlib.Core.Bool.{true, false}
@@ -7,8 +7,11 @@ use Rattle.settings.specs.declared.Settings.{Settings}
 use Rattle.journal.specs.declared.Call.{Call}
 use Rattle.journal.specs.declared.CallRead.the-variants as CallRead
 use Rattle.journal.specs.ReadLine.{callOf}
+use Rattle.record.specs.declared.Record.{Record}
+use Rattle.record.specs.declared.Decoded.the-variants as Decoded
 use Rattle.record.specs.Layout.{bytesOf}
 use Rattle.record.specs.Kinds.{isTentative}
+use Rattle.record.specs.Decoded.{decoded}
 use Rattle.store.specs.Lists.{Every}
 use Rattle.protocol.specs.Kinds.{Kind, kindOf}
 use Rattle.protocol.specs.Monitor.{stableBuckets, leftToWork}
@@ -45,23 +48,28 @@ accountOf h is = accountAfter (settingsIn h) (emptyAccount (settingsIn h)) (boxO
 unfoldable pub outputOf : Handed → List Input → List (List ℕ)
 outputOf h is = output (boxOf h) is
 
--- what the producers should be paid from: the failure-free results, in bytes
+-- what the producers should be paid from: the failure-free results, and their bytes
+unfoldable pub failureFreeRecords : Handed → List Input → List Record
+failureFreeRecords h is = failureFree (settingsIn h) (accountOf h is .stables) (accountOf h is .monitor .d) .records
+
 unfoldable pub failureFreeBytes : Handed → List Input → List (List ℕ)
-failureFreeBytes h is =
-    map bytesOf (failureFree (settingsIn h) (accountOf h is .stables) (accountOf h is .monitor .d) .records)
+failureFreeBytes h is = map bytesOf (failureFreeRecords h is)
 
 -- the stable buckets left to work
 unfoldable pub remaining : Handed → List Input → ℕ
 remaining h is = leftToWork (settingsIn h) (accountOf h is .monitor)
 
 -- clauses 1 and 2: with its undos applied the output is the failure-free results, and then tentative ones; only tentative ones were
--- struck; the stable records as they came are the failure-free results; no more buckets were worked than are stable
+-- struck; the stable records as they came are the failure-free results; every piece of the output is a record; no number of a failure-free
+-- result is cut to its width; no more buckets were worked than are stable
 pub record Clean (h : Handed) (is : List Input) : Type 0 where
   pub tentative : List (List ℕ)
   pub undone : applied recordIn [] (outputOf h is) ≡ failureFreeBytes h is ++ tentative
   pub allTentative : Every (λ (b : List ℕ). isTentative (recordIn b .kind) ≡ true) tentative
   pub neverStruck : Every (λ (b : List ℕ). isTentative (recordIn b .kind) ≡ true) (struck recordIn [] (outputOf h is))
   pub asTheyCame : stableRecords recordIn (outputOf h is) ≡ failureFreeBytes h is
+  pub allRecords : Every (λ (b : List ℕ). decoded b ≡ Decoded.Is (recordIn b)) (outputOf h is)
+  pub uncut : Every (λ (r : Record). recordIn (bytesOf r) ≡ r) (failureFreeRecords h is)
   pub worked : accountOf h is .monitor .d ≤ stableBuckets (settingsIn h) (accountOf h is .monitor)
 
 -- so many accepted steps, and between them nothing but refused calls and the displays'; texts, clocks, ids and areas are anything

@@ -1,5 +1,5 @@
 -- Document 02, W4: how many steps it takes until every stable bucket is worked and the box is not correcting. The statement, over the lists
--- of demand 3. Assumes nothing.
+-- of demand 3.
 use Prim.Native.Nat.{ℕ, _≤_}
 use mathlib.Core.Path.{_≡_}
 use mathlib.Core.Bool.{false}

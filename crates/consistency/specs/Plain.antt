@@ -1,23 +1,25 @@
 -- Demand 3 once more, in other words, to test the statement: states, stores, texts and areas as they are handed over, one record for all
 -- that a list of calls leaves, and every condition and conclusion written out, for each of the three calls by itself. Whatever weakens a
--- clause of Demand.antt, a condition more or a conclusion less, no longer gives this table. Assumes nothing.
-use Prim.Native.Nat.{ℕ, zero, suc, _+_, _-_, _/_, _≤_}
+-- clause of Demand.antt, a condition more or a conclusion less, no longer gives this table.
+use Prim.Native.Nat.{ℕ, zero, suc, _+_, _-_, _/_, _^_, _≤_, _<_}
 use mathlib.Core.Path.{_≡_}
 use mathlib.Core.Bool.{Bool, true, false, cond, _&&_}
 use mathlib.Core.List.{List, [], _∷_, _++_, map}
 use lib.Dec.{eqb}
 use lib.IntN.{ℤ}
-use lib.ListN.{take, drop, replicate}
+use lib.ListN.{length, getD, take, drop, replicate}
+use lib.Signed.{mag}
 use Rattle.clock.specs.declared.ReadingTime.{ReadingTime}
 use Rattle.settings.specs.declared.Settings.{Settings}
 use Rattle.journal.specs.declared.CallRead.{CallRead}
 use Rattle.journal.specs.declared.CallRead.the-variants as CallRead
 use Rattle.journal.specs.ReadLine.{callOf}
+use Rattle.record.specs.declared.Record.{Record}
 use Rattle.record.specs.Layout.{bytesOf}
-use Rattle.record.specs.Kinds.{isTentative}
+use Rattle.record.specs.Kinds.{isTentative, isRecord}
 use Rattle.store.specs.declared.Reading.{Reading}
 use Rattle.store.specs.Lists.{Every}
-use Rattle.protocol.specs.Kinds.{kindOf, isStep}
+use Rattle.protocol.specs.Kinds.{Kind, kindOf}
 use Rattle.protocol.specs.Monitor.{LineMonitor, Monitor, freshMonitor, observe, leastBoundary}
 use Rattle.protocol.specs.FailureFree.{stableAfter, failureFree}
 use Rattle.protocol.specs.Undos.{applied, struck, stableRecords, doneDue}
@@ -93,8 +95,17 @@ runOf st x text is = continued (settingsOn st x text) (begun st x text) is
 
 -- ---- steps
 
+-- of the six kinds only P is a step
+unfoldable pub isP : Kind → Bool
+isP Kind.S = false
+isP Kind.T = false
+isP Kind.B = false
+isP Kind.U = false
+isP Kind.R = false
+isP Kind.P = true
+
 unfoldable pub readsAsStep : CallRead → Bool
-readsAsStep (CallRead.Accepted k) = isStep (kindOf (k .kind))
+readsAsStep (CallRead.Accepted k) = isP (kindOf (k .kind))
 readsAsStep CallRead.Malformed = false
 
 -- whether every journal call is refused or a step; a display's call may stand anywhere, accepted or not
@@ -139,7 +150,7 @@ sentAs r = record { id = r .id; time = r .time; value = r .value; kind = r .kind
 unfoldable pub sentOn : Run → List (List Sent)
 sentOn y = map (map sentAs) (y .stables)
 
-unfoldable pub boundariesOn : Run → List ℕ
+unfoldable pub boundariesOn : Run → List ReadingTime
 boundariesOn y = map (λ (g : LineMonitor). g .boundary) (y .monitor .lines)
 
 -- ---- the table
@@ -148,9 +159,29 @@ boundariesOn y = map (λ (g : LineMonitor). g .boundary) (y .monitor .lines)
 unfoldable pub leftOn : Settings → Run → ℕ
 leftOn s y = leastBoundary (y .monitor .lines) / s .bucket - y .monitor .d
 
--- the failure-free results, in bytes
+-- the failure-free results, and their bytes
+unfoldable pub resultsOn : Settings → Run → List Record
+resultsOn s y = failureFree s (y .stables) (y .monitor .d) .records
+
 unfoldable pub owed : Settings → Run → List (List ℕ)
-owed s y = map bytesOf (failureFree s (y .stables) (y .monitor .d) .records)
+owed s y = map bytesOf (resultsOn s y)
+
+-- a record's form: 32 bytes, the first a letter of a record, the third and fourth zero
+pub record HasForm (b : List ℕ) : Type 0 where
+  pub size : length b ≡ 32
+  pub letter : isRecord (getD b 0 0) ≡ true
+  pub third : getD b 2 0 ≡ 0
+  pub fourth : getD b 3 0 ≡ 0
+
+-- every number has room in the bytes that a record has for it (a signed number's `mag` is n for n and for -(n + 1)); letter and meter are a
+-- byte each, as they are
+pub record HasRoom (r : Record) : Type 0 where
+  pub id : r .id < 2 ^ 32
+  pub time : r .time .0 < 2 ^ 32
+  pub count : r .count < 2 ^ 32
+  pub sum : mag (r .sum) < 2 ^ 63
+  pub mean : mag (r .mean) < 2 ^ 31
+  pub last : mag (r .last) < 2 ^ 31
 
 pub record CleanOn (s : Settings) (y : Run) : Type 0 where
   pub rest : List (List ℕ)
@@ -158,6 +189,8 @@ pub record CleanOn (s : Settings) (y : Run) : Type 0 where
   pub restTentative : Every (λ (b : List ℕ). isTentative (recordIn b .kind) ≡ true) rest
   pub struckTentative : Every (λ (b : List ℕ). isTentative (recordIn b .kind) ≡ true) (struck recordIn [] (y .bytes))
   pub stables : stableRecords recordIn (y .bytes) ≡ owed s y
+  pub forms : Every HasForm (y .bytes)
+  pub rooms : Every HasRoom (resultsOn s y)
   pub noneAhead : y .monitor .d ≤ leastBoundary (y .monitor .lines) / s .bucket
 
 -- a call that did nothing: state, stores and area are as they were, and there is no record

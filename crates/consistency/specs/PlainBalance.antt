@@ -1,6 +1,6 @@
 -- Document 02, W11 once more, in other words, to test the statement: the values that were sent in, call by call, and those kept, line by
 -- line; what was paid by the bytes at their places, whatever stands beside them; counts and sums each for themselves, over the runs of
--- Plain.antt. Whatever weakens Balance.antt no longer gives this table. Assumes nothing.
+-- Plain.antt. Whatever weakens Balance.antt no longer gives this table.
 use Prim.Native.Nat.{ℕ, _+_, _<_}
 use mathlib.Core.Path.{_≡_}
 use mathlib.Core.Bool.{Bool, cond, _&&_}
@@ -16,8 +16,8 @@ use Rattle.journal.specs.declared.CallRead.the-variants as CallRead
 use Rattle.journal.specs.ReadLine.{callOf}
 use Rattle.record.specs.Fields.{wordAt}
 use Rattle.store.specs.declared.Reading.{Reading}
-use Rattle.operator.specs.declared.Meter.{Meter}
-use Rattle.operator.specs.Meters.{noMeter}
+use Rattle.operator_meter.specs.declared.Meter.{Meter}
+use Rattle.operator_meter.specs.Values.{noMeter}
 use Rattle.protocol.specs.Node.{Line}
 use Rattle.node.specs.declared.State.{State}
 use Rattle.node.specs.View.{Lent, view}

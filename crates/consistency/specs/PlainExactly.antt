@@ -1,6 +1,6 @@
 -- Document 02, W4 once more, in other words, to test the statement: the count by the state's word, k by the heads' boundaries, and too few
 -- steps and enough of them each for itself, over the runs of Plain.antt. Whatever weakens a clause of Exactly.antt no longer gives this
--- table. Assumes nothing.
+-- table.
 use Prim.Native.Nat.{ℕ, zero, suc, _+_, _-_, _/_, _≤_, _<_, min}
 use mathlib.Core.Path.{_≡_}
 use mathlib.Core.Bool.{true}
@@ -37,15 +37,15 @@ stateAfter st x (Input.fetch display from area ∷ is) =
     let r : Called = fetchedOn st x display from area in
     stateAfter (r .state) (r .lent) is
 
-unfoldable pub leastOf : List ℕ → ℕ
-leastOf [] = 0
-leastOf (n ∷ []) = n
-leastOf (n ∷ m ∷ ns) = min n (leastOf (m ∷ ns))
+unfoldable pub lowestOf : List ℕ → ℕ
+lowestOf [] = 0
+lowestOf (n ∷ []) = n
+lowestOf (n ∷ m ∷ ns) = min n (lowestOf (m ∷ ns))
 
 -- the stable buckets that a state has left to work: as many as fit below the boundary of each of its lines, but for c
 unfoldable pub leftBy : State → ℕ
 leftBy st =
-    leastOf (map (λ (h : LineHead). h .boundary .0) (take (st .settings .lines) (st .heads))) / st .settings .bucket - st .c
+    lowestOf (map (λ (h : LineHead). h .boundary .0) (take (st .settings .lines) (st .heads))) / st .settings .bucket - st .c
 
 pub record PlainExactly : Type 0 where
   -- from an opening on: with too few steps a bucket is left, or the box is correcting; with enough neither

@@ -14,7 +14,7 @@ use Rattle.journal.specs.declared.CallRead.the-variants as CallRead
 use Rattle.journal.specs.ReadLine.{callOf}
 use Rattle.record.specs.declared.Record.{Record}
 use Rattle.record.specs.Layout.{allBytes}
-use Rattle.protocol.specs.Kinds.{kindOf, isStep}
+use Rattle.protocol.specs.Kinds.{kindOf}
 use Rattle.protocol.specs.Refusals.{isZero}
 use Rattle.protocol.specs.FailureFree.{failureFree}
 use Rattle.node.specs.declared.State.{State}
@@ -23,7 +23,7 @@ use Rattle.node.specs.Opening.{openedOn}
 use Rattle.node.specs.Calls.{Called, calledOn}
 use Rattle.node.specs.Displays.{acknowledgedOn, fetchedOn}
 use Rattle.consistency.specs.Runs.{Input}
-use Rattle.consistency.specs.Plain.{Run, settingsOn, runOf, leftOn}
+use Rattle.consistency.specs.Plain.{Run, settingsOn, runOf, isP, leftOn, resultsOn}
 
 -- ---- what was acknowledged
 
@@ -51,16 +51,13 @@ wanted (suc d) last n = ltb (last (suc d)) n || wanted d last n
 
 -- ---- the results
 
--- the failure-free results so far, and those when one bucket more is worked
-unfoldable pub results : Settings → Run → List Record
-results s y = failureFree s (y .stables) (y .monitor .d) .records
-
+-- the failure-free results when one bucket more is worked
 unfoldable pub nextResults : Settings → Run → List Record
 nextResults s y = failureFree s (y .stables) (y .monitor .d + 1) .records
 
 -- result n is there, and some display has not acknowledged it
 unfoldable pub held : Settings → Run → (ℕ → ℕ) → ℕ → Bool
-held s y last n = wanted (s .displays) last n && leb n (length (results s y))
+held s y last n = wanted (s .displays) last n && leb n (length (resultsOn s y))
 
 -- ---- answers
 
@@ -72,7 +69,7 @@ answerIf s area display fits =
 -- a step's text with nothing in it but a `now` that is not before the clock
 unfoldable pub isBareStep : ArrivalTick → CallRead → Bool
 isBareStep clock (CallRead.Accepted k) =
-    (isStep (kindOf (k .kind)) && leb (clock .0) (k .now .0)) &&
+    (isP (kindOf (k .kind)) && leb (clock .0) (k .now .0)) &&
     (eqb (k .line) 0 && (eqb (k .id) 0 && (eqb (k .time .0) 0 && (eqb (k .meter) 0 && isZero (k .value)))))
 isBareStep clock CallRead.Malformed = false
 
@@ -88,7 +85,7 @@ isLacking s y last =
 pub record StoreOn (s : Settings) (y : Run) (last : ℕ → ℕ) (lent : List ℕ) : Type 0 where
   pub byte :
       (m i : ℕ) → i < 16384 → held s y last (512 * m + i / 32 + 1) ≡ true →
-      getD (y .lent .sent) i 0 ≡ getD (allBytes (results s y)) (16384 * m + i) 0
+      getD (y .lent .sent) i 0 ≡ getD (allBytes (resultsOn s y)) (16384 * m + i) 0
   pub none : (i : ℕ) → i < 16384 → ((m : ℕ) → held s y last (512 * m + i / 32 + 1) ≡ false) → getD (y .lent .sent) i 0 ≡ 0
   pub behind : (i : ℕ) → 16384 ≤ i → getD (y .lent .sent) i 0 ≡ getD lent i 0
   pub size : length (y .lent .sent) ≡ length lent
@@ -96,24 +93,24 @@ pub record StoreOn (s : Settings) (y : Run) (last : ℕ → ℕ) (lent : List �
 
 -- an accepted fetch: so many records, their bytes, and the rest of the area
 pub record FetchOn (s : Settings) (y : Run) (from : ℕ) (area : List ℕ) (r : Called) : Type 0 where
-  pub records : r .records ≡ min 64 (length (results s y) + 1 - from)
-  pub byte : (i : ℕ) → i < 32 * r .records → getD (r .area) i 0 ≡ getD (allBytes (results s y)) (32 * (from - 1) + i) 0
+  pub records : r .records ≡ min 64 (length (resultsOn s y) + 1 - from)
+  pub byte : (i : ℕ) → i < 32 * r .records → getD (r .area) i 0 ≡ getD (allBytes (resultsOn s y)) (32 * (from - 1) + i) 0
   pub behind : (i : ℕ) → 32 * r .records ≤ i → getD (r .area) i 0 ≡ getD area i 0
   pub size : length (r .area) ≡ length area
 
 -- after some calls, with each display's last id and the send-back store as it was lent to the opening
 pub record SentOn (s : Settings) (y : Run) (last : ℕ → ℕ) (lent : List ℕ) : Type 0 where
   pub store : StoreOn s y last lent
-  pub known : (display : ℕ) → 0 < display → display ≤ s .displays → last display ≤ length (results s y)
-  pub near : (display : ℕ) → 0 < display → display ≤ s .displays → length (results s y) - last display ≤ 512
+  pub known : (display : ℕ) → 0 < display → display ≤ s .displays → last display ≤ length (resultsOn s y)
+  pub near : (display : ℕ) → 0 < display → display ≤ s .displays → length (resultsOn s y) - last display ≤ 512
   pub acknowledges :
       (display id : ℕ) (area : List ℕ) →
       acknowledgedOn (y .state) (y .lent) display id area .answer ≡
-      answerIf s area display (leb (last display) id && leb id (length (results s y)))
+      answerIf s area display (leb (last display) id && leb id (length (resultsOn s y)))
   pub fetches :
       (display from : ℕ) (area : List ℕ) →
       fetchedOn (y .state) (y .lent) display from area .answer ≡
-      answerIf s area display (wanted (s .displays) last from && leb from (length (results s y) + 1))
+      answerIf s area display (wanted (s .displays) last from && leb from (length (resultsOn s y) + 1))
   pub fetched :
       (display from : ℕ) (area : List ℕ) → fetchedOn (y .state) (y .lent) display from area .answer ≡ 0 →
       FetchOn s y from area (fetchedOn (y .state) (y .lent) display from area)

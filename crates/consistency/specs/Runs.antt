@@ -1,12 +1,12 @@
 -- Lists of calls from an opening on, each on the state and stores that the one before left (document 01, section 'From the opening on';
--- document 02, W2). Assumes nothing.
+-- document 02, W2).
 use Prim.Native.Nat.{ℕ}
 use mathlib.Core.List.{List, [], _∷_, _++_}
 use Rattle.record.specs.declared.Record.{Record}
 use Rattle.record.specs.declared.Decoded.{Decoded}
 use Rattle.record.specs.declared.Decoded.the-variants as Decoded
 use Rattle.record.specs.Decoded.{decoded}
-use Rattle.operator.specs.Results.{plain}
+use Rattle.record.specs.Markers.{marker}
 use Rattle.node.specs.declared.State.{State}
 use Rattle.retransmission.specs.Places.{pieces}
 use Rattle.node.specs.View.{Lent}
@@ -46,7 +46,7 @@ leftAfter b (i ∷ is) = leftAfter (left b i) is
 -- the record that bytes are read as; bytes that are none give one of no kind
 unfoldable pub readAs : Decoded → Record
 readAs (Decoded.Is r) = r
-readAs Decoded.Malformed = plain 0 0 (record { 0 = 0 })
+readAs Decoded.Malformed = marker 0 0 (record { 0 = 0 })
 
 unfoldable pub recordIn : List ℕ → Record
 recordIn piece = readAs (decoded piece)

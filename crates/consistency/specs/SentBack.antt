@@ -76,7 +76,7 @@ pub record Answers (area : List ℕ) (named fits : Type 0) (answer : ℕ) : Type
 
 -- what an accepted fetch lays down: the failure-free results from there on, as many as there are up to 64, byte by byte; what lies behind
 -- them in the area is as it was
-pub record Fetched (h : Handed) (is : List Input) (from : ℕ) (area : List ℕ) (r : Called) : Type 0 where
+pub record FetchedFrom (h : Handed) (is : List Input) (from : ℕ) (area : List ℕ) (r : Called) : Type 0 where
   pub records : pieces (r .records) (r .area) ≡ take fetchLimit (drop (from - 1) (failureFreeBytes h is))
   pub rest : drop (r .records * recordBytes) (r .area) ≡ drop (r .records * recordBytes) area
 
@@ -133,7 +133,7 @@ pub record SentBack : Type 0 where
   pub fetched :
       (h : Handed) → isOpened h → (is : List Input) (display from : ℕ) (area : List ℕ) →
       let r : Called = called (boxAfter h is) (Input.fetch display from area) in
-      r .answer ≡ 0 → Fetched h is from area r
+      r .answer ≡ 0 → FetchedFrom h is from area r
   -- neither lays anything else down, nor moves the clock
   pub quiet :
       (b : Box) (display id : ℕ) (area : List ℕ) → Quiet b area (called b (Input.acknowledge display id area))

@@ -1,4 +1,4 @@
--- Laws on the text of a whole number: by its sign, and how long it is. Assumes nothing.
+-- Laws on the text of a whole number: by its sign, and how long it is.
 use mathlib.Core.Path.{_≡_, refl}
 use mathlib.Core.Bool.{true, false}
 use mathlib.Core.List.{_∷_}

@@ -1,5 +1,5 @@
 -- Laws on the digits of a number: the last digit apart, and how many there are. A number of k digits at most wants no more than k steps of
--- `digitsWithin`, so below 10^20 the last digit comes off `digits`. Assumes nothing.
+-- `digitsWithin`, so below 10^20 the last digit comes off `digits`.
 use mathlib.Core.Path.{_≡_, refl, sym, ap, _∙_}
 use mathlib.Core.Logic.{_⊎_, inl, inr, ⊎-elim}
 use mathlib.Core.Bool.{Bool, true, false}

@@ -1,4 +1,4 @@
--- An area that is filled from the right: bytes laid behind a run, before the run itself is. Assumes nothing.
+-- An area that is filled from the right: bytes laid behind a run, before the run itself is.
 use mathlib.Core.Path.{_≡_, refl, sym, ap, _∙_}
 use mathlib.Core.List.{List, [], _∷_, _++_}
 use Prim.Native.Nat.{ℕ, suc, _+_, _-_, _/_, _%_, _<_, _≤_, _^_}
@@ -23,7 +23,9 @@ laid-behind l i j x a e =
     sets-set a l i j x (omega arith) ∙ sym (laid-one (laid l i a) j x) ∙ laid-laid l i j a (x ∷ []) e
 
 -- the last digit, laid before the others
-pub fill-digit : (l : List ℕ) (at i n : ℕ) → 10 ≤ n → n < 10 ^ 20 → i ≡ at + length (digits n) → laid (set l (i - 1) (48 + n % 10)) at (digits (n / 10)) ≡ laid l at (digits n)
+pub fill-digit :
+    (l : List ℕ) (at i n : ℕ) → 10 ≤ n → n < 10 ^ 20 → i ≡ at + length (digits n) →
+    laid (set l (i - 1) (48 + n % 10)) at (digits (n / 10)) ≡ laid l at (digits n)
 fill-digit l at i n g h e =
     laid-behind l at (i - 1) (48 + n % 10) (digits (n / 10)) (omega (arith, length-more n g h))
     ∙ ap (laid l at) (sym (digits-more n g h))

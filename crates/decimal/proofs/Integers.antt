@@ -1,4 +1,4 @@
--- Laws on the signed number that a text spells from a place on, from those on its magnitude. Assumes nothing.
+-- Laws on the signed number that a text spells from a place on, from those on its magnitude.
 use mathlib.Core.Path.{_≡_, refl, sym, ap, _∙_}
 use mathlib.Core.Bool.{Bool, true, false}
 use mathlib.Core.List.{List, _++_}
@@ -13,7 +13,7 @@ use lib.Seq.{drop-cons, drop-drop, drop-append-seam}
 use mir.Syntax.{w32}
 use mir.Val.{SFits}
 use Rattle.decimal.specs.Decimal.{digits, decimal}
-use Rattle.decimal.specs.Spelled.{NoDigit, numberAt, negated, plain, integerAt}
+use Rattle.decimal.specs.Spelled.{NoDigit, numberAt, negated, asInteger, integerAt}
 use Rattle.decimal.specs.declared.Number.{Number}
 use Rattle.decimal.specs.declared.Number.the-variants as Number
 use Rattle.decimal.specs.declared.Integer.the-variants as Integer
@@ -25,9 +25,9 @@ pub integer-minus : (s : List ℕ) (at : ℕ) → getD s at 0 ≡ 45 → integer
 unfolding integerAt
 integer-minus s at e = rw (eq-eqb (getD (drop at s) 0 0) 45 (head-drop at s ∙ e))
 
-pub integer-plain : (s : List ℕ) (at : ℕ) → (getD s at 0 ≡ 45 → ⊥) → integerAt s at ≡ plain (numberAt (2 ^ 31 - 1) s at)
+pub integer-asInteger : (s : List ℕ) (at : ℕ) → (getD s at 0 ≡ 45 → ⊥) → integerAt s at ≡ asInteger (numberAt (2 ^ 31 - 1) s at)
 unfolding integerAt
-integer-plain s at n = rw (ne-eqb (getD (drop at s) 0 0) 45 (λ e. n (sym (head-drop at s) ∙ e)))
+integer-asInteger s at n = rw (ne-eqb (getD (drop at s) 0 0) 45 (λ e. n (sym (head-drop at s) ∙ e)))
 
 -- ---- soundness
 
@@ -43,25 +43,26 @@ negated-value (Number.Value (suc m) f) z e q =
     (m, cc, cc)
 negated-value Number.Malformed z e q = let c : _≡_ {A = ℕ} 0 1 = cc in absurd (omega arith)
 
-plain-value : (n : Number) (z : ℤ) (e : ℕ) → plain n ≡ Integer.Value z e → (m : ℕ) × (n ≡ Number.Value m e) × (z ≡ pos m)
-unfolding plain
-plain-value (Number.Value m f) z e q = (m, cc, cc)
-plain-value Number.Malformed z e q = let c : _≡_ {A = ℕ} 0 1 = cc in absurd (omega arith)
+asInteger-value : (n : Number) (z : ℤ) (e : ℕ) → asInteger n ≡ Integer.Value z e → (m : ℕ) × (n ≡ Number.Value m e) × (z ≡ pos m)
+unfolding asInteger
+asInteger-value (Number.Value m f) z e q = (m, cc, cc)
+asInteger-value Number.Malformed z e q = let c : _≡_ {A = ℕ} 0 1 = cc in absurd (omega arith)
 
 -- the number z fits 32 bits, and its text stands from `at` up to e
 abbrev pub WrittenAt : List ℕ → ℕ → ℤ → ℕ → Type 0
 WrittenAt s at z e = (drop at s ≡ decimal z ++ drop e s) × SFits w32 z × (e ≡ at + length (decimal z)) × (e ≤ length s)
 
-minus-sound : (s : List ℕ) (at m e : ℕ) → getD s at 0 ≡ 45 → numberAt (2 ^ 31) s (at + 1) ≡ Number.Value (suc m) e → WrittenAt s at (negsuc m) e
+minus-sound :
+    (s : List ℕ) (at m e : ℕ) → getD s at 0 ≡ 45 → numberAt (2 ^ 31) s (at + 1) ≡ Number.Value (suc m) e → WrittenAt s at (negsuc m) e
 unfolding decimal
 minus-sound s at m e b q =
     let r = number-sound (2 ^ 31) s (at + 1) (suc m) e (omega arith) q in
     let t : drop (suc at) s ≡ digits (suc m) ++ drop e s = rw add-one at (r .0) in
     (rw (drop-cons s at 0 (omega arith), b, t), record { sfits = omega arith }, omega arith, r .3)
 
-plain-sound : (s : List ℕ) (at m e : ℕ) → numberAt (2 ^ 31 - 1) s at ≡ Number.Value m e → WrittenAt s at (pos m) e
+asInteger-sound : (s : List ℕ) (at m e : ℕ) → numberAt (2 ^ 31 - 1) s at ≡ Number.Value m e → WrittenAt s at (pos m) e
 unfolding decimal
-plain-sound s at m e q =
+asInteger-sound s at m e q =
     let r = number-sound (2 ^ 31 - 1) s at m e (omega arith) q in
     (r .0, record { sfits = omega arith }, r .2, r .3)
 
@@ -74,26 +75,30 @@ integer-sound s at z e q = by (eqb (getD s at 0) 45) refl
         let n = negated-value (numberAt (2 ^ 31) s (at + 1)) z e (sym (integer-minus s at m) ∙ q) in
         rw (n .2) (minus-sound s at (n .0) e m (n .1))
     by false b =
-        let n = plain-value (numberAt (2 ^ 31 - 1) s at) z e (sym (integer-plain s at (eqb-false (getD s at 0) 45 b)) ∙ q) in
-        rw (n .2) (plain-sound s at (n .0) e (n .1))
+        let n = asInteger-value (numberAt (2 ^ 31 - 1) s at) z e (sym (integer-asInteger s at (eqb-false (getD s at 0) 45 b)) ∙ q) in
+        rw (n .2) (asInteger-sound s at (n .0) e (n .1))
 
 -- ---- completeness
 
-pub integer-complete : (s : List ℕ) (at : ℕ) (z : ℤ) (r : List ℕ) → drop at s ≡ decimal z ++ r → NoDigit r → SFits w32 z → integerAt s at ≡ Integer.Value z (at + length (decimal z))
-unfolding decimal plain
+pub integer-complete :
+    (s : List ℕ) (at : ℕ) (z : ℤ) (r : List ℕ) → drop at s ≡ decimal z ++ r → NoDigit r → SFits w32 z →
+    integerAt s at ≡ Integer.Value z (at + length (decimal z))
+unfolding decimal asInteger
 integer-complete s at (pos n) r e o f =
     let l = f .sfits in
     let q = number-complete (2 ^ 31 - 1) s at n r e o (omega arith) (omega arith) in
     let b : getD s at 0 ≡ 45 → ⊥ =
     λ m. omega (arith, digit-range (getD (digits n ++ r) 0 0) (digits-begin n r (omega arith)), rw e at (head-drop at s ∙ m)) in
-    integer-plain s at b ∙ ap plain q
+    integer-asInteger s at b ∙ ap asInteger q
 integer-complete s at (negsuc n) r e o f =
     let l = f .sfits in
     let t : drop (at + 1) s ≡ digits (suc n) ++ r = sym (drop-drop 1 at s) ∙ rw e in
     let q = number-complete (2 ^ 31) s (at + 1) (suc n) r t o (omega arith) (omega arith) in
     integer-minus s at (sym (head-drop at s) ∙ rw e) ∙ ap negated q ∙ negated-suc n (at + 1 + length (digits (suc n))) ∙ ap (Integer.Value (negsuc n)) (omega arith)
 
--- a whole number behind any text reads back as written
-pub integer-reads-back : (p : List ℕ) (z : ℤ) (r : List ℕ) → NoDigit r → SFits w32 z → integerAt (p ++ (decimal z ++ r)) (length p) ≡ Integer.Value z (length p + length (decimal z))
+-- a claim of its own: a whole number behind any text reads back as written
+pub integer-reads-back :
+    (p : List ℕ) (z : ℤ) (r : List ℕ) → NoDigit r → SFits w32 z →
+    integerAt (p ++ (decimal z ++ r)) (length p) ≡ Integer.Value z (length p + length (decimal z))
 integer-reads-back p z r n f =
     integer-complete (p ++ (decimal z ++ r)) (length p) z r (drop-append-seam p (decimal z ++ r)) n f

@@ -1,5 +1,5 @@
 -- What a text spells is what is written there. Soundness: digits behind a number a ≥ 1 are the digits of the number that they make of it, so
--- a run that does not begin with 0 is the text of its value. Completeness: the digits of v are a run of value v. Assumes nothing.
+-- a run that does not begin with 0 is the text of its value. Completeness: the digits of v are a run of value v.
 use mathlib.Core.Path.{_≡_, refl, sym, ap, _∙_}
 use mathlib.Core.Logic.{⊎-elim}
 use mathlib.Core.Bool.{true, false}
@@ -19,7 +19,8 @@ use Rattle.decimal.proofs.Numbers.{well-spelled, spelled, number-value,
 -- ---- soundness
 
 -- a run behind the digits of a number: the digits of one number, but for a run behind 0
-run-behind : (a : ℕ) (t : List ℕ) → (a ≡ 0 → runLength t ≡ 0) → runValue a t < 10 ^ 20 → digits (runValue a t) ≡ digits a ++ take (runLength t) t
+run-behind :
+    (a : ℕ) (t : List ℕ) → (a ≡ 0 → runLength t ≡ 0) → runValue a t < 10 ^ 20 → digits (runValue a t) ≡ digits a ++ take (runLength t) t
 unfolding runValue runLength
 run-behind a [] z h = sym (append-nil (digits a))
 run-behind a (b ∷ t) z h =
@@ -53,7 +54,9 @@ spelled-text (b ∷ t) m h =
     ∙ rw (digits-one (b - 48) (omega arith), k))
 
 -- a number that was read stands there as it is written
-pub number-sound : (most : ℕ) (s : List ℕ) (at v e : ℕ) → most < 2 ^ 64 → numberAt most s at ≡ Number.Value v e → (drop at s ≡ digits v ++ drop e s) × (v ≤ most) × (e ≡ at + length (digits v)) × (e ≤ length s)
+pub number-sound :
+    (most : ℕ) (s : List ℕ) (at v e : ℕ) → most < 2 ^ 64 → numberAt most s at ≡ Number.Value v e →
+    (drop at s ≡ digits v ++ drop e s) × (v ≤ most) × (e ≡ at + length (digits v)) × (e ≤ length s)
 number-sound most s at v e l q =
     let t = drop at s in
     let r = number-run most s at v e q in
@@ -110,7 +113,9 @@ pub digits-begin : (v : ℕ) (r : List ℕ) → v < 10 ^ 20 → isDigit (getD (d
 digits-begin v r h = run-begins (digits v ++ r) (omega (arith, digits-read v h r .0, digits-some v))
 
 -- a number that stands there, with no digit behind it, is read
-pub number-complete : (most : ℕ) (s : List ℕ) (at v : ℕ) (r : List ℕ) → drop at s ≡ digits v ++ r → NoDigit r → v ≤ most → most < 2 ^ 64 → numberAt most s at ≡ Number.Value v (at + length (digits v))
+pub number-complete :
+    (most : ℕ) (s : List ℕ) (at v : ℕ) (r : List ℕ) → drop at s ≡ digits v ++ r → NoDigit r → v ≤ most → most < 2 ^ 64 →
+    numberAt most s at ≡ Number.Value v (at + length (digits v))
 number-complete most s at v r e n h l =
     let t = drop at s in
     let p = digits-read v (omega arith) r in
@@ -120,12 +125,14 @@ number-complete most s at v r e n h l =
     λ q. let o : v ≡ 0 = p .2 (rw e at q) in omega (arith, ap length (digits-one v (omega arith))) in
     cc (number-value most s at (well-spelled t (omega (arith, digits-some v)) z) (omega arith))
 
--- a number behind any text reads back as written
-pub number-reads-back : (most : ℕ) (p : List ℕ) (v : ℕ) (r : List ℕ) → NoDigit r → v ≤ most → most < 2 ^ 64 → numberAt most (p ++ (digits v ++ r)) (length p) ≡ Number.Value v (length p + length (digits v))
+-- claims of their own: a number behind any text reads back as written
+pub number-reads-back :
+    (most : ℕ) (p : List ℕ) (v : ℕ) (r : List ℕ) → NoDigit r → v ≤ most → most < 2 ^ 64 →
+    numberAt most (p ++ (digits v ++ r)) (length p) ≡ Number.Value v (length p + length (digits v))
 number-reads-back most p v r n h l =
     number-complete most (p ++ (digits v ++ r)) (length p) v r (drop-append-seam p (digits v ++ r)) n h l
 
--- two numbers have one text only where they are equal
+-- and two numbers have one text only where they are equal
 pub digits-injective : (m n : ℕ) → m < 2 ^ 64 → n < 2 ^ 64 → digits m ≡ digits n → m ≡ n
 unfolding runValue
 digits-injective m n h l e =

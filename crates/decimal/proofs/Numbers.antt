@@ -1,4 +1,4 @@
--- Laws on the number that a text spells from a place on, by the run of digits that stands there. Assumes nothing.
+-- Laws on the number that a text spells from a place on, by the run of digits that stands there.
 use mathlib.Core.Path.{_≡_, refl}
 use mathlib.Core.Bool.{Bool, true, false, cond, _&&_, _||_, or-true}
 use mathlib.Core.List.{List}
@@ -50,11 +50,15 @@ module _ (most : ℕ) (s : List ℕ) (at : ℕ) where
   unfolding numberAt
   number-past h = rw (lt-ltb most (runValue 0 (drop at s)) h, or-true)
 
-  pub number-value : misspelled (drop at s) ≡ false → runValue 0 (drop at s) ≤ most → numberAt most s at ≡ Number.Value (runValue 0 (drop at s)) (at + runLength (drop at s))
+  pub number-value :
+      misspelled (drop at s) ≡ false → runValue 0 (drop at s) ≤ most →
+      numberAt most s at ≡ Number.Value (runValue 0 (drop at s)) (at + runLength (drop at s))
   unfolding numberAt
   number-value e h = rw (e, le-ltb most (runValue 0 (drop at s)) h)
 
-  pub number-run : (v e : ℕ) → numberAt most s at ≡ Number.Value v e → (misspelled (drop at s) ≡ false) × (runValue 0 (drop at s) ≤ most) × (v ≡ runValue 0 (drop at s)) × (e ≡ at + runLength (drop at s))
+  pub number-run :
+      (v e : ℕ) → numberAt most s at ≡ Number.Value v e →
+      (misspelled (drop at s) ≡ false) × (runValue 0 (drop at s) ≤ most) × (v ≡ runValue 0 (drop at s)) × (e ≡ at + runLength (drop at s))
   unfolding numberAt
   number-run v e q =
       let t = drop at s in

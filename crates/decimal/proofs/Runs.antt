@@ -1,4 +1,4 @@
--- Laws on the run of digits at the start of a text, by its first byte: how long it is and what value it has. Assumes nothing.
+-- Laws on the run of digits at the start of a text, by its first byte: how long it is and what value it has.
 use mathlib.Core.Path.{_≡_, refl}
 use mathlib.Core.Bool.{Bool, true, false, cond, and-eq-true-iff}
 use mathlib.Core.List.{List, [], _∷_}

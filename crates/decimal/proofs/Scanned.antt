@@ -1,5 +1,5 @@
 -- The loop that scans a run of digits: what is left of the run from i on, behind the value so far, makes the whole run, and digits only add
--- to a value that is past 64 bits. Assumes nothing.
+-- to a value that is past 64 bits.
 use mathlib.Core.Path.{_≡_, refl, sym, ap, _∙_}
 use mathlib.Core.Bool.{Bool, true, false, cond}
 use mathlib.Core.List.{List, _∷_}
@@ -23,7 +23,8 @@ scanned-none s at = (refl, refl)
 
 module _ (s : List ℕ) (at i v : ℕ) (so : Scanned s at i v) where
   -- a digit taken in
-  pub scanned-digit : (next : ℕ) → i < length s → isDigit (getD s i 0) ≡ true → next ≡ v * 10 + (getD s i 0 - 48) → Scanned s at (suc i) next
+  pub scanned-digit :
+      (next : ℕ) → i < length s → isDigit (getD s i 0) ≡ true → next ≡ v * 10 + (getD s i 0 - 48) → Scanned s at (suc i) next
   unfolding Scanned
   scanned-digit next h e q =
       let b = getD s i 0 in

@@ -1,5 +1,5 @@
 -- The decimal text of a number: no leading zero, a minus only before a negative value (document 01, section 'Clocks, lines and
--- readings'). Assumes nothing.
+-- readings').
 use Prim.Native.Nat.{ℕ, zero, suc, _+_, _/_, _%_}
 use mathlib.Core.Bool.{cond}
 use mathlib.Core.List.{List, [], _∷_, _++_}

@@ -1,5 +1,5 @@
 -- What a text spells from a place on: a number as `Decimal` writes it, and the place behind it. A run of digits may go on for ever; past
--- its width a number is malformed. Assumes nothing.
+-- its width a number is malformed.
 use Prim.Native.Nat.{ℕ, suc, _+_, _-_, _*_, _^_}
 use mathlib.Core.Path.{_≡_}
 use mathlib.Core.Bool.{Bool, false, cond, _&&_, _||_}
@@ -61,11 +61,11 @@ negated (Number.Value m e) = cond (eqb m 0) Integer.Malformed (Integer.Value (ne
 negated Number.Malformed = Integer.Malformed
 
 -- the number itself, which is not below zero
-unfoldable pub plain : Number → Integer
-plain (Number.Value m e) = Integer.Value (pos m) e
-plain Number.Malformed = Integer.Malformed
+unfoldable pub asInteger : Number → Integer
+asInteger (Number.Value m e) = Integer.Value (pos m) e
+asInteger Number.Malformed = Integer.Malformed
 
 -- the signed number of 32 bits that the text s spells from `at` on
 unfoldable pub integerAt : List ℕ → ℕ → Integer
 integerAt s at =
-    cond (eqb (getD (drop at s) 0 0) 45) (negated (numberAt (2 ^ 31) s (at + 1))) (plain (numberAt (2 ^ 31 - 1) s at))
+    cond (eqb (getD (drop at s) 0 0) 45) (negated (numberAt (2 ^ 31) s (at + 1))) (asInteger (numberAt (2 ^ 31 - 1) s at))

@@ -1,5 +1,5 @@
 -- A number's bytes and the number of bytes are inverse, at every width; both split where the width is a sum.
--- Each law goes by the width or along the bytes: one byte more is a division by 256. Assumes nothing.
+-- Each law goes by the width or along the bytes: one byte more is a division by 256.
 use mathlib.Core.Path.{_≡_, refl, sym, ap}
 use mathlib.Core.List.{List, [], _∷_, _++_}
 use Prim.Native.Nat.{ℕ, zero, suc, _+_, _*_, _/_, _%_, _^_, _<_, _≤_}
@@ -50,7 +50,8 @@ numberOf-bound [] h = omega arith
 numberOf-bound (b ∷ bytes) h = omega (arith, h 0, pow-suc 256 (length bytes), numberOf-bound bytes (λ i. h (suc i)))
 
 -- the bytes of a wider word: those of its low part, then those of the rest
-pub littleEndian-add : (low high x : ℕ) → littleEndian (low + high) x ≡ littleEndian low (x % 256 ^ low) ++ littleEndian high (x / 256 ^ low)
+pub littleEndian-add :
+    (low high x : ℕ) → littleEndian (low + high) x ≡ littleEndian low (x % 256 ^ low) ++ littleEndian high (x / 256 ^ low)
 unfolding littleEndian
 littleEndian-add zero high x = rw (zero-add, div-one)
 littleEndian-add (suc low) high x =
@@ -74,7 +75,9 @@ numberOf-add s at low high h =
     rw (take-add low high (drop at s), numberOf-append, whole, drop-drop)
 
 -- the number of the bytes from a place on: its first byte, and those from the next place on
-pub numberOf-next : (s : List ℕ) (i j width : ℕ) → j ≡ i + 1 → i < length s → numberOf (take (suc width) (drop i s)) ≡ getD s i 0 + 256 * numberOf (take width (drop j s))
+pub numberOf-next :
+    (s : List ℕ) (i j width : ℕ) → j ≡ i + 1 → i < length s →
+    numberOf (take (suc width) (drop i s)) ≡ getD s i 0 + 256 * numberOf (take width (drop j s))
 unfolding numberOf
 numberOf-next s i j width e h = rw (e, add-one, drop-cons s i 0)
 

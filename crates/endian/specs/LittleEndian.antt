@@ -1,4 +1,4 @@
--- A number as so many bytes, the lowest first, and back. Assumes nothing.
+-- A number as so many bytes, the lowest first, and back.
 use Prim.Native.Nat.{ℕ, zero, suc, _+_, _*_, _/_, _%_}
 use mathlib.Core.List.{List, [], _∷_}
 

@@ -1,4 +1,4 @@
--- A field is read exactly if the text has it: the key, the number as it is written, and no further digit behind it. Assumes nothing.
+-- A field is read exactly if the text has it: the key, the number as it is written, and no further digit behind it.
 use mathlib.Core.Path.{_≡_, refl, sym, ap, _∙_}
 use mathlib.Core.Bool.{Bool, true, false, cond}
 use mathlib.Core.List.{List, [], _∷_, _++_, append-assoc}
@@ -38,12 +38,16 @@ module _ {A : Type 0} where
 
 -- a field of any kind: its key stands there, and behind it what its reader x finds; `none` is that reader's refusal
 module _ {A : Type 0} (key s t : List ℕ) (at : ℕ) (x none z : A) where
-  pub field-sound : (e : ℕ) → (x ≡ z → Spells s (at + length key) t e) → (none ≡ z → ⊥) → cond (startsWith key (drop at s)) x none ≡ z → Spells s at (key ++ t) e
+  pub field-sound :
+      (e : ℕ) → (x ≡ z → Spells s (at + length key) t e) → (none ≡ z → ⊥) → cond (startsWith key (drop at s)) x none ≡ z →
+      Spells s at (key ++ t) e
   field-sound e reads n q =
       let p = picked (startsWith key (drop at s)) x none z q n in
       spells-append (spells-front s key (drop (length key) (drop at s)) at (starts-sound key (drop at s) (p .0))) (reads (p .1))
 
-  pub field-complete : (r : List ℕ) → (drop (at + length key) s ≡ t ++ r → x ≡ z) → drop at s ≡ (key ++ t) ++ r → cond (startsWith key (drop at s)) x none ≡ z
+  pub field-complete :
+      (r : List ℕ) → (drop (at + length key) s ≡ t ++ r → x ≡ z) → drop at s ≡ (key ++ t) ++ r →
+      cond (startsWith key (drop at s)) x none ≡ z
   field-complete r reads p =
       let p′ : drop at s ≡ key ++ (t ++ r) = p ∙ append-assoc key t r in
       let stands : startsWith key (drop at s) ≡ true = rw p′ (starts-complete key (t ++ r)) in
@@ -68,7 +72,9 @@ module _ (key s : List ℕ) (most at v : ℕ) (h : most < 2 ^ 64) where
         found read .1,
       )
 
-  pub number-field-complete : {G : Type 0} (r : List ℕ) → v ≤ most → NoDigit r → drop at s ≡ (key ++ digits v) ++ r → ((e : ℕ) → e ≡ at + length (key ++ digits v) → numberField key most s at ≡ Number.Value v e → drop e s ≡ r → G) → G
+  pub number-field-complete :
+      {G : Type 0} (r : List ℕ) → v ≤ most → NoDigit r → drop at s ≡ (key ++ digits v) ++ r →
+      ((e : ℕ) → e ≡ at + length (key ++ digits v) → numberField key most s at ≡ Number.Value v e → drop e s ≡ r → G) → G
   unfolding numberField
   number-field-complete r l n p k =
       let read =
@@ -87,7 +93,9 @@ module _ (key s : List ℕ) (at : ℕ) (v : ℤ) where
         found read .1,
       )
 
-  pub integer-field-complete : {G : Type 0} (r : List ℕ) → SFits w32 v → NoDigit r → drop at s ≡ (key ++ decimal v) ++ r → ((e : ℕ) → e ≡ at + length (key ++ decimal v) → integerField key s at ≡ Integer.Value v e → drop e s ≡ r → G) → G
+  pub integer-field-complete :
+      {G : Type 0} (r : List ℕ) → SFits w32 v → NoDigit r → drop at s ≡ (key ++ decimal v) ++ r →
+      ((e : ℕ) → e ≡ at + length (key ++ decimal v) → integerField key s at ≡ Integer.Value v e → drop e s ≡ r → G) → G
   unfolding integerField
   integer-field-complete r f n p k =
       let read =
@@ -103,7 +111,8 @@ module _ {A G : Type 0} (none x : A) (differs : none ≡ x → ⊥) where
   with-number (Number.Value v e) go q k = k v e refl q
   with-number Number.Malformed go q k = absurd (differs q)
 
-  pub with-integer : (n : Integer) (go : ℤ → ℕ → A) → withInteger n none go ≡ x → ((v : ℤ) (e : ℕ) → n ≡ Integer.Value v e → go v e ≡ x → G) → G
+  pub with-integer :
+      (n : Integer) (go : ℤ → ℕ → A) → withInteger n none go ≡ x → ((v : ℤ) (e : ℕ) → n ≡ Integer.Value v e → go v e ≡ x → G) → G
   unfolding withInteger
   with-integer (Integer.Value v e) go q k = k v e refl q
   with-integer Integer.Malformed go q k = absurd (differs q)

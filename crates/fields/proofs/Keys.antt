@@ -1,4 +1,4 @@
--- Laws on a text that begins with given bytes: exactly if those bytes stand in front. Assumes nothing.
+-- Laws on a text that begins with given bytes: exactly if those bytes stand in front.
 use mathlib.Core.Path.{_≡_, refl, sym, ap, ap₂, _∙_}
 use mathlib.Core.Bool.{true, false, _&&_, and-eq-true-iff, and-false}
 use mathlib.Core.List.{List, [], _∷_, _++_}
@@ -45,7 +45,8 @@ module _ (key s : List ℕ) (at i : ℕ) (h : i < length key) (k : at + i < leng
   unfolding startsWith
   opened = rw (drop-cons key i 0 h, drop-cons s (at + i) 0 k)
 
-  pub starts-further : getD s (at + i) 0 ≡ getD key i 0 → startsWith (drop i key) (drop (at + i) s) ≡ startsWith (drop (i + 1) key) (drop (at + (i + 1)) s)
+  pub starts-further :
+      getD s (at + i) 0 ≡ getD key i 0 → startsWith (drop i key) (drop (at + i) s) ≡ startsWith (drop (i + 1) key) (drop (at + (i + 1)) s)
   starts-further e =
       opened ∙ rw (eq-eqb (getD key i 0) (getD s (at + i) 0) (sym e), add-one, add-suc)
 

@@ -1,4 +1,4 @@
--- Laws on the next line of a text: a turn of the search for its end, where it stops, and how long it is. Assumes nothing.
+-- Laws on the next line of a text: a turn of the search for its end, where it stops, and how long it is.
 use mathlib.Core.Path.{_≡_, sym}
 use mathlib.Core.Bool.{Bool, true, false, cond}
 use mathlib.Core.List.{List, [], _∷_, _++_, append-nil}
@@ -12,7 +12,9 @@ use Rattle.fields.specs.Line.{nextLine}
 
 module _ (s : List ℕ) (i : ℕ) where
   -- no 0A at i: the search goes on
-  pub next-further : i < length s → (getD s i 0 ≡ 10 → ⊥) → nextLine s ≡ take i s ++ nextLine (drop i s) → nextLine s ≡ take (suc i) s ++ nextLine (drop (suc i) s)
+  pub next-further :
+      i < length s → (getD s i 0 ≡ 10 → ⊥) → nextLine s ≡ take i s ++ nextLine (drop i s) →
+      nextLine s ≡ take (suc i) s ++ nextLine (drop (suc i) s)
   unfolding nextLine
   next-further h n e =
       rw (take-suc s i 0 h, append-snoc (take i s) (getD s i 0) (nextLine (drop (suc i) s)))
@@ -28,7 +30,9 @@ module _ (s : List ℕ) (i : ℕ) where
   unfolding nextLine
   next-ended h e = sym (rw (drop-of-length-le s {i = i} h, append-nil (take i s), take-all i s h) at e)
 
-some-within : (t : Bool) (b : ℕ) (x : List ℕ) (n : ℕ) → length x ≤ n → (0 < length (cond t (b ∷ []) (b ∷ x))) × (length (cond t (b ∷ []) (b ∷ x)) ≤ suc n)
+some-within :
+    (t : Bool) (b : ℕ) (x : List ℕ) (n : ℕ) → length x ≤ n →
+    (0 < length (cond t (b ∷ []) (b ∷ x))) × (length (cond t (b ∷ []) (b ∷ x)) ≤ suc n)
 some-within true b x n h = omega arith
 some-within false b x n h = omega arith
 

@@ -1,4 +1,4 @@
--- A text that spells given bytes from one place to another; stretches join, and a stretch in front can be cut off. Assumes nothing.
+-- A text that spells given bytes from one place to another; stretches join, and a stretch in front can be cut off.
 use mathlib.Core.Path.{_≡_, sym, ap, _∙_}
 use mathlib.Core.List.{List, [], _++_, append-assoc, append-nil}
 use Prim.Native.Nat.{ℕ, _+_}

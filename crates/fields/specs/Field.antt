@@ -1,4 +1,4 @@
--- One field read from a place on: its key with what stands before it, then its number. Assumes nothing.
+-- One field read from a place on: its key with what stands before it, then its number.
 use Prim.Native.Nat.{ℕ, _+_}
 use mathlib.Core.Bool.{Bool, true, false, cond, _&&_}
 use mathlib.Core.List.{List, [], _∷_, _++_}

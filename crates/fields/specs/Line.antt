@@ -1,5 +1,4 @@
 -- A line of text: keyed fields with one space between them, and a 0A (document 01, section 'Clocks, lines and readings').
--- Assumes nothing.
 use Prim.Native.Nat.{ℕ}
 use mathlib.Core.Bool.{cond}
 use mathlib.Core.List.{List, [], _∷_, _++_}

@@ -23,6 +23,7 @@ pub enum Written {
 // A text's first line with its 0A, as a part of that text; a text without a 0A is one line.
 pub fn next_line(s: &[u8]) -> &[u8]
     ensures { λ r. ⌜ now r ≡ nextLine (now (s .entry)) ⌝ }
+    ensures { λ r. ⌜ r .ptr ≡ s .entry .ptr ⌝ }
 {
     let mut i = 0;
     while i < s.len() {

@@ -1,4 +1,4 @@
--- The reader is exact: a text is read as a call exactly if it is the call's line, whole. Assumes nothing.
+-- The reader is exact: a text is read as a call exactly if it is the call's line, whole.
 use mathlib.Core.Path.{_≡_, refl, sym, ap, subst, _∙_}
 use mathlib.Core.Bool.{true, false, cond}
 use mathlib.Core.List.{List, []}
@@ -22,7 +22,9 @@ call-line text c fit p =
     let end : 0 + length (lineText c) ≡ length text = omega (arith, ap length p) in
     rw (call-complete text [] 0 c fit (whole-spelled text (lineText c) p), eq-eqb (0 + length (lineText c)) (length text) end)
 
-call-only : (text : List ℕ) (answer : CallAt) → callAt text 0 ≡ answer → (callAnswer (whole text answer) ≡ 6 → ⊥) → (c : Call) × CallFits c × (text ≡ lineText c)
+call-only :
+    (text : List ℕ) (answer : CallAt) → callAt text 0 ≡ answer → (callAnswer (whole text answer) ≡ 6 → ⊥) →
+    (c : Call) × CallFits c × (text ≡ lineText c)
 unfolding whole callAnswer
 call-only text (CallAt.Line c e) q n =
     let found = call-sound text 0 e c q in

@@ -1,5 +1,5 @@
 -- A journal line is read exactly if the text has it: field by field, each stretch of the text is the field's, and stretches join to the
--- line. Assumes nothing.
+-- line.
 use mathlib.Core.Path.{_≡_, refl, ap, subst, _∙_}
 use mathlib.Core.Bool.{true}
 use mathlib.Core.List.{List, [], _∷_, _++_, append-assoc}
@@ -90,7 +90,8 @@ call-sound s at f c q =
     )
 
 -- what the text spells is read
-pub call-complete : (s r : List ℕ) (at : ℕ) (c : Call) → CallFits c → drop at s ≡ lineText c ++ r → callAt s at ≡ CallAt.Line c (at + length (lineText c))
+pub call-complete :
+    (s r : List ℕ) (at : ℕ) (c : Call) → CallFits c → drop at s ≡ lineText c ++ r → callAt s at ≡ CallAt.Line c (at + length (lineText c))
 unfolding callAt callHead callTail decimal withNumber withInteger isDigit
 call-complete s r at c fit p =
     let most : 2 ^ 32 - 1 < 2 ^ 64 = omega arith in

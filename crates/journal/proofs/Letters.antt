@@ -1,4 +1,4 @@
--- A letter field is read exactly if the text has it. Assumes nothing.
+-- A letter field is read exactly if the text has it.
 use mathlib.Core.Path.{_≡_, refl, sym, ap, _∙_}
 use mathlib.Core.Bool.{true, false}
 use mathlib.Core.List.{List, [], _∷_, _++_}
@@ -17,7 +17,9 @@ use Rattle.journal.specs.Kinds.{letterS, letterT, letterB, letterU, lett
 use Rattle.journal.specs.ReadLine.{letterAt, letterField}
 
 -- a byte that is none of the six
-pub no-such-letter : (b : ℕ) → (b ≡ letterS → ⊥) → (b ≡ letterT → ⊥) → (b ≡ letterB → ⊥) → (b ≡ letterU → ⊥) → (b ≡ letterR → ⊥) → (b ≡ letterP → ⊥) → isLetter b ≡ false
+pub no-such-letter :
+    (b : ℕ) → (b ≡ letterS → ⊥) → (b ≡ letterT → ⊥) → (b ≡ letterB → ⊥) → (b ≡ letterU → ⊥) → (b ≡ letterR → ⊥) → (b ≡ letterP → ⊥) →
+    isLetter b ≡ false
 unfolding isLetter
 no-such-letter b s t d u r p = rw (ne-eqb b letterS s, ne-eqb b letterT t, ne-eqb b letterB d, ne-eqb b letterU u, ne-eqb b letterR r, ne-eqb b letterP p)
 
@@ -65,7 +67,9 @@ module _ (key s : List ℕ) (at k : ℕ) where
         letter-at-sound s (at + length key) k e read .1,
       )
 
-  pub letter-field-complete : {G : Type 0} (r : List ℕ) → isLetter k ≡ true → drop at s ≡ (key ++ (k ∷ [])) ++ r → ((e : ℕ) → e ≡ at + length (key ++ (k ∷ [])) → letterField key s at ≡ Number.Value k e → drop e s ≡ r → G) → G
+  pub letter-field-complete :
+      {G : Type 0} (r : List ℕ) → isLetter k ≡ true → drop at s ≡ (key ++ (k ∷ [])) ++ r →
+      ((e : ℕ) → e ≡ at + length (key ++ (k ∷ [])) → letterField key s at ≡ Number.Value k e → drop e s ≡ r → G) → G
   unfolding letterField
   letter-field-complete r l p go =
       let read =

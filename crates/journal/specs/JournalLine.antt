@@ -1,5 +1,4 @@
 -- The journal line: its text, and that a text is read exactly (document 01, sections 'Clocks, lines and readings' and 'Refusal by whom').
--- Assumes nothing.
 use mathlib.Core.Path.{_≡_}
 use Prim.Native.Nat.{ℕ, _<_, _^_}
 use mathlib.Core.Bool.{Bool, true}
@@ -8,6 +7,7 @@ use lib.Dec.{eqb}
 use lib.IntN.{pos}
 use mir.Syntax.{w32}
 use mir.Val.{SFits}
+use Rattle.answer.specs.Numbers as Answer
 use Rattle.decimal.specs.Decimal.{decimal}
 use Rattle.fields.specs.Line.{field, lineOf}
 use Rattle.fields.specs.Keys.{nowKey, lineKey, kindKey, idKey, timeKey, meterKey, valueKey}
@@ -41,8 +41,8 @@ pub record CallFits (c : Call) : Type 0 where
 
 -- document 01's number of the answer
 unfoldable pub callAnswer : CallRead → ℕ
-callAnswer (CallRead.Accepted c) = 0
-callAnswer CallRead.Malformed = 6
+callAnswer (CallRead.Accepted c) = Answer.accepted
+callAnswer CallRead.Malformed = Answer.malformed
 
 -- whether a text has the form
 unfoldable pub hasForm : List ℕ → Bool
@@ -51,4 +51,4 @@ hasForm text = eqb (callAnswer (callOf text)) 0
 -- an answer is exact: a text that is the line of a call is read as that call, and every other text gets 6
 pub record ExactCall (text : List ℕ) (answer : CallRead) : Type 0 where
   pub line : (c : Call) → CallFits c → text ≡ lineText c → answer ≡ CallRead.Accepted c
-  pub only : (callAnswer answer ≡ 6 → ⊥) → (c : Call) × CallFits c × (text ≡ lineText c)
+  pub only : (callAnswer answer ≡ Answer.malformed → ⊥) → (c : Call) × CallFits c × (text ≡ lineText c)

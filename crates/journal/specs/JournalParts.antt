@@ -1,4 +1,4 @@
--- The two parts of a journal line. Assumes nothing.
+-- The two parts of a journal line.
 use Prim.Native.Nat.{ℕ}
 use mathlib.Core.List.{List, [], _∷_, _++_}
 use lib.IntN.{pos}

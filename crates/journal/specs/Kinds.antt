@@ -1,4 +1,4 @@
--- The six kinds of calls, by their letter's byte (document 01, section 'Clocks, lines and readings'). Assumes nothing.
+-- The six kinds of calls, by their letter's byte (document 01, section 'Clocks, lines and readings').
 use Prim.Native.Nat.{ℕ}
 use mathlib.Core.Bool.{Bool, _||_}
 use lib.Dec.{eqb}

@@ -1,5 +1,4 @@
 -- What a text is read as: how a journal line is read from a place on, field by field. That it is read exactly fixes it (`ExactCall`).
--- Assumes nothing.
 use Prim.Native.Nat.{ℕ, _+_, _-_, _^_}
 use mathlib.Core.Bool.{cond}
 use mathlib.Core.List.{List}

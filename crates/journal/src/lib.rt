@@ -22,9 +22,9 @@ pub const DONE: u8 = b'R';
 pub const STEP: u8 = b'P';
 
 // The widest unsigned numbers of 32 and of 8 bits.
-const WORD: u32 = 4_294_967_295;
+const WORD: u32 = u32::MAX;
 
-const BYTE: u32 = 255;
+const BYTE: u32 = u8::MAX as u32;
 
 // The fields of one journal line; the kind is its letter's byte.
 pub struct Call {

@@ -1,4 +1,4 @@
--- What the writer of a journal line answers and leaves, case by case. Assumes nothing.
+-- What the writer of a journal line answers and leaves, case by case.
 use mathlib.Core.Path.{_≡_, refl}
 use mathlib.Core.Bool.{true, false}
 use mathlib.Core.List.{List}
@@ -25,7 +25,8 @@ pub no-letter : (c : Call) (area : List ℕ) → isLetter (c .kind) ≡ false �
 unfolding writtenAnswer writtenLength lineAnswer lineWritten inFront
 no-letter c area none = rw none (refl, (refl, refl))
 
-pub short-area : (c : Call) (area : List ℕ) → isLetter (c .kind) ≡ true → length area < longestJournalLine → Answered c area Written.ShortArea area
+pub short-area :
+    (c : Call) (area : List ℕ) → isLetter (c .kind) ≡ true → length area < longestJournalLine → Answered c area Written.ShortArea area
 unfolding writtenAnswer writtenLength lineAnswer lineWritten inFront
 short-area c area letter h = rw (letter, lt-ltb (length area) longestJournalLine h) (refl, (refl, refl))
 

@@ -1,4 +1,4 @@
--- The stretches that a journal line is written in, and how long its two parts are. Assumes nothing.
+-- The stretches that a journal line is written in, and how long its two parts are.
 use mathlib.Core.Path.{_≡_}
 use mathlib.Core.List.{List, [], _∷_, _++_}
 use Prim.Native.Nat.{ℕ, _+_}
@@ -37,6 +37,7 @@ pub length-head : (c : Call) → length (callHead c) ≡ length (nowPart c) + (l
 unfolding callHead
 length-head c = length-three (nowPart c) (linePart c) (kindPart c)
 
-pub length-tail : (c : Call) → length (callTail c) ≡ length (idPart c) + (length (timePart c) + (length (meterPart c) + length (valuePart c)))
+pub length-tail :
+    (c : Call) → length (callTail c) ≡ length (idPart c) + (length (timePart c) + (length (meterPart c) + length (valuePart c)))
 unfolding callTail
 length-tail c = length-four (idPart c) (timePart c) (meterPart c) (valuePart c)

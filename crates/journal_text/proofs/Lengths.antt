@@ -1,4 +1,4 @@
--- The longest journal line of the form, and that its length is reached. Assumes nothing.
+-- The longest journal line of the form, and that its length is reached.
 use mathlib.Core.Path.{_≡_, refl, ap}
 use mathlib.Core.List.{[], _∷_}
 use Prim.Native.Nat.{_-_, _≤_, _^_}
@@ -44,6 +44,7 @@ longestCall =
       meter = 255;
     }
 
+-- a claim of its own: the longest line is no shorter than the bound
 pub longest-journal-line : length (lineText longestCall) ≡ longestJournalLine
 unfolding lineText lineOf field decimal digits digitsWithin
 longest-journal-line = refl

@@ -1,4 +1,4 @@
--- The longest journal line. Assumes nothing.
+-- The longest journal line.
 use Prim.Native.Nat.{ℕ}
 
 -- bytes of the longest journal line (document 01, section 'Clocks, lines and readings')

@@ -35,8 +35,8 @@ fn put_tail(out: &mut [u8], at: usize, c: Call) -> usize
     fields::put_last(out, e3, b" value=", c.value)
 }
 
-// Writes a call's line into the area and answers its length. A kind that has no letter is refused before an area that the longest line would
-// not fit is; nothing is written then.
+// Writes a call's line into the area and answers its length. A kind that has no letter is refused before an area that the longest line
+// would not fit is; nothing is written then.
 pub fn write_call(c: Call, out: &mut [u8]) -> Written
     ensures { λ r. ⌜ writtenAnswer r ≡ lineAnswer c (now (out .entry)) ⌝ }
     ensures { λ r. ⌜ writtenLength r ≡ length (lineWritten c (now (out .entry))) ⌝ }

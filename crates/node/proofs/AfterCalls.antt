@@ -1,5 +1,5 @@
 -- After a call: the node that state and store stand for is the outcome's, and they fit again, so that a next call may follow. By the laws
--- of view and put, and since an outcome has as many lines, none past its share. Assumes nothing.
+-- of view and put, and since an outcome has as many lines, none past its share.
 use Prim.Native.Nat.{ℕ, _≤_}
 use mathlib.Core.Path.{_≡_, _∙_, ap, ap₂}
 use mathlib.Core.Bool.{true}
@@ -22,8 +22,8 @@ use Rattle.record.specs.Layout.{allBytes}
 use Rattle.node.specs.declared.LineHead.{LineHead}
 use Rattle.node.specs.declared.State.{State}
 use Rattle.node.proofs.Limits.{limits-hold}
-use Rattle.node.proofs.View.{Fits, Sized, view-sized, view-put, fits-put, storeLength-put, settings-put, length-heads-put}
-use Rattle.node.proofs.Shape.{HeadShape, StateShape, state-facts, state-in-shape}
+use Rattle.node.proofs.View.{Fits, Sized, view-sized, view-put, fits-put, settings-put, length-heads-put}
+use Rattle.node.proofs.Shape.{HeadShape, StateShape, state-facts}
 use Rattle.node.proofs.Outcomes.{outcome-lines, outcome-kept}
 use Rattle.node.proofs.Calls.{AcceptedOn, either-way}
 
@@ -40,12 +40,10 @@ shape-fits st x h d room e =
       displays = omega (arith, d, limits-hold (st .settings) (f .limits) .displays);
     }
 
--- so what an accepted call was handed fits
-pub accepted-fitted : (st : State) (x : Lent) (text area : List ℕ) → length (st .heads) ≡ maxLines → length (st .acknowledged) ≡ maxDisplays → AcceptedOn st x text area → Fits st (x .readings)
-accepted-fitted st x text area h d v = shape-fits st (x .readings) h d (v .host .room) (state-in-shape st x (v .host .shape))
-
 -- an outcome fits as what it was got from
-pub outcome-sized : (st : State) (x : Lent) (k : Call) → Fits st (x .readings) → Sized (st .settings) (outcomeOf (st .settings) (view st (x .readings)) k .node)
+pub outcome-sized :
+    (st : State) (x : Lent) (k : Call) → Fits st (x .readings) →
+    Sized (st .settings) (outcomeOf (st .settings) (view st (x .readings)) k .node)
 outcome-sized st x k f =
     let v : Sized (st .settings) (view st (x .readings)) = view-sized st (x .readings) (f .heads) (f .displays) in
     record {
@@ -64,31 +62,35 @@ module _ (st : State) (x : Lent) (text area : List ℕ) (v : AcceptedOn st x tex
   pub accepted-lent : calledOn st x text area .lent ≡ putLent st x (outcomeOf (st .settings) (view st (x .readings)) (v .call))
   accepted-lent = ap (λ (r : Called). r .lent) (v .leaves)
 
-  pub accepted-columns : calledOn st x text area .lent .readings ≡ putColumns st (x .readings) (outcomeOf (st .settings) (view st (x .readings)) (v .call) .node)
+  pub accepted-columns :
+      calledOn st x text area .lent .readings ≡
+      putColumns st (x .readings) (outcomeOf (st .settings) (view st (x .readings)) (v .call) .node)
   unfolding putLent
   accepted-columns = ap (λ (y : Lent). y .readings) accepted-lent
 
-  pub accepted-sent : calledOn st x text area .lent .sent ≡ withPlaces (x .sent) (holding (placesOf (x .sent)) (outcomeOf (st .settings) (view st (x .readings)) (v .call) .records))
+  pub accepted-sent :
+      calledOn st x text area .lent .sent ≡
+      withPlaces (x .sent) (holding (placesOf (x .sent)) (outcomeOf (st .settings) (view st (x .readings)) (v .call) .records))
   unfolding putLent
   accepted-sent = ap (λ (y : Lent). y .sent) accepted-lent
 
   pub accepted-records : calledOn st x text area .records ≡ length (outcomeOf (st .settings) (view st (x .readings)) (v .call) .records)
   accepted-records = ap (λ (r : Called). r .records) (v .leaves)
 
-  pub accepted-area : calledOn st x text area .area ≡ inFront (allBytes (outcomeOf (st .settings) (view st (x .readings)) (v .call) .records)) area
+  pub accepted-area :
+      calledOn st x text area .area ≡ inFront (allBytes (outcomeOf (st .settings) (view st (x .readings)) (v .call) .records)) area
   accepted-area = ap (λ (r : Called). r .area) (v .leaves)
 
   module _ (f : Fits st (x .readings)) where
     -- what state and store stand for afterwards is the outcome's node
-    pub accepted-view : view (calledOn st x text area .state) (calledOn st x text area .lent .readings) ≡ outcomeOf (st .settings) (view st (x .readings)) (v .call) .node
+    pub accepted-view :
+        view (calledOn st x text area .state) (calledOn st x text area .lent .readings) ≡
+        outcomeOf (st .settings) (view st (x .readings)) (v .call) .node
     accepted-view =
         ap₂ view accepted-state accepted-columns ∙ view-put st (x .readings) f after (outcome-sized st x (v .call) f)
 
     pub accepted-fits : Fits (calledOn st x text area .state) (calledOn st x text area .lent .readings)
     accepted-fits = rw (accepted-state, accepted-columns) (fits-put st (x .readings) f after (outcome-sized st x (v .call) f))
-
-    pub accepted-storeLength : storeLength (calledOn st x text area .lent .readings) ≡ storeLength (x .readings)
-    accepted-storeLength = ap storeLength accepted-columns ∙ storeLength-put st (x .readings) f after (outcome-sized st x (v .call) f)
 
   pub accepted-settings : calledOn st x text area .state .settings ≡ st .settings
   accepted-settings = ap (λ (t : State). t .settings) accepted-state ∙ settings-put st after
@@ -111,8 +113,3 @@ module _ (st : State) (x : Lent) (text area : List ℕ) where
   pub called-heads : length (calledOn st x text area .state .heads) ≡ length (st .heads)
   called-heads =
       either-way st x text area (λ (r : Called). length (r .state .heads) ≡ length (st .heads)) (λ u. rw (u .state)) (accepted-heads st x text area)
-
-  pub called-storeLength : Fits st (x .readings) → storeLength (calledOn st x text area .lent .readings) ≡ storeLength (x .readings)
-  called-storeLength f =
-      either-way st x text area (λ (r : Called). storeLength (r .lent .readings) ≡ storeLength (x .readings)) (λ u. rw (u .lent))
-      (λ v. accepted-storeLength st x text area v f)

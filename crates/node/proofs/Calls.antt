@@ -1,14 +1,13 @@
 -- A call: a refused one changes nothing; an accepted one passed every test, and leaves the outcome of the call that was read, laid into
--- state, store and area. By cases on the first test that fails and on what the text is read as. Assumes nothing.
+-- state, store and area. By cases on the first test that fails and on what the text is read as.
 use Prim.Native.Nat.{ℕ, _≤_}
 use mathlib.Core.Path.{_≡_, refl, _∙_, ap}
 use mathlib.Core.Bool.{Bool, true, false, cond}
 use mathlib.Core.List.{List}
 use native.Mathlib.Omega.{arith}
-use borrow.Author.Tests.{ltb-false, eqb-true, eqb-false, not-false, le-ltb, eq-eqb}
+use borrow.Author.Tests.{ltb-false, eqb-true, eqb-false, not-false, le-ltb}
 use lib.Dec.{eqb}
 use lib.ListN.{length}
-use Rattle.area.specs.Laid.{inFront}
 use Rattle.journal.specs.declared.Call.{Call}
 use Rattle.journal.specs.declared.CallRead.{CallRead}
 use Rattle.journal.specs.declared.CallRead.the-variants as CallRead
@@ -23,10 +22,9 @@ use Rattle.node.specs.Sizes.{areaBytes}
 use Rattle.store.specs.Columns.{storeLength}
 use Rattle.retransmission.specs.Sizes.{heldBytes}
 use Rattle.node.proofs.Opening.{not-short, long-enough}
-use Rattle.node.specs.View.{Lent, places, view, putState}
+use Rattle.node.specs.View.{Lent, places, view}
 use Rattle.node.specs.Shape.{inShape}
-use Rattle.node.specs.Calls.{Called, hostTests, putLent, refusedWith, calledWith, calledOn}
-use Rattle.record.specs.Layout.{allBytes}
+use Rattle.node.specs.Calls.{Called, hostTests, laidOutcome, refusedWith, calledWith, calledOn}
 use Rattle.node.specs.declared.State.{State}
 
 -- what a refused call hands back
@@ -38,14 +36,7 @@ pub record Untouched (st : State) (x : Lent) (area : List ℕ) (r : Called) : Ty
 
 -- what an accepted call returns and leaves
 abbrev pub laidDown : State → Lent → List ℕ → Call → Called
-laidDown st x area k =
-    record {
-      answer = 0;
-      records = length (outcomeOf (st .settings) (view st (x .readings)) k .records);
-      state = putState st (outcomeOf (st .settings) (view st (x .readings)) k .node);
-      lent = putLent st x (outcomeOf (st .settings) (view st (x .readings)) k);
-      area = inFront (allBytes (outcomeOf (st .settings) (view st (x .readings)) k .records)) area;
-    }
+laidDown st x area k = laidOutcome st x area (outcomeOf (st .settings) (view st (x .readings)) k)
 
 -- the host's three tests passed
 pub record HostPassed (st : State) (x : Lent) (area : List ℕ) : Type 0 where
@@ -155,14 +146,10 @@ module _ (st : State) (x : Lent) (text area : List ℕ) where
       ])
       refl e
 
-  -- and a call that passes every test is accepted
-  pub accepts-call : HostPassed st x area → (k : Call) → callOf text ≡ CallRead.Accepted k → answerTo (st .settings) (view st (x .readings)) k ≡ 0 → calledOn st x text area ≡ laidDown st x area k
-  unfolding calledWith
-  accepts-call h k q e =
-      called-past-host h ∙ ap (calledWith st x area) q ∙ rw (eq-eqb (answerTo (st .settings) (view st (x .readings)) k) 0 e)
-
   -- what holds after a refused call and after an accepted one holds after any
-  pub either-way : (P : Called → Type 0) → (Untouched st x area (calledOn st x text area) → P (calledOn st x text area)) → (AcceptedOn st x text area → P (calledOn st x text area)) → P (calledOn st x text area)
+  pub either-way :
+      (P : Called → Type 0) → (Untouched st x area (calledOn st x text area) → P (calledOn st x text area)) →
+      (AcceptedOn st x text area → P (calledOn st x text area)) → P (calledOn st x text area)
   either-way P refused accepted =
       (elim (eqb (calledOn st x text area .answer) 0) as
       (λ b. eqb (calledOn st x text area .answer) 0 ≡ b → P (calledOn st x text area)) [

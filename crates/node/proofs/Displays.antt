@@ -1,5 +1,5 @@
--- A display's two calls: a refused one changes nothing; an accepted one passed every test. An acknowledgement leaves a state that stands for the
--- node with that display's last id. By cases on the host's tests and on the call's own. Assumes nothing.
+-- A display's two calls: a refused one changes nothing; an accepted one passed every test. An acknowledgement leaves a state that stands
+-- for the node with that display's last id. By cases on the host's tests and on the call's own.
 use Prim.Native.Nat.{ℕ, _-_, _<_}
 use mathlib.Core.Path.{_≡_, refl, ap}
 use mathlib.Core.Bool.{Bool, true, false, cond}
@@ -99,7 +99,8 @@ module _ (st : State) (x : Lent) (display id : ℕ) (area : List ℕ) where
   abbrev ackAnswer : ℕ
   ackAnswer = answerToAcknowledgement (st .settings) (view st (x .readings)) display id
 
-  pub refused-acknowledgement : (acknowledgedOn st x display id area .answer ≡ 0 → ⊥) → Untouched st x area (acknowledgedOn st x display id area)
+  pub refused-acknowledgement :
+      (acknowledgedOn st x display id area .answer ≡ 0 → ⊥) → Untouched st x area (acknowledgedOn st x display id area)
   unfolding acknowledgedOn acknowledgedWith
   refused-acknowledgement e = judged-refused st x area ackAnswer (acknowledgedDown st x display id area) refl e
 
@@ -114,7 +115,9 @@ module _ (st : State) (x : Lent) (display id : ℕ) (area : List ℕ) where
         leaves = v .leaves;
       }
 
-  pub accepts-acknowledgement : HostPassed st x area → answerToAcknowledgement (st .settings) (view st (x .readings)) display id ≡ 0 → acknowledgedOn st x display id area ≡ acknowledgedDown st x display id area
+  pub accepts-acknowledgement :
+      HostPassed st x area → answerToAcknowledgement (st .settings) (view st (x .readings)) display id ≡ 0 →
+      acknowledgedOn st x display id area ≡ acknowledgedDown st x display id area
   unfolding acknowledgedOn acknowledgedWith
   accepts-acknowledgement h e = judged-passes st x area ackAnswer (acknowledgedDown st x display id area) h e
 
@@ -171,7 +174,9 @@ module _ (st : State) (x : Lent) (display from : ℕ) (area : List ℕ) where
       let v = judged-accepted st x area fetchAnswer (fetchedDown st x from area) e in
       record { host = v .host; answered = v .own; leaves = v .leaves }
 
-  pub accepts-fetch : HostPassed st x area → answerToFetch (st .settings) (view st (x .readings)) display from ≡ 0 → fetchedOn st x display from area ≡ fetchedDown st x from area
+  pub accepts-fetch :
+      HostPassed st x area → answerToFetch (st .settings) (view st (x .readings)) display from ≡ 0 →
+      fetchedOn st x display from area ≡ fetchedDown st x from area
   unfolding fetchedOn fetchedWith
   accepts-fetch h e = judged-passes st x area fetchAnswer (fetchedDown st x from area) h e
 

@@ -1,8 +1,8 @@
 -- Tests over the lines that are kept in one Bool, line by line: what is found so far, together with the test of the lines left, stays the
--- same. Line i is its head with the i-th share of the readings. Assumes nothing.
+-- same. Line i is its head with the i-th share of the readings.
 use Prim.Native.Nat.{ℕ, _+_, _*_, _<_, _≤_}
-use mathlib.Core.Path.{_≡_, refl, sym, ap, _∙_}
-use mathlib.Core.Bool.{Bool, true, false, _&&_, _||_, and-assoc, and-true, or-assoc, or-false}
+use mathlib.Core.Path.{_≡_, sym, ap, _∙_}
+use mathlib.Core.Bool.{Bool, _&&_, _||_, and-assoc, and-true, or-assoc, or-false}
 use mathlib.Core.List.{List, [], _∷_}
 use native.Mathlib.Numerals.{add-one}
 use native.Mathlib.Omega.{arith}
@@ -21,7 +21,9 @@ abbrev pub lineAt : List LineHead → List Reading → ℕ → Line
 lineAt hs rs i = viewLine (getD hs i (headOf noLine)) (take readingsPerLine (drop (i * readingsPerLine) rs))
 
 -- the lines from line i on
-pub lines-left : (n : ℕ) (hs : List LineHead) (rs : List Reading) (i : ℕ) → n ≤ length hs → i < n → drop i (viewLines n hs rs) ≡ lineAt hs rs i ∷ drop (i + 1) (viewLines n hs rs)
+pub lines-left :
+    (n : ℕ) (hs : List LineHead) (rs : List Reading) (i : ℕ) → n ≤ length hs → i < n →
+    drop i (viewLines n hs rs) ≡ lineAt hs rs i ∷ drop (i + 1) (viewLines n hs rs)
 lines-left n hs rs i room h =
     let e : length (viewLines n hs rs) ≡ n = length-viewLines n hs rs room in
     rw (add-one, drop-cons (viewLines n hs rs) i noLine (omega arith), line-at n hs rs i h room)
@@ -38,9 +40,6 @@ abbrev pub AllLinesSoFar : (Line → Bool) → ℕ → List LineHead → List Re
 AllLinesSoFar test n hs rs ok i = ok && allOf test (drop i (viewLines n hs rs)) ≡ allOf test (viewLines n hs rs)
 
 module _ (test : Line → Bool) (n : ℕ) (hs : List LineHead) (rs : List Reading) where
-  pub all-lines-start : AllLinesSoFar test n hs rs true 0
-  all-lines-start = refl
-
   module _ (room : n ≤ length hs) (ok : Bool) (i : ℕ) (v : AllLinesSoFar test n hs rs ok i) where
     pub all-lines-turn : i < n → (passes : Bool) → passes ≡ test (lineAt hs rs i) → AllLinesSoFar test n hs rs (ok && passes) (i + 1)
     unfolding allOf
@@ -62,9 +61,6 @@ SomeLineSoFar test n hs rs found i =
     found || someOf test (drop i (viewLines n hs rs)) ≡ someOf test (viewLines n hs rs)
 
 module _ (test : Line → Bool) (n : ℕ) (hs : List LineHead) (rs : List Reading) where
-  pub some-line-start : SomeLineSoFar test n hs rs false 0
-  some-line-start = refl
-
   module _ (room : n ≤ length hs) (found : Bool) (i : ℕ) (v : SomeLineSoFar test n hs rs found i) where
     pub some-line-turn : i < n → (passes : Bool) → passes ≡ test (lineAt hs rs i) → SomeLineSoFar test n hs rs (found || passes) (i + 1)
     unfolding someOf

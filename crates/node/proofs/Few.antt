@@ -1,5 +1,5 @@
--- No call gives more records than 65, whatever the state: an operator has 64 meters, and a bucket's work gives a result for each at most and
--- a boundary. By the rule of the step. Assumes nothing.
+-- No call gives more records than 65, whatever the state: an operator has 64 meters, and a bucket's work gives a result for each at most
+-- and a boundary. By the rule of the step.
 use mathlib.Core.Path.{_≡_}
 use mathlib.Core.Bool.{true, false, cond}
 use mathlib.Core.List.{List, [], _∷_}
@@ -15,7 +15,7 @@ use Rattle.journal.specs.Kinds.{letterS, letterT, letterB}
 use Rattle.record.specs.Sizes.{recordBytes}
 use Rattle.store.specs.Order.{inBucket}
 use Rattle.operator.specs.Meters.{meterCount}
-use Rattle.operator.specs.Results.{plain}
+use Rattle.record.specs.Markers.{marker}
 use Rattle.protocol.specs.Kinds.{Kind, kindOf, uses, isStep}
 use Rattle.protocol.specs.Node.{Node, keptOf}
 use Rattle.protocol.specs.declared.Rule.{Rule}
@@ -34,7 +34,7 @@ boundary-few : (s : Settings) (j : ℕ) → length (boundaryAt s j) ≤ 1
 unfolding boundaryAt
 boundary-few s j =
     elim (closesWindow (s .window) j) as
-    (λ b. length (cond b (plain letterB 0 (record { 0 = bucketEnd (s .bucket) j }) ∷ []) []) ≤ 1) [
+    (λ b. length (cond b (marker letterB 0 (record { 0 = bucketEnd (s .bucket) j }) ∷ []) []) ≤ 1) [
       | true ↦ omega arith
       | false ↦ omega arith
     ]

@@ -1,5 +1,5 @@
 -- The node's numbers fit the widths that a program holds them in: so the opening leaves it, and so does every call whose fields fit,
--- whatever it is answered. Assumes nothing.
+-- whatever it is answered.
 use Prim.Native.Nat.{ℕ, _-_, _<_, _^_}
 use mathlib.Core.Path.{_≡_, _∙_}
 use mathlib.Core.Bool.{true, false, cond, not}
@@ -20,7 +20,8 @@ use Rattle.store.specs.Order.{Placed, isIn, inBucket}
 use Rattle.store.proofs.Pairs.{every-to, every-append, every-keep, every-map}
 use Rattle.store.specs.Lists.{Every}
 use Rattle.operator.specs.declared.Operator.{Operator}
-use Rattle.operator.specs.Meters.{meterCount, noMeter, clear, fresh, addAll}
+use Rattle.operator_meter.specs.Values.{noMeter}
+use Rattle.operator.specs.Meters.{meterCount, clear, fresh, addAll}
 use Rattle.operator.specs.Work.{close, work}
 use Rattle.protocol.specs.Kinds.{Kind, kindOf, uses, isStep}
 use Rattle.protocol.specs.Node.{Line, Node, noLine, opened, keptOf, readingOf, onLine}
@@ -31,7 +32,8 @@ use Rattle.protocol.specs.Refusals.{answerTo}
 use Rattle.protocol.specs.Calls.{input, done, accepted, outcomeOf}
 use Rattle.node.proofs.Lists.{every-replicate, every-modify}
 use Rattle.operator.proofs.Adding.{addAll-length}
-use Rattle.operator.proofs.Meters.{LastFits, ValueFits, no-last, lasts-addAll}
+use Rattle.operator_meter.proofs.Bounds.{LastFits, no-last}
+use Rattle.operator.proofs.Meters.{ValueFits, lasts-addAll}
 use Rattle.node.proofs.Gathered.{every-inBucket}
 
 -- ---- within the widths
@@ -117,7 +119,9 @@ line-fits k f Kind.P l h = h
 
 -- ---- a step
 
-work-fits : (s : Settings) (kind j : ℕ) (rs : List Placed) (o : Operator) → Every ValueFits rs → OperatorFits o → OperatorFits (work s kind j rs o .operator)
+work-fits :
+    (s : Settings) (kind j : ℕ) (rs : List Placed) (o : Operator) → Every ValueFits rs → OperatorFits o →
+    OperatorFits (work s kind j rs o .operator)
 unfolding work close clear
 work-fits s kind j rs o f h =
     elim (closesWindow (s .window) j) as

@@ -1,5 +1,5 @@
 -- The readings of a bucket are kept readings: what holds of every kept reading holds of every one of them, and they are no more than are
--- kept. Line by line for what is gathered; sorting only permutes it. Assumes nothing.
+-- kept. Line by line for what is gathered; sorting only permutes it.
 use Prim.Native.Nat.{ℕ, suc, _*_, _≤_}
 use mathlib.Core.List.{List, [], _∷_, map}
 use native.Mathlib.Omega.{arith}
@@ -15,7 +15,9 @@ use Rattle.store.proofs.Bucket.{inBucket-permutes}
 use Rattle.protocol.specs.Node.{Line, keptOf}
 
 module _ (law : Reading → Type 0) (size j : ℕ) where
-  pub every-gather : (n : ℕ) (ls : List Line) → Every (λ (l : Line). Every law (l .kept)) ls → Every (λ (r : Placed). law (r .reading)) (gather size j n (keptOf ls))
+  pub every-gather :
+      (n : ℕ) (ls : List Line) → Every (λ (l : Line). Every law (l .kept)) ls →
+      Every (λ (r : Placed). law (r .reading)) (gather size j n (keptOf ls))
   unfolding gather keptOf
   every-gather n [] h = tt
   every-gather n (l ∷ ls) h =
@@ -23,12 +25,16 @@ module _ (law : Reading → Type 0) (size j : ℕ) where
       (every-map (place n) (λ (r : Placed). law (r .reading)) (keep (isIn size j) (l .kept)) (every-keep law (isIn size j) (l .kept) (h .0)))
       (every-gather (suc n) ls (h .1))
 
-  pub every-inBucket : (ls : List Line) → Every (λ (l : Line). Every law (l .kept)) ls → Every (λ (r : Placed). law (r .reading)) (inBucket size j (keptOf ls))
+  pub every-inBucket :
+      (ls : List Line) → Every (λ (l : Line). Every law (l .kept)) ls →
+      Every (λ (r : Placed). law (r .reading)) (inBucket size j (keptOf ls))
   every-inBucket ls h = every-permuted (λ (r : Placed). law (r .reading)) (inBucket-permutes size j (keptOf ls)) (every-gather 1 ls h)
 
 -- ---- how many
 
-length-gather : (most size j n : ℕ) (ls : List Line) → Every (λ (l : Line). length (l .kept) ≤ most) ls → length (gather size j n (keptOf ls)) ≤ length ls * most
+length-gather :
+    (most size j n : ℕ) (ls : List Line) → Every (λ (l : Line). length (l .kept) ≤ most) ls →
+    length (gather size j n (keptOf ls)) ≤ length ls * most
 unfolding gather keptOf
 length-gather most size j n [] h = omega arith
 length-gather most size j n (l ∷ ls) h =
@@ -38,5 +44,7 @@ length-gather most size j n (l ∷ ls) h =
     let rest = length-gather most size j (suc n) ls (h .1) in
     rw (length-append (map (place n) kept) (gather size j (suc n) (keptOf ls))) (omega (arith, h .0))
 
-pub length-inBucket : (most size j : ℕ) (ls : List Line) → Every (λ (l : Line). length (l .kept) ≤ most) ls → length (inBucket size j (keptOf ls)) ≤ length ls * most
+pub length-inBucket :
+    (most size j : ℕ) (ls : List Line) → Every (λ (l : Line). length (l .kept) ≤ most) ls →
+    length (inBucket size j (keptOf ls)) ≤ length ls * most
 length-inBucket most size j ls h = rw (← length-permuted (inBucket-permutes size j (keptOf ls))) (length-gather most size j 1 ls h)

@@ -1,4 +1,4 @@
--- The limits of the settings, one by one, from the test of all of them. Assumes nothing.
+-- The limits of the settings, one by one, from the test of all of them.
 use Prim.Native.Nat.{_≤_}
 use mathlib.Core.Path.{_≡_}
 use mathlib.Core.Bool.{Bool, true, _&&_}

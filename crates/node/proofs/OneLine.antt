@@ -1,5 +1,5 @@
 -- One line changed, carried to the whole state and store: only that line's head is set, and only its share is written. The heads and the
--- shares by induction on the lines, the store column by column. Assumes nothing.
+-- shares by induction on the lines, the store column by column.
 use Prim.Native.Nat.{ℕ, zero, suc, _+_, _*_, _-_, _≤_, _<_, max}
 use mathlib.Core.Path.{_≡_, refl, sym, _∙_, ap}
 use mathlib.Core.List.{List, [], _∷_, _++_, map, append-assoc}
@@ -49,14 +49,19 @@ map-sets f xs at (v ∷ vs) = map-sets f (set xs at v) (suc at) vs ∙ ap (λ (l
 
 -- ---- the store's first rows, some of them written anew
 
-column-sets : {A : Type 0} (f : Reading → A) (d : A) (l : List A) (x : Columns) (n at : ℕ) (rs : List Reading) → ((i : ℕ) → f (rowAt x i) ≡ getD l i d) → n ≤ length l → at + length rs ≤ n → map f (sets (rows x n) at rs) ++ drop (length (sets (rows x n) at rs)) l ≡ sets l at (map f rs)
+column-sets :
+    {A : Type 0} (f : Reading → A) (d : A) (l : List A) (x : Columns) (n at : ℕ) (rs : List Reading) →
+    ((i : ℕ) → f (rowAt x i) ≡ getD l i d) → n ≤ length l → at + length rs ≤ n →
+    map f (sets (rows x n) at rs) ++ drop (length (sets (rows x n) at rs)) l ≡ sets l at (map f rs)
 column-sets f d l x n at rs e h g =
     let s : at + length (map f rs) ≤ length (map f (rows x n)) = omega (arith, length-map (rows x n) f, length-rows x n, length-map rs f) in
     rw (map-sets f (rows x n) at rs, length-sets (rows x n) at rs)
     (sym (sets-append-left (map f (rows x n)) (drop (length (rows x n)) l) at (map f rs) s) ∙
     ap (λ (q : List _). sets q at (map f rs)) (column-back f d l x n e h))
 
-pub withRows-sets : (x : Columns) (n at : ℕ) (rs : List Reading) → n ≤ storeLength x → at + length rs ≤ n → withRows x (sets (rows x n) at rs) ≡ withRowsAt x at rs
+pub withRows-sets :
+    (x : Columns) (n at : ℕ) (rs : List Reading) → n ≤ storeLength x → at + length rs ≤ n →
+    withRows x (sets (rows x n) at rs) ≡ withRowsAt x at rs
 unfolding withRows withRowsAt rowAt
 withRows-sets x n at rs h g =
     let m : Room n x = room n x h in
@@ -83,7 +88,9 @@ written n kept = kept ++ replicate (n - length kept) zeroed
 length-written : (n : ℕ) (kept : List Reading) → length (written n kept) ≡ max n (length kept)
 length-written n kept = simp (length-append, length-replicate) (omega arith)
 
-share-written : (n : ℕ) (kept rs : List Reading) → n ≤ readingsPerLine → length kept ≤ readingsPerLine → readingsPerLine ≤ length rs → shareWith (take readingsPerLine rs) n kept ++ drop readingsPerLine rs ≡ sets rs 0 (written n kept)
+share-written :
+    (n : ℕ) (kept rs : List Reading) → n ≤ readingsPerLine → length kept ≤ readingsPerLine → readingsPerLine ≤ length rs →
+    shareWith (take readingsPerLine rs) n kept ++ drop readingsPerLine rs ≡ sets rs 0 (written n kept)
 unfolding shareWith
 share-written n kept rs h g room =
     let w : List Reading = written n kept in
@@ -91,10 +98,13 @@ share-written n kept rs h g room =
     let m : 0 + length w ≡ max n (length kept) = omega arith in
     let fits : 0 + length w ≤ length rs = omega arith in
     let front : max n (length kept) ≤ length (take readingsPerLine rs) = omega (arith, length-take-le readingsPerLine rs room) in
-    let behind : drop (max n (length kept)) rs ≡ drop (max n (length kept)) (take readingsPerLine rs) ++ drop readingsPerLine rs = ap (drop (max n (length kept))) (sym (take-append-drop readingsPerLine rs)) ∙ drop-append-le (max n (length kept)) (take readingsPerLine rs) (drop readingsPerLine rs) front in
+    let behind : drop (max n (length kept)) rs ≡ drop (max n (length kept)) (take readingsPerLine rs) ++ drop readingsPerLine rs =
+    ap (drop (max n (length kept))) (sym (take-append-drop readingsPerLine rs)) ∙
+    drop-append-le (max n (length kept)) (take readingsPerLine rs) (drop readingsPerLine rs) front in
     sym (sets-eq w rs 0 fits ∙ rw (m, behind) (simp append-assoc))
 
-later-line : (t : LineHead) (hs : List LineHead) (rs : List Reading) (i : ℕ) → lineIn (t ∷ hs) rs (suc i) ≡ lineIn hs (drop readingsPerLine rs) i
+later-line :
+    (t : LineHead) (hs : List LineHead) (rs : List Reading) (i : ℕ) → lineIn (t ∷ hs) rs (suc i) ≡ lineIn hs (drop readingsPerLine rs) i
 later-line t hs rs i =
     let at : suc i * readingsPerLine ≡ readingsPerLine + i * readingsPerLine = omega arith in
     ap (λ (q : List Reading). viewLine (getD hs i (headOf noLine)) (take readingsPerLine q))
@@ -105,7 +115,9 @@ unfolding viewLine
 kept-same t share = refl
 
 module _ (g : Line → Line) where
-  heads-modify : (n : ℕ) (hs : List LineHead) (rs : List Reading) (i : ℕ) → Shares n hs rs → i < n → headsWith hs (modify g i (viewLines n hs rs)) ≡ set hs i (headOf (g (lineIn hs rs i)))
+  heads-modify :
+      (n : ℕ) (hs : List LineHead) (rs : List Reading) (i : ℕ) → Shares n hs rs → i < n →
+      headsWith hs (modify g i (viewLines n hs rs)) ≡ set hs i (headOf (g (lineIn hs rs i)))
   unfolding headsWith viewLines modify
   heads-modify zero hs rs i f h = absurd (omega arith)
   heads-modify (suc n) [] rs i f h = absurd (omega (arith, f .heads))
@@ -118,7 +130,10 @@ module _ (g : Line → Line) where
         later-line t hs rs i,
       )
 
-  shares-modify : (n : ℕ) (hs : List LineHead) (rs : List Reading) (i : ℕ) → Shares n hs rs → i < n → SmallLine (g (lineIn hs rs i)) → sharesWith hs rs (modify g i (viewLines n hs rs)) ≡ sets rs (i * readingsPerLine) (written (getD hs i (headOf noLine) .kept) (g (lineIn hs rs i) .kept))
+  shares-modify :
+      (n : ℕ) (hs : List LineHead) (rs : List Reading) (i : ℕ) → Shares n hs rs → i < n → SmallLine (g (lineIn hs rs i)) →
+      sharesWith hs rs (modify g i (viewLines n hs rs)) ≡
+      sets rs (i * readingsPerLine) (written (getD hs i (headOf noLine) .kept) (g (lineIn hs rs i) .kept))
   unfolding sharesWith viewLines modify
   shares-modify zero hs rs i f h s = absurd (omega arith)
   shares-modify (suc n) [] rs i f h s = absurd (omega (arith, f .heads))
@@ -145,7 +160,8 @@ module _ (st : State) (x : Columns) (f : Fits st x) (i : ℕ) (h : i < st .setti
   share-rows = share-of-rows x (i * readingsPerLine) readingsPerLine (st .settings .lines * readingsPerLine) (omega arith)
 
   -- line i is its head with the rows of its share
-  pub line-of : getD (view st x .lines) i noLine ≡ viewLine (getD (st .heads) i (headOf noLine)) (rowsFrom x (i * readingsPerLine) readingsPerLine)
+  pub line-of :
+      getD (view st x .lines) i noLine ≡ viewLine (getD (st .heads) i (headOf noLine)) (rowsFrom x (i * readingsPerLine) readingsPerLine)
   unfolding view
   line-of =
       line-at (st .settings .lines) (st .heads) (rows x (places st)) i h (f .heads) ∙
@@ -157,19 +173,30 @@ module _ (st : State) (x : Columns) (f : Fits st x) (i : ℕ) (h : i < st .setti
 
   module _ (g : Line → Line) where
     -- where line i changes, its head is set
-    pub heads-line : headsWith (st .heads) (modify g i (view st x .lines)) ≡ set (st .heads) i (headOf (g (viewLine (getD (st .heads) i (headOf noLine)) (rowsFrom x (i * readingsPerLine) readingsPerLine))))
+    pub heads-line :
+        headsWith (st .heads) (modify g i (view st x .lines)) ≡
+        set (st .heads) i (headOf (g (viewLine (getD (st .heads) i (headOf noLine)) (rowsFrom x (i * readingsPerLine) readingsPerLine))))
     unfolding view
     heads-line =
         rw (← share-rows)
         (heads-modify g (st .settings .lines) (st .heads) (rows x (places st)) i (shares st x f (st .settings .lines) refl) h)
 
     -- and its share is written
-    pub putColumns-line : (n : Node) → n .lines ≡ modify g i (view st x .lines) → SmallLine (g (viewLine (getD (st .heads) i (headOf noLine)) (rowsFrom x (i * readingsPerLine) readingsPerLine))) → putColumns st x n ≡ withKept x (i * readingsPerLine) (getD (st .heads) i (headOf noLine) .kept) (g (viewLine (getD (st .heads) i (headOf noLine)) (rowsFrom x (i * readingsPerLine) readingsPerLine)) .kept)
+    pub putColumns-line :
+        (n : Node) → n .lines ≡ modify g i (view st x .lines) →
+        SmallLine (g (viewLine (getD (st .heads) i (headOf noLine)) (rowsFrom x (i * readingsPerLine) readingsPerLine))) →
+        putColumns st x n ≡
+        withKept x (i * readingsPerLine) (getD (st .heads) i (headOf noLine) .kept)
+        (g (viewLine (getD (st .heads) i (headOf noLine)) (rowsFrom x (i * readingsPerLine) readingsPerLine)) .kept)
     unfolding putColumns view places withKept
     putColumns-line n e small =
         let line : Line = viewLine (getD (st .heads) i (headOf noLine)) (rowsFrom x (i * readingsPerLine) readingsPerLine) in
         let rs : List Reading = written (getD (st .heads) i (headOf noLine) .kept) (g line .kept) in
-        let long : length rs ≡ max (getD (st .heads) i (headOf noLine) .kept) (length (g line .kept)) = length-written (getD (st .heads) i (headOf noLine) .kept) (g line .kept) in
+        let long : length rs ≡ max (getD (st .heads) i (headOf noLine) .kept) (length (g line .kept)) =
+        length-written (getD (st .heads) i (headOf noLine) .kept) (g line .kept) in
         let there : SmallHead (getD (st .heads) i (headOf noLine)) = head-small in
-        let same : sharesWith (st .heads) (rows x (places st)) (n .lines) ≡ sets (rows x (places st)) (i * readingsPerLine) rs = rw (e, ← share-rows) (shares-modify g (st .settings .lines) (st .heads) (rows x (places st)) i (shares st x f (st .settings .lines) refl) h (rw (← share-rows) at small)) in
+        let same : sharesWith (st .heads) (rows x (places st)) (n .lines) ≡ sets (rows x (places st)) (i * readingsPerLine) rs =
+        rw (e, ← share-rows)
+        (shares-modify g (st .settings .lines) (st .heads) (rows x (places st)) i (shares st x f (st .settings .lines) refl) h
+        (rw (← share-rows) at small)) in
         ap (withRows x) same ∙ withRows-sets x (places st) (i * readingsPerLine) rs (f .room) (omega arith)

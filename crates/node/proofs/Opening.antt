@@ -1,5 +1,5 @@
 -- The opening: an accepted one leaves the fresh state of settings that were read and are within their limits, and state and store then
--- stand for the opened node; a refused one leaves what it was handed. By cases on what the text is read as. Assumes nothing.
+-- stand for the opened node; a refused one leaves what it was handed. By cases on what the text is read as.
 use Prim.Native.Nat.{ℕ, zero, suc, _*_, _≤_}
 use mathlib.Core.Path.{_≡_, refl, sym, _∙_, ap, ap₂, subst}
 use mathlib.Core.Bool.{Bool, true, false, cond}
@@ -146,13 +146,17 @@ zeroedLent s x =
 -- ---- the opening
 
 -- both stores are long enough
-pub not-short : (lines : ℕ) (x : Lent) → isShort lines x ≡ false → (lines * readingsPerLine ≤ storeLength (x .readings)) × (heldBytes ≤ length (x .sent))
+pub not-short :
+    (lines : ℕ) (x : Lent) → isShort lines x ≡ false →
+    (lines * readingsPerLine ≤ storeLength (x .readings)) × (heldBytes ≤ length (x .sent))
 unfolding isShort sharesShort
 not-short lines x e =
     let both = neither (ltb (storeLength (x .readings)) (lines * readingsPerLine)) (ltb (length (x .sent)) heldBytes) e in
     (ltb-false _ _ (both .0), ltb-false _ _ (both .1))
 
-pub long-enough : (lines : ℕ) (x : Lent) → lines * readingsPerLine ≤ storeLength (x .readings) → heldBytes ≤ length (x .sent) → isShort lines x ≡ false
+pub long-enough :
+    (lines : ℕ) (x : Lent) → lines * readingsPerLine ≤ storeLength (x .readings) → heldBytes ≤ length (x .sent) →
+    isShort lines x ≡ false
 unfolding isShort sharesShort
 long-enough lines x h g = rw (le-ltb (storeLength (x .readings)) (lines * readingsPerLine) h, le-ltb (length (x .sent)) heldBytes g)
 
@@ -171,7 +175,9 @@ openedIf st x s short =
     cond short (record { answer = 3; state = st; lent = x })
     (record { answer = 0; state = freshState s; lent = zeroedLent s x })
 
-opened-read : (st : State) (x : Lent) (text : List ℕ) (r : SettingsRead) → settingsOf text ≡ r → openedWith st x r .answer ≡ 0 → OpenedOn st x text
+opened-read :
+    (st : State) (x : Lent) (text : List ℕ) (r : SettingsRead) → settingsOf text ≡ r → openedWith st x r .answer ≡ 0 →
+    OpenedOn st x text
 unfolding openedOn openedWith isShort settingsAnswer
 opened-read st x text (SettingsRead.Accepted s) q e =
     (elim (isShort (s .lines) x) as
@@ -198,8 +204,9 @@ pub opened-on : (st : State) (x : Lent) (text : List ℕ) → openedOn st x text
 unfolding openedOn
 opened-on st x text e = opened-read st x text (settingsOf text) refl e
 
--- a refused opening changes nothing
-refused-read : (st : State) (x : Lent) (r : SettingsRead) → (openedWith st x r .answer ≡ 0 → ⊥) → (openedWith st x r .state ≡ st) × (openedWith st x r .lent ≡ x)
+refused-read :
+    (st : State) (x : Lent) (r : SettingsRead) → (openedWith st x r .answer ≡ 0 → ⊥) →
+    (openedWith st x r .state ≡ st) × (openedWith st x r .lent ≡ x)
 unfolding openedWith
 refused-read st x (SettingsRead.Accepted s) e =
     (elim (isShort (s .lines) x) as
@@ -211,7 +218,10 @@ refused-read st x (SettingsRead.Accepted s) e =
 refused-read st x SettingsRead.Malformed e = (refl, refl)
 refused-read st x SettingsRead.OutsideLimits e = (refl, refl)
 
-pub refused-opening : (st : State) (x : Lent) (text : List ℕ) → (openedOn st x text .answer ≡ 0 → ⊥) → (openedOn st x text .state ≡ st) × (openedOn st x text .lent ≡ x)
+-- a refused opening changes nothing (document 01, section 'Refusal by whom'): a claim of its own, which no proof needs
+pub refused-opening :
+    (st : State) (x : Lent) (text : List ℕ) → (openedOn st x text .answer ≡ 0 → ⊥) →
+    (openedOn st x text .state ≡ st) × (openedOn st x text .lent ≡ x)
 unfolding openedOn
 refused-opening st x text e = refused-read st x (settingsOf text) e
 
@@ -246,8 +256,6 @@ module _ (st : State) (x : Lent) (text : List ℕ) (o : OpenedOn st x text) wher
   pub opened-heads : length (openedOn st x text .state .heads) ≡ maxLines
   opened-heads = ap (λ (t : State). length (t .heads)) opened-state ∙ length-heads-fresh (o .settings)
 
+  -- no line keeps anything (document 01, section 'Buckets and the operator'): a claim of its own, which no proof needs
   pub opened-empty : Every (λ (h : LineHead). h .kept ≡ 0) (openedOn st x text .state .heads)
   opened-empty = rw opened-state (empty-fresh (o .settings))
-
-  pub opened-storeLength : storeLength (openedOn st x text .lent .readings) ≡ storeLength (x .readings)
-  opened-storeLength = ap storeLength opened-columns ∙ storeLength-zeroed (o .settings) (x .readings) (o .room)

@@ -1,5 +1,5 @@
 -- What a call leaves has as many lines, and each line keeps at most what its share has places for: a reading more is refused at 256 kept,
--- everything else keeps as many or fewer. By cases on kind and rule. Assumes nothing.
+-- everything else keeps as many or fewer. By cases on kind and rule.
 use Prim.Native.Nat.{ℕ, _-_}
 use mathlib.Core.Path.{_≡_, refl}
 use mathlib.Core.Bool.{Bool, true, false, cond, not}
@@ -17,7 +17,7 @@ use Rattle.store.proofs.Pairs.{every-to, every-map}
 use Rattle.store.proofs.Keeping.{length-keep}
 use Rattle.protocol.specs.Kinds.{Kind, kindOf, uses, isStep}
 use Rattle.protocol.specs.Node.{Line, Node, noLine, onLine}
-use Rattle.protocol.specs.Refusals.{lineOf, isFull, answerTo}
+use Rattle.protocol.specs.Refusals.{namedLine, isFull, answerTo}
 use Rattle.protocol.specs.declared.Rule.{Rule}
 use Rattle.protocol.specs.declared.Rule.the-variants as Rule
 use Rattle.protocol.specs.Rules.{Outcome, ruleOf, without, act}
@@ -43,10 +43,12 @@ input-lines : (n : Node) (k : Call) (kind : Kind) → length (input n k kind .no
 unfolding input
 input-lines n k kind = length-modify (onLine k kind) (k .line - 1) (n .lines)
 
-input-small : (n : Node) (k : Call) (kind : Kind) → isFull (lineOf n k) kind ≡ false → Every SmallLine (n .lines) → Every SmallLine (input n k kind .node .lines)
-unfolding input lineOf
+input-small :
+    (n : Node) (k : Call) (kind : Kind) → isFull (namedLine n k) kind ≡ false → Every SmallLine (n .lines) →
+    Every SmallLine (input n k kind .node .lines)
+unfolding input namedLine
 input-small n k kind e h =
-    every-modify SmallLine (onLine k kind) noLine (k .line - 1) (n .lines) (onLine-small k kind (lineOf n k) e) h
+    every-modify SmallLine (onLine k kind) noLine (k .line - 1) (n .lines) (onLine-small k kind (namedLine n k) e) h
 
 -- ---- a step
 
@@ -81,7 +83,9 @@ done-lines s n k Kind.U = input-lines n k Kind.U
 done-lines s n k Kind.R = input-lines n k Kind.R
 done-lines s n k Kind.P = act-lines s n (ruleOf s n (k .now))
 
-done-small : (s : Settings) (n : Node) (k : Call) (kind : Kind) → isFull (lineOf n k) kind ≡ false → Every SmallLine (n .lines) → Every SmallLine (done s n k kind .node .lines)
+done-small :
+    (s : Settings) (n : Node) (k : Call) (kind : Kind) → isFull (namedLine n k) kind ≡ false → Every SmallLine (n .lines) →
+    Every SmallLine (done s n k kind .node .lines)
 unfolding done isStep uses
 done-small s n k Kind.S e h = input-small n k Kind.S e h
 done-small s n k Kind.T e h = input-small n k Kind.T e h

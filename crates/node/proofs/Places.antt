@@ -1,5 +1,6 @@
--- The store place by place after a node is laid down: what a line keeps stands first in its share, places given up are
--- zeroed, and every other place is as it was. Share by share, each by its own law. Assumes nothing.
+-- The store place by place after a node is laid down: what a line keeps stands first in its share, places given up are zeroed, and every
+-- other place is as it was. Share by share, each by its own law. The laws on heads and places are claims of their own, on what document 01
+-- says of the store (section 'Store and output area'): no proof needs them.
 use Prim.Native.Nat.{ℕ, zero, suc, _+_, _*_, _≤_, _<_}
 use mathlib.Core.Path.{_≡_, _∙_, ap, subst}
 use mathlib.Core.List.{List, [], _∷_, _++_}
@@ -27,7 +28,10 @@ abbrev pub shareOf : List LineHead → List Reading → List Line → ℕ → Li
 shareOf hs rs ls i =
     shareWith (take readingsPerLine (drop (i * readingsPerLine) rs)) (getD hs i (headOf noLine) .kept) (getD ls i noLine .kept)
 
-share-at : (ls : List Line) (hs : List LineHead) (rs : List Reading) → Shares (length ls) hs rs → Every SmallLine ls → (i j : ℕ) (d : Reading) → i < length ls → j < readingsPerLine → getD (sharesWith hs rs ls) (i * readingsPerLine + j) d ≡ getD (shareOf hs rs ls i) j d
+share-at :
+    (ls : List Line) (hs : List LineHead) (rs : List Reading) → Shares (length ls) hs rs → Every SmallLine ls →
+    (i j : ℕ) (d : Reading) → i < length ls → j < readingsPerLine →
+    getD (sharesWith hs rs ls) (i * readingsPerLine + j) d ≡ getD (shareOf hs rs ls i) j d
 unfolding sharesWith
 share-at [] hs rs f s i j d h g = absurd (omega arith)
 share-at (l ∷ ls) [] rs f s i j d h g = absurd (omega (arith, f .heads))
@@ -52,7 +56,9 @@ share-at (l ∷ ls) (k ∷ hs) rs f s (suc i) j d h g =
 -- ---- the store
 
 -- heads past the state's lines stay as they were
-pub heads-behind : (st : State) (n : Node) → length (n .lines) ≡ st .settings .lines → drop (st .settings .lines) (putState st n .heads) ≡ drop (st .settings .lines) (st .heads)
+pub heads-behind :
+    (st : State) (n : Node) → length (n .lines) ≡ st .settings .lines →
+    drop (st .settings .lines) (putState st n .heads) ≡ drop (st .settings .lines) (st .heads)
 unfolding putState
 heads-behind st n e =
     subst (λ (m : ℕ). drop m (headsWith (st .heads) (n .lines)) ≡ drop m (st .heads)) e
@@ -77,15 +83,21 @@ module _ (st : State) (x : Columns) (f : Fits st x) (n : Node) (v : Sized (st .s
         (omega (arith, v .lines)) g
 
     -- a kept reading
-    pub place-kept : j < length (getD (n .lines) i noLine .kept) → rowAt (putColumns st x n) (i * readingsPerLine + j) ≡ getD (getD (n .lines) i noLine .kept) j zeroed
+    pub place-kept :
+        j < length (getD (n .lines) i noLine .kept) →
+        rowAt (putColumns st x n) (i * readingsPerLine + j) ≡ getD (getD (n .lines) i noLine .kept) j zeroed
     place-kept k = place-at ∙ share-kept _ _ (getD (n .lines) i noLine .kept) j zeroed k
 
     -- a place given up
-    pub place-given-up : length (getD (n .lines) i noLine .kept) ≤ j → j < getD (st .heads) i (headOf noLine) .kept → rowAt (putColumns st x n) (i * readingsPerLine + j) ≡ zeroed
+    pub place-given-up :
+        length (getD (n .lines) i noLine .kept) ≤ j → j < getD (st .heads) i (headOf noLine) .kept →
+        rowAt (putColumns st x n) (i * readingsPerLine + j) ≡ zeroed
     place-given-up k q = place-at ∙ share-given-up _ _ (getD (n .lines) i noLine .kept) j zeroed k q
 
     -- any other place
-    pub place-untouched : length (getD (n .lines) i noLine .kept) ≤ j → getD (st .heads) i (headOf noLine) .kept ≤ j → rowAt (putColumns st x n) (i * readingsPerLine + j) ≡ rowAt x (i * readingsPerLine + j)
+    pub place-untouched :
+        length (getD (n .lines) i noLine .kept) ≤ j → getD (st .heads) i (headOf noLine) .kept ≤ j →
+        rowAt (putColumns st x n) (i * readingsPerLine + j) ≡ rowAt x (i * readingsPerLine + j)
     unfolding places
     place-untouched k q =
         place-at ∙ share-untouched _ _ (getD (n .lines) i noLine .kept) j zeroed k q ∙

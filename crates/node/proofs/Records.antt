@@ -1,5 +1,5 @@
--- The records of a call on a node in shape: no more than an area has room for, each within a record's widths, so that its bytes are read back as the record.
--- By the rule that the step does. Assumes nothing.
+-- The records of a call on a node in shape: no more than an area has room for, each within a record's widths, so that its bytes are read
+-- back as the record. By the rule that the step does.
 use Prim.Native.Nat.{ℕ, _*_, _≤_, _<_, _^_}
 use mathlib.Core.Path.{_≡_, refl}
 use mathlib.Core.Bool.{true, false, cond}
@@ -16,16 +16,16 @@ use Rattle.journal.specs.declared.Call.{Call}
 use Rattle.journal.specs.Kinds.{letterS, letterT, letterB, letterU, letterR}
 use Rattle.record.specs.declared.Record.{Record}
 use Rattle.record.specs.declared.Decoded.the-variants as Decoded
-use Rattle.record.specs.Kinds.{isRecord, isResult, isStable as isStableKind, isTentative}
-use Rattle.record.specs.Layout.{bytesOf, allBytes}
+use Rattle.record.specs.Kinds.{isRecord, isResult, isStable, isTentative}
+use Rattle.record.specs.Layout.{bytesOf}
 use Rattle.record.specs.Decoded.{decoded}
 use Rattle.record.proofs.Decoding.{decoded-bytesOf}
 use Rattle.store.specs.Order.{inBucket}
 use Rattle.store.proofs.Pairs.{every-to, every-append}
 use Rattle.store.specs.Lists.{Every}
-use Rattle.operator.specs.Results.{plain}
+use Rattle.record.specs.Markers.{marker}
 use Rattle.protocol.specs.Kinds.{Kind, kindOf, uses, isStep}
-use Rattle.protocol.specs.Node.{Line, Node, isStable, keptOf}
+use Rattle.protocol.specs.Node.{Line, Node, isStableBucket, keptOf}
 use Rattle.protocol.specs.declared.Rule.{Rule}
 use Rattle.protocol.specs.declared.Rule.the-variants as Rule
 use Rattle.protocol.specs.Rules.{isCorrecting, someOverdue, ruleOf, boundaryAt, worked, act}
@@ -33,15 +33,14 @@ use Rattle.protocol.specs.Refusals.{answerTo}
 use Rattle.store.specs.Sizes.{readingsPerLine}
 use Rattle.protocol.specs.Calls.{input, done, accepted, outcomeOf}
 use Rattle.protocol.proofs.Rules.{rule-cases}
-use Rattle.node.specs.Sizes.{resultsPerBucket, recordsPerCall, areaBytes, lastBucket}
-use Rattle.operator.specs.Bounds.{countLimit}
-use Rattle.record.proofs.AllBytes.{length-allBytes}
+use Rattle.node.specs.Sizes.{resultsPerBucket, recordsPerCall, lastBucket}
+use Rattle.operator_meter.specs.Bounds.{countLimit}
 use Rattle.node.proofs.Limits.{limits-hold}
-use Rattle.operator.proofs.Meters.{Counted}
+use Rattle.operator_meter.proofs.Bounds.{Counted}
 use Rattle.node.proofs.Gathered.{length-inBucket}
 use Rattle.node.proofs.Fits.{NodeFits, values-fit}
 use Rattle.node.proofs.Times.{start-fits, stable-end-fits, stable-start-fits, due-start-fits}
-use Rattle.node.proofs.Results.{Readable, plain-readable, length-work, work-readable}
+use Rattle.node.proofs.Results.{Readable, marker-readable, length-work, work-readable}
 
 -- what refusal 4 leaves of a node, as far as its records need it
 pub record ShapeFacts (s : Settings) (n : Node) : Type 0 where
@@ -69,7 +68,7 @@ record Known : Type 0 where
   pub corrected : isRecord letterR ≡ true
 
 known : Known
-unfolding isRecord isResult isStableKind isTentative
+unfolding isRecord isResult isStable isTentative
 known = record { stable = refl; tentative = refl; boundary = refl; undo = refl; corrected = refl }
 
 boundary-given : (s : Settings) (j : ℕ) → bucketEnd (s .bucket) j < 2 ^ 32 → (length (boundaryAt s j) ≤ 1) × Every Readable (boundaryAt s j)
@@ -77,9 +76,9 @@ unfolding boundaryAt
 boundary-given s j f =
     elim (closesWindow (s .window) j) as
     (λ b.
-    (length (cond b (plain letterB 0 (record { 0 = bucketEnd (s .bucket) j }) ∷ []) []) ≤ 1) ×
-    Every Readable (cond b (plain letterB 0 (record { 0 = bucketEnd (s .bucket) j }) ∷ []) [])) [
-      | true ↦ (omega arith, (plain-readable letterB (omega arith) (known .boundary) 0 (record { 0 = bucketEnd (s .bucket) j }) (omega arith) f, tt))
+    (length (cond b (marker letterB 0 (record { 0 = bucketEnd (s .bucket) j }) ∷ []) []) ≤ 1) ×
+    Every Readable (cond b (marker letterB 0 (record { 0 = bucketEnd (s .bucket) j }) ∷ []) [])) [
+      | true ↦ (omega arith, (marker-readable letterB (omega arith) (known .boundary) 0 (record { 0 = bucketEnd (s .bucket) j }) (omega arith) f, tt))
       | false ↦ (omega arith, tt)
     ]
 
@@ -96,7 +95,8 @@ module _ (s : Settings) (n : Node) (fits : NodeFits n) (shape : ShapeFacts s n) 
   unfolding worked
   length-worked kind j = length-work s kind j (inBucket (s .bucket) j (keptOf (n .lines))) (n .operator) (fits .operator .meters)
 
-  worked-readable : (kind j : ℕ) → kind < 2 ^ 8 → isRecord kind ≡ true → j * s .bucket < 2 ^ 32 → Every Readable (worked s kind j n .records)
+  worked-readable :
+      (kind j : ℕ) → kind < 2 ^ 8 → isRecord kind ≡ true → j * s .bucket < 2 ^ 32 → Every Readable (worked s kind j n .records)
   unfolding worked
   worked-readable kind j byte isKnown start =
       work-readable s kind j (inBucket (s .bucket) j (keptOf (n .lines))) (n .operator) (fits .operator) byte isKnown
@@ -109,16 +109,17 @@ module _ (s : Settings) (n : Node) (fits : NodeFits n) (shape : ShapeFacts s n) 
   withdraw-given = (
     omega arith,
     (
-      plain-readable letterU (omega arith) (known .undo) (n .checkpoint .number) (record { 0 = 0 })
+      marker-readable letterU (omega arith) (known .undo) (n .checkpoint .number) (record { 0 = 0 })
           (omega (arith, shape .stableNumber, shape .order, shape .top)) (omega arith),
       tt,
     ),
   )
 
-  stable-given : isStable s (n .c) (n .lines) ≡ true → Given (act s n Rule.WorkStable .records)
+  stable-given : isStableBucket s (n .c) (n .lines) ≡ true → Given (act s n Rule.WorkStable .records)
   unfolding act
   stable-given e =
-      let end = stable-end-fits s (n .c) (n .lines) (omega (arith, shape .count, limits-hold s (shape .limits) .someLines)) (fits .lines) e in
+      let end =
+      stable-end-fits s (n .c) (n .lines) (omega (arith, shape .count, limits-hold s (shape .limits) .someLines)) (fits .lines) e in
       let boundary = boundary-given s (n .c) end in (
         rw (length-append (worked s letterS (n .c) n .records) (boundaryAt s (n .c))) (omega (arith, length-worked letterS (n .c), boundary .0)),
         every-append Readable (worked s letterS (n .c) n .records) (boundaryAt s (n .c))
@@ -127,7 +128,7 @@ module _ (s : Settings) (n : Node) (fits : NodeFits n) (shape : ShapeFacts s n) 
 
   correction-given : Given (act s n Rule.EndCorrection .records)
   unfolding act
-  correction-given = (omega arith, (plain-readable letterR (omega arith) (known .corrected) 0 (record { 0 = 0 }) (omega arith) (omega arith), tt))
+  correction-given = (omega arith, (marker-readable letterR (omega arith) (known .corrected) 0 (record { 0 = 0 }) (omega arith) (omega arith), tt))
 
   tentative-given : (now : ArrivalTick) → someOverdue s (n .p) now (n .lines) ≡ true → Given (act s n Rule.WorkTentative .records)
   unfolding act
@@ -144,7 +145,7 @@ module _ (s : Settings) (n : Node) (fits : NodeFits n) (shape : ShapeFacts s n) 
   step-given : (now : ArrivalTick) → Given (act s n (ruleOf s n now) .records)
   unfolding ruleOf
   step-given now =
-      rule-cases (isStable s (n .c) (n .lines)) (ltb (n .c) (n .p)) (isCorrecting (n .phase)) (someOverdue s (n .p) now (n .lines))
+      rule-cases (isStableBucket s (n .c) (n .lines)) (ltb (n .c) (n .p)) (isCorrecting (n .phase)) (someOverdue s (n .p) now (n .lines))
       (λ (rule : Rule). Given (act s n rule .records)) (λ _ _. withdraw-given) (λ e _. stable-given e)
       (λ _ _. correction-given) (λ _ _. tentative-given now) (λ _ _. idle-given)
 
@@ -176,7 +177,3 @@ Decodes r = decoded (bytesOf r) ≡ Decoded.Is r
 
 pub readable-decodes : (rs : List Record) → Every Readable rs → Every Decodes rs
 readable-decodes rs h = every-to rs (λ (r : Record) (g : Readable r). decoded-bytesOf r (g .0) (g .1)) h
-
--- they all have room in an area that no call is refused for
-pub given-room : (rs : List Record) → Given rs → length (allBytes rs) ≤ areaBytes
-given-room rs h = omega (arith, h .0, length-allBytes rs)

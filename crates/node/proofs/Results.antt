@@ -1,5 +1,5 @@
 -- The results of a window, and records without one, are within a record's widths and of a kind that records have; a window gives no more
--- results than there are meters. Assumes nothing.
+-- results than there are meters.
 use Prim.Native.Nat.{ℕ, suc, _+_, _≤_, _<_, _^_}
 use mathlib.Core.Path.{_≡_}
 use mathlib.Core.Bool.{true, false, cond}
@@ -16,16 +16,19 @@ use Rattle.record.specs.Within.{Within}
 use Rattle.record.specs.Kinds.{isRecord}
 use Rattle.store.specs.Order.{Placed}
 use Rattle.store.specs.Lists.{Every}
-use Rattle.operator.specs.declared.Meter.{Meter}
+use Rattle.operator_meter.specs.declared.Meter.{Meter}
 use Rattle.operator.specs.declared.Operator.{Operator}
 use Rattle.operator.specs.Meters.{meterCount, addAll}
-use Rattle.operator.specs.Results.{hasResult, result, results, plain}
+use Rattle.record.specs.Markers.{marker}
+use Rattle.operator_meter.specs.Values.{hasResult}
+use Rattle.operator.specs.Results.{result, results}
 use Rattle.operator.specs.Work.{windowResults, close, work}
 use Rattle.store.proofs.Pairs.{every-both}
 use Rattle.operator.proofs.Adding.{addAll-number, addAll-length}
 use Rattle.operator.proofs.Results.{results-most}
-use Rattle.operator.proofs.Sums.{range-fits}
-use Rattle.operator.proofs.Meters.{LastFits, ValueFits, Counted, lasts-addAll, counted-addAll}
+use Rattle.operator_meter.proofs.Sums.{range-fits}
+use Rattle.operator_meter.proofs.Bounds.{LastFits, Counted}
+use Rattle.operator.proofs.Meters.{ValueFits, lasts-addAll, counted-addAll}
 use Rattle.node.proofs.Fits.{OperatorFits}
 
 -- a record whose bytes are read back
@@ -37,9 +40,9 @@ abbrev GoodMeter : ℕ → Meter → Type 0
 GoodMeter most m = Counted most m × LastFits m
 
 module _ (kind : ℕ) (byte : kind < 2 ^ 8) (known : isRecord kind ≡ true) where
-  pub plain-readable : (id : ℕ) (time : ReadingTime) → id < 2 ^ 32 → time .0 < 2 ^ 32 → Readable (plain kind id time)
-  unfolding plain
-  plain-readable id time f g = (
+  pub marker-readable : (id : ℕ) (time : ReadingTime) → id < 2 ^ 32 → time .0 < 2 ^ 32 → Readable (marker kind id time)
+  unfolding marker
+  marker-readable id time f g = (
     record {
       kind = byte;
       meter = omega arith;
@@ -53,7 +56,9 @@ module _ (kind : ℕ) (byte : kind < 2 ^ 8) (known : isRecord kind ≡ true) whe
     known,
   )
 
-  result-readable : (most : ℕ) → most < 2 ^ 32 → (start : ReadingTime) → start .0 < 2 ^ 32 → (i number : ℕ) → i < 2 ^ 8 → number < 2 ^ 32 → (m : Meter) → GoodMeter most m → Readable (result kind start i number m)
+  result-readable :
+      (most : ℕ) → most < 2 ^ 32 → (start : ReadingTime) → start .0 < 2 ^ 32 → (i number : ℕ) → i < 2 ^ 8 → number < 2 ^ 32 →
+      (m : Meter) → GoodMeter most m → Readable (result kind start i number m)
   unfolding result
   result-readable most few start f i number h g m v = (
     record {
@@ -69,7 +74,9 @@ module _ (kind : ℕ) (byte : kind < 2 ^ 8) (known : isRecord kind ≡ true) whe
     known,
   )
 
-  results-readable : (most : ℕ) → most < 2 ^ 32 → (start : ReadingTime) → start .0 < 2 ^ 32 → (i number : ℕ) (ms : List Meter) → i + length ms ≤ 2 ^ 8 → number + length ms < 2 ^ 32 → Every (GoodMeter most) ms → Every Readable (results kind start i number ms)
+  results-readable :
+      (most : ℕ) → most < 2 ^ 32 → (start : ReadingTime) → start .0 < 2 ^ 32 → (i number : ℕ) (ms : List Meter) →
+      i + length ms ≤ 2 ^ 8 → number + length ms < 2 ^ 32 → Every (GoodMeter most) ms → Every Readable (results kind start i number ms)
   unfolding results
   results-readable most few start f i number [] h g v = tt
   results-readable most few start f i number (m ∷ ms) h g v =
@@ -88,7 +95,9 @@ module _ (kind : ℕ) (byte : kind < 2 ^ 8) (known : isRecord kind ≡ true) whe
 
 -- ---- a bucket's work
 
-pub length-work : (s : Settings) (kind j : ℕ) (rs : List Placed) (o : Operator) → length (o .meters) ≡ meterCount → length (work s kind j rs o .records) ≤ meterCount
+pub length-work :
+    (s : Settings) (kind j : ℕ) (rs : List Placed) (o : Operator) → length (o .meters) ≡ meterCount →
+    length (work s kind j rs o .records) ≤ meterCount
 unfolding work close windowResults
 length-work s kind j rs o full =
     elim (closesWindow (s .window) j) as
@@ -103,7 +112,10 @@ length-work s kind j rs o full =
     ]
 
 module _ (s : Settings) (kind j : ℕ) (rs : List Placed) (o : Operator) (fits : OperatorFits o) where
-  pub work-readable : kind < 2 ^ 8 → isRecord kind ≡ true → windowStart (s .bucket) (s .window) j < 2 ^ 32 → (most : ℕ) → Every (Counted most) (o .meters) → most + length rs < 2 ^ 32 → Every ValueFits rs → o .number + meterCount < 2 ^ 32 → Every Readable (work s kind j rs o .records)
+  pub work-readable :
+      kind < 2 ^ 8 → isRecord kind ≡ true → windowStart (s .bucket) (s .window) j < 2 ^ 32 → (most : ℕ) →
+      Every (Counted most) (o .meters) → most + length rs < 2 ^ 32 → Every ValueFits rs → o .number + meterCount < 2 ^ 32 →
+      Every Readable (work s kind j rs o .records)
   unfolding work close windowResults
   work-readable byte known start most counted few values number =
       elim (closesWindow (s .window) j) as

@@ -1,5 +1,5 @@
--- The records of a call laid into the send-back store: the stable ones of them, numbered one after the other, go behind those that are held.
--- Assumes nothing.
+-- The records of a call laid into the send-back store: the stable ones of them, numbered one after the other, go behind those that are
+-- held.
 use Prim.Native.Nat.{ℕ, suc, _%_}
 use mathlib.Core.Path.{_≡_, refl, _∙_, ap}
 use mathlib.Core.Bool.{Bool, true, false, cond}
@@ -21,7 +21,9 @@ use Rattle.protocol.specs.SentBack.{Consecutive}
 abbrev pub isStableRecord : Record → Bool
 isStableRecord r = isStable (r .kind)
 
-pub holding-held : (ps : List (List ℕ)) (n : ℕ) (rs : List Record) → Consecutive n (keep isStableRecord rs) → holding ps rs ≡ heldOver ps n (map bytesOf (keep isStableRecord rs))
+pub holding-held :
+    (ps : List (List ℕ)) (n : ℕ) (rs : List Record) → Consecutive n (keep isStableRecord rs) →
+    holding ps rs ≡ heldOver ps n (map bytesOf (keep isStableRecord rs))
 unfolding holding heldOver keep
 holding-held ps n [] h = refl
 holding-held ps n (r ∷ rs) h =

@@ -1,10 +1,11 @@
 -- One line's share of the store after readings are laid into it: they fill its first places, places given up are zeroed, every other place
--- is as it was; so the line is read back, and what was read changes nothing. By cases on the place. Assumes nothing.
+-- is as it was; so the line is read back, and what was read changes nothing. By cases on the place.
 use Prim.Native.Nat.{ℕ, _+_, _-_, _≤_, _<_, max}
 use mathlib.Core.Path.{_≡_, _∙_, ap}
 use mathlib.Core.List.{List, _++_}
 use native.Mathlib.Omega.{arith}
-use lib.ListN.{length, getD, take, drop, replicate, length-append, length-replicate, length-drop, take-append-drop, List·getD-append, getD-replicate}
+use lib.ListN.{length, getD, take, drop, replicate}
+use lib.ListN.{length-append, length-replicate, length-drop, take-append-drop, List·getD-append, getD-replicate}
 use lib.Seq.{take-append-seam, length-take-le, getD-append-add, getD-drop}
 use Rattle.store.specs.declared.Reading.{Reading}
 use Rattle.protocol.specs.Node.{Line}
@@ -46,7 +47,9 @@ module _ (share : List Reading) (n : ℕ) (kept : List Reading) (j : ℕ) (d : R
 -- ---- whole
 
 -- a share keeps its places
-pub length-share : (share : List Reading) (n : ℕ) (kept : List Reading) → n ≤ length share → length kept ≤ length share → length (shareWith share n kept) ≡ length share
+pub length-share :
+    (share : List Reading) (n : ℕ) (kept : List Reading) → n ≤ length share → length kept ≤ length share →
+    length (shareWith share n kept) ≡ length share
 unfolding shareWith
 length-share share n kept h g = simp (length-append, length-replicate, length-drop) (omega arith)
 

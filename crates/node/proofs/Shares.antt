@@ -1,5 +1,5 @@
 -- The lines' shares of the store: lines laid down are read back, and lines that were read, laid down, change nothing. By induction on the
--- lines, a share of the store at each; a share keeps its places, whatever it kept before. Assumes nothing.
+-- lines, a share of the store at each; a share keeps its places, whatever it kept before.
 use Prim.Native.Nat.{ℕ, zero, suc, _+_, _*_, _≤_, _<_}
 use mathlib.Core.Path.{_≡_, refl, _∙_, ap, ap₂}
 use mathlib.Core.List.{List, [], _∷_}
@@ -27,7 +27,8 @@ pub record Shares (n : ℕ) (hs : List LineHead) (rs : List Reading) : Type 0 wh
   pub kept : Every SmallHead (take n hs)
   pub room : n * readingsPerLine ≤ length rs
 
-pub shares-behind : (n : ℕ) (h : LineHead) (hs : List LineHead) (rs : List Reading) → Shares (suc n) (h ∷ hs) rs → Shares n hs (drop readingsPerLine rs)
+pub shares-behind :
+    (n : ℕ) (h : LineHead) (hs : List LineHead) (rs : List Reading) → Shares (suc n) (h ∷ hs) rs → Shares n hs (drop readingsPerLine rs)
 shares-behind n h hs rs f =
     record {
       heads = omega (arith, f .heads);
@@ -35,12 +36,16 @@ shares-behind n h hs rs f =
       room = simp length-drop (omega (arith, f .room));
     }
 
-pub first-share : (n : ℕ) (h : LineHead) (hs : List LineHead) (rs : List Reading) → Shares (suc n) (h ∷ hs) rs → length (take readingsPerLine rs) ≡ readingsPerLine
+pub first-share :
+    (n : ℕ) (h : LineHead) (hs : List LineHead) (rs : List Reading) → Shares (suc n) (h ∷ hs) rs →
+    length (take readingsPerLine rs) ≡ readingsPerLine
 first-share n h hs rs f = length-take-le readingsPerLine rs (omega (arith, f .room))
 
 -- ---- all shares
 
-module _ (n : ℕ) (h : LineHead) (hs : List LineHead) (rs kept : List Reading) (f : Shares (suc n) (h ∷ hs) rs) (small : length kept ≤ readingsPerLine) where
+module _
+    (n : ℕ) (h : LineHead) (hs : List LineHead) (rs kept : List Reading) (f : Shares (suc n) (h ∷ hs) rs)
+    (small : length kept ≤ readingsPerLine) where
   pub length-first : length (shareWith (take readingsPerLine rs) (h .kept) kept) ≡ readingsPerLine
   length-first =
       let e : length (take readingsPerLine rs) ≡ readingsPerLine = first-share n h hs rs f in
@@ -61,7 +66,9 @@ length-headsWith [] (l ∷ ls) = refl
 length-headsWith (h ∷ hs) (l ∷ ls) = ap suc (length-headsWith hs ls)
 
 -- and the places
-pub length-sharesWith : (ls : List Line) (hs : List LineHead) (rs : List Reading) → Shares (length ls) hs rs → Every SmallLine ls → length (sharesWith hs rs ls) ≡ length rs
+pub length-sharesWith :
+    (ls : List Line) (hs : List LineHead) (rs : List Reading) → Shares (length ls) hs rs → Every SmallLine ls →
+    length (sharesWith hs rs ls) ≡ length rs
 unfolding sharesWith
 length-sharesWith [] hs rs f s = refl
 length-sharesWith (l ∷ ls) [] rs f s = refl
@@ -71,7 +78,9 @@ length-sharesWith (l ∷ ls) (h ∷ hs) rs f s =
     simp (length-append, length-first (length ls) h hs rs (l .kept) f (s .0), e, length-drop) (omega (arith, f .room))
 
 -- shares stand in line order, each as long as the others
-pub line-at : (n : ℕ) (hs : List LineHead) (rs : List Reading) (i : ℕ) → i < n → n ≤ length hs → getD (viewLines n hs rs) i noLine ≡ viewLine (getD hs i (headOf noLine)) (take readingsPerLine (drop (i * readingsPerLine) rs))
+pub line-at :
+    (n : ℕ) (hs : List LineHead) (rs : List Reading) (i : ℕ) → i < n → n ≤ length hs →
+    getD (viewLines n hs rs) i noLine ≡ viewLine (getD hs i (headOf noLine)) (take readingsPerLine (drop (i * readingsPerLine) rs))
 unfolding viewLines
 line-at zero hs rs i h g = absurd (omega arith)
 line-at (suc n) [] rs i h g = absurd (omega arith)
@@ -83,7 +92,9 @@ line-at (suc n) (k ∷ hs) rs (suc i) h g =
     (drop-drop (i * readingsPerLine) _ rs ∙ ap (λ (m : ℕ). drop m rs) e)
 
 -- lines laid down are what heads and readings then stand for
-pub lines-put : (ls : List Line) (hs : List LineHead) (rs : List Reading) → Shares (length ls) hs rs → Every SmallLine ls → viewLines (length ls) (headsWith hs ls) (sharesWith hs rs ls) ≡ ls
+pub lines-put :
+    (ls : List Line) (hs : List LineHead) (rs : List Reading) → Shares (length ls) hs rs → Every SmallLine ls →
+    viewLines (length ls) (headsWith hs ls) (sharesWith hs rs ls) ≡ ls
 unfolding viewLines headsWith sharesWith
 lines-put [] hs rs f s = refl
 lines-put (l ∷ ls) [] rs f s = absurd (omega (arith, f .heads))
@@ -97,7 +108,9 @@ lines-put (l ∷ ls) (h ∷ hs) rs f s =
     lines-put ls hs (drop readingsPerLine rs) (shares-behind (length ls) h hs rs f) (s .1))
 
 -- and the heads fit again
-pub heads-put : (ls : List Line) (hs : List LineHead) → length ls ≤ length hs → Every SmallLine ls → Every SmallHead (take (length ls) (headsWith hs ls))
+pub heads-put :
+    (ls : List Line) (hs : List LineHead) → length ls ≤ length hs → Every SmallLine ls →
+    Every SmallHead (take (length ls) (headsWith hs ls))
 unfolding headsWith headOf
 heads-put [] hs g s = tt
 heads-put (l ∷ ls) [] g s = tt

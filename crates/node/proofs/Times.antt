@@ -1,5 +1,5 @@
 -- The times that records carry fit 32 bits: a stable bucket ends at or below a boundary, a bucket with a reading due in it or behind it
--- starts at or below that reading's time, and a window starts at or below the start of the bucket that closes it. Assumes nothing.
+-- starts at or below that reading's time, and a window starts at or below the start of the bucket that closes it.
 use Prim.Native.Nat.{ℕ, _+_, _-_, _*_, _/_, _≤_, _<_, _^_}
 use mathlib.Core.Path.{_≡_, refl, sym}
 use mathlib.Core.Bool.{Bool, true, false, _||_, true≢false}
@@ -19,7 +19,7 @@ use Rattle.store.specs.declared.Reading.{Reading}
 use Rattle.store.specs.Lists.{Every, someOf, allOf}
 use Rattle.store.proofs.Choices.{and-parts}
 use Rattle.store.proofs.Pairs.{every-to}
-use Rattle.protocol.specs.Node.{Line, isStable}
+use Rattle.protocol.specs.Node.{Line, isStableBucket}
 use Rattle.protocol.specs.Rules.{isOverdue, someOverdue}
 use Rattle.node.proofs.Fits.{ReadingFits, LineFits}
 
@@ -44,14 +44,18 @@ pub start-fits : (size window j : ℕ) → 1 ≤ window → j * size < 2 ^ 32 �
 start-fits size window j h f = omega (arith, start-le size window j h)
 
 -- a stable bucket
-pub stable-end-within : (s : Settings) (j : ℕ) (ls : List Line) → 0 < length ls → Every (λ (l : Line). l .boundary .0 < 2 ^ 32) ls → isStable s j ls ≡ true → bucketEnd (s .bucket) j < 2 ^ 32
-unfolding isStable allOf
+pub stable-end-within :
+    (s : Settings) (j : ℕ) (ls : List Line) → 0 < length ls → Every (λ (l : Line). l .boundary .0 < 2 ^ 32) ls →
+    isStableBucket s j ls ≡ true → bucketEnd (s .bucket) j < 2 ^ 32
+unfolding isStableBucket allOf
 stable-end-within s j [] some h e = absurd (omega arith)
 stable-end-within s j (l ∷ ls) some h e =
     finished-end-fits (s .bucket) (l .boundary) j (h .0)
     (and-parts (finishes (s .bucket) (l .boundary) j) (allOf (λ (l : Line). finishes (s .bucket) (l .boundary) j) ls) e .0)
 
-pub stable-end-fits : (s : Settings) (j : ℕ) (ls : List Line) → 0 < length ls → Every LineFits ls → isStable s j ls ≡ true → bucketEnd (s .bucket) j < 2 ^ 32
+pub stable-end-fits :
+    (s : Settings) (j : ℕ) (ls : List Line) → 0 < length ls → Every LineFits ls → isStableBucket s j ls ≡ true →
+    bucketEnd (s .bucket) j < 2 ^ 32
 stable-end-fits s j ls some h e = stable-end-within s j ls some (every-to ls (λ (l : Line) (g : LineFits l). g .boundary) h) e
 
 pub stable-start-fits : (size j : ℕ) → bucketEnd size j < 2 ^ 32 → j * size < 2 ^ 32
@@ -59,10 +63,13 @@ unfolding bucketEnd
 stable-start-fits size j h = omega arith
 
 -- a bucket with a reading due in it or behind it
-overdue-within : (s : Settings) (p : ℕ) (now : ArrivalTick) → 0 < s .bucket → (r : Reading) → r .time .0 < 2 ^ 32 → isOverdue s p now r ≡ true → p * s .bucket < 2 ^ 32
+overdue-within :
+    (s : Settings) (p : ℕ) (now : ArrivalTick) → 0 < s .bucket → (r : Reading) → r .time .0 < 2 ^ 32 → isOverdue s p now r ≡ true →
+    p * s .bucket < 2 ^ 32
 unfolding isOverdue bucketOf
 overdue-within s p now some r h e =
-    let q : p ≤ r .time .0 / s .bucket = leb-true p (r .time .0 / s .bucket) (and-parts (leb p (r .time .0 / s .bucket)) (isDue (s .hold) (r .arrival) now) e .0) in
+    let q : p ≤ r .time .0 / s .bucket =
+    leb-true p (r .time .0 / s .bucket) (and-parts (leb p (r .time .0 / s .bucket)) (isDue (s .hold) (r .arrival) now) e .0) in
     let l : p * s .bucket ≤ r .time .0 = le-div-iff-mul-le {k = s .bucket} {x = p} {y = r .time .0} some .0 q in
     omega arith
 
@@ -70,14 +77,18 @@ overdue-within s p now some r h e =
 abbrev pub TimesWithin : Line → Type 0
 TimesWithin l = Every (λ (r : Reading). r .time .0 < 2 ^ 32) (l .kept)
 
-pub due-start-within : (s : Settings) (p : ℕ) (now : ArrivalTick) (ls : List Line) → 0 < s .bucket → Every TimesWithin ls → someOverdue s p now ls ≡ true → p * s .bucket < 2 ^ 32
+pub due-start-within :
+    (s : Settings) (p : ℕ) (now : ArrivalTick) (ls : List Line) → 0 < s .bucket → Every TimesWithin ls → someOverdue s p now ls ≡ true →
+    p * s .bucket < 2 ^ 32
 unfolding someOverdue
 due-start-within s p now ls some h e =
     some-test TimesWithin (p * s .bucket < 2 ^ 32) (λ (l : Line). someOf (isOverdue s p now) (l .kept))
     (λ l g q. some-test (λ (r : Reading). r .time .0 < 2 ^ 32) (p * s .bucket < 2 ^ 32) (isOverdue s p now) (overdue-within s p now some) (l .kept) g q)
     ls h e
 
-pub due-start-fits : (s : Settings) (p : ℕ) (now : ArrivalTick) (ls : List Line) → 0 < s .bucket → Every LineFits ls → someOverdue s p now ls ≡ true → p * s .bucket < 2 ^ 32
+pub due-start-fits :
+    (s : Settings) (p : ℕ) (now : ArrivalTick) (ls : List Line) → 0 < s .bucket → Every LineFits ls → someOverdue s p now ls ≡ true →
+    p * s .bucket < 2 ^ 32
 due-start-fits s p now ls some h e =
     due-start-within s p now ls some
     (every-to ls (λ (l : Line) (g : LineFits l). every-to (l .kept) (λ (r : Reading) (v : ReadingFits r). v .time) (g .kept)) h) e

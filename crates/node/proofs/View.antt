@@ -1,5 +1,5 @@
 -- View and put: a node laid into state and store is what they then stand for, and what they stand for, laid down, changes nothing. The
--- lines by the laws on shares, the store by the laws on columns. Assumes nothing.
+-- lines by the laws on shares, the store by the laws on columns.
 use Prim.Native.Nat.{ℕ, _*_, _≤_}
 use mathlib.Core.Path.{_≡_, refl, _∙_, ap, ap₂, subst}
 use mathlib.Core.List.{List, _++_}
@@ -49,16 +49,14 @@ pub settings-put : (st : State) (n : Node) → putState st n .settings ≡ st .s
 unfolding putState
 settings-put st n = refl
 
-pub places-put : (st : State) (n : Node) → places (putState st n) ≡ places st
-unfolding putState places
-places-put st n = refl
-
 pub length-heads-put : (st : State) (n : Node) → length (putState st n .heads) ≡ length (st .heads)
 unfolding putState
 length-heads-put st n = length-headsWith (st .heads) (n .lines)
 
 -- what state and store stand for has the state's lines, each within its share
-pub view-sized : (st : State) (x : Columns) → st .settings .lines ≤ length (st .heads) → st .settings .displays ≤ length (st .acknowledged) → Sized (st .settings) (view st x)
+pub view-sized :
+    (st : State) (x : Columns) → st .settings .lines ≤ length (st .heads) → st .settings .displays ≤ length (st .acknowledged) →
+    Sized (st .settings) (view st x)
 unfolding view
 view-sized st x h d =
     record {

@@ -1,5 +1,4 @@
--- A display's two calls on state, stores and area: refusals 3, 4, 5, 16 and 17 in order, and what they leave (document 02, W2). Assumes
--- nothing.
+-- A display's two calls on state, stores and area: refusals 3, 4, 5, 16 and 17 in order, and what they leave (document 02, W2).
 use Prim.Native.Nat.{ℕ, _-_}
 use mathlib.Core.Bool.{cond}
 use mathlib.Core.List.{List}

@@ -1,10 +1,11 @@
--- The opening (document 01, sections 'Buckets and the operator' and 'Refusal by whom'). Assumes nothing.
+-- The opening (document 01, sections 'Buckets and the operator' and 'Refusal by whom').
 use Prim.Native.Nat.{ℕ, _*_}
 use mathlib.Core.Bool.{Bool, cond, _||_}
 use mathlib.Core.List.{List}
 use lib.Dec.{ltb}
 use lib.IntN.{pos}
 use lib.ListN.{length, replicate}
+use Rattle.answer.specs.Numbers as Answer
 use Rattle.settings.specs.declared.Settings.{Settings}
 use Rattle.settings.specs.declared.SettingsRead.{SettingsRead}
 use Rattle.settings.specs.declared.SettingsRead.the-variants as SettingsRead
@@ -56,7 +57,7 @@ closedState = freshState (record { lines = 0; bucket = 0; window = 0; hold = 0; 
 -- a refused opening hands back what it was given
 unfoldable pub openedWith : State → Lent → SettingsRead → Opened
 openedWith st x (SettingsRead.Accepted s) =
-    cond (isShort (s .lines) x) (record { answer = 3; state = st; lent = x })
+    cond (isShort (s .lines) x) (record { answer = Answer.shortStore; state = st; lent = x })
     (record {
       answer = 0;
       state = freshState s;

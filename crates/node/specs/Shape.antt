@@ -1,5 +1,5 @@
 -- A state and its stores in shape (document 01, section 'Refusal by whom', refusal 4; document 02, W2). Only lines 1 to `lines`
--- and displays 1 to `displays` are looked at. Assumes nothing.
+-- and displays 1 to `displays` are looked at.
 use Prim.Native.Nat.{ℕ, _+_, _*_, _-_}
 use mathlib.Core.Bool.{Bool, true, cond, _&&_}
 use mathlib.Core.List.{List, map}
@@ -9,9 +9,9 @@ use Rattle.settings.specs.Limits.{withinLimits}
 use Rattle.store.specs.declared.Reading.{Reading}
 use Rattle.store.specs.Sizes.{readingsPerLine}
 use Rattle.store.specs.Lists.{allOf}
-use Rattle.columns.specs.Shape.{rises, isReadingKind}
+use Rattle.store_columns.specs.Shape.{rises, isReadingKind}
 use Rattle.operator.specs.Meters.{meterCount}
-use Rattle.operator.specs.Bounds.{meterOk}
+use Rattle.operator_meter.specs.Bounds.{meterOk}
 use Rattle.protocol.specs.declared.Phase.{Phase}
 use Rattle.protocol.specs.declared.Phase.the-variants as Phase
 use Rattle.protocol.specs.Node.{Line}

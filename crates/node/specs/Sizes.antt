@@ -1,11 +1,13 @@
--- Sizes of the node. Assumes nothing.
+-- Sizes of the node.
 use Prim.Native.Nat.{ℕ, _+_, _*_}
 use Rattle.record.specs.Sizes.{recordBytes}
+use Rattle.operator.specs.Meters.{meterCount}
 
--- results that one bucket can give, and records that one call can
+-- results that one bucket can give: one for each meter
 abbrev pub resultsPerBucket : ℕ
-resultsPerBucket = 64
+resultsPerBucket = meterCount
 
+-- records that one call can give: a bucket's results, and the boundary behind them
 abbrev pub recordsPerCall : ℕ
 recordsPerCall = resultsPerBucket + 1
 

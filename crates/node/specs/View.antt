@@ -1,5 +1,4 @@
 -- What a state and its stores stand for, and a node laid into them again (document 01, section 'Store and output area'; document 02, W2).
--- Assumes nothing.
 use Prim.Native.Nat.{ℕ, zero, suc, _*_, _-_, max}
 use mathlib.Core.List.{List, [], _∷_, _++_}
 use lib.ListN.{length, take, drop, replicate}

@@ -1,15 +1,21 @@
 // The node as its caller holds it: a state by value, and two lent stores: readings in columns, and results to be sent back.
+ghost use mathlib.Core.Path.{_≡_};
 use clock::ArrivalTick;
 use clock::ReadingTime;
 use operator::Operator;
 use protocol::Phase;
 use settings::Settings;
 
+mod changed;
+
 // Lines that a state has room for: as many as the settings allow.
-pub const HEADS: usize = 8;
+pub const HEADS: usize = settings::MAX_LINES as usize;
 
 // Displays that a state has room for: as many as the settings allow.
-pub const DISPLAYS: usize = 4;
+pub const DISPLAYS: usize = settings::MAX_DISPLAYS as usize;
+
+// Records that one call can give: a bucket's results, one for each meter, and the boundary behind them.
+pub const RECORDS_PER_CALL: usize = operator::METERS + 1;
 
 // What the state knows of a line; its kept readings stand in the store.
 pub struct LineHead {
@@ -37,4 +43,15 @@ pub struct CallReply {
     pub state: State,
     pub records: u32,
     pub answer: u32,
+}
+
+// What a refused call answers: no record, and the state as it was.
+pub fn refused(state: State, answer: u32) -> CallReply
+    ensures { λ r. ⌜ r ≡ record { state = state; records = 0; answer = answer } ⌝ }
+{
+    CallReply {
+        state: state,
+        records: 0,
+        answer: answer,
+    }
 }

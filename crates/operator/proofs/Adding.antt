@@ -1,5 +1,5 @@
 -- Readings added: the numbering and the number of meters stay, runs of readings follow one another, and each meter takes the values of its
--- own readings and no others. A reading changes one place of the list, which is read at that place or at another. Assumes nothing.
+-- own readings and no others. A reading changes one place of the list, which is read at that place or at another.
 use Prim.Native.Nat.{ℕ, _<_}
 use mathlib.Core.Path.{_≡_, refl, sym, _∙_, ap}
 use mathlib.Core.Bool.{true, false, cond, _&&_}
@@ -12,9 +12,10 @@ use borrow.Author.Tests.{eqb-true, eqb-false}
 use Rattle.settings.specs.declared.Settings.{Settings}
 use Rattle.store.specs.declared.Reading.{Reading}
 use Rattle.store.specs.Order.{Placed}
-use Rattle.operator.specs.declared.Meter.{Meter}
+use Rattle.operator_meter.specs.declared.Meter.{Meter}
 use Rattle.operator.specs.declared.Operator.{Operator}
-use Rattle.operator.specs.Meters.{noMeter, withValue, isCounted, add, addAll}
+use Rattle.operator_meter.specs.Values.{noMeter, withValue, isCounted}
+use Rattle.operator.specs.Meters.{add, addAll}
 use Rattle.operator.proofs.Values.{countsFor, valuesOf}
 
 -- meter number i

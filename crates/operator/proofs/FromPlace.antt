@@ -1,5 +1,5 @@
 -- The meters from a place on, as a loop works them: what they come to is what the meter at that place adds to what those behind it come
--- to, and behind the last there is nothing. Each law takes the list apart at the place. Assumes nothing.
+-- to, and behind the last there is nothing. Each law takes the list apart at the place.
 use Prim.Native.Nat.{ℕ, suc, _≤_, _<_}
 use mathlib.Core.Path.{_≡_, sym, _∙_}
 use mathlib.Core.Bool.{Bool, true, false}
@@ -8,10 +8,10 @@ use lib.ListN.{length, getD, drop, drop-of-length-le, length-map}
 use lib.Seq.{drop-cons}
 use Rattle.clock.specs.declared.ReadingTime.{ReadingTime}
 use Rattle.store.specs.Lists.{allOf, keep}
-use Rattle.operator.specs.declared.Meter.{Meter}
+use Rattle.operator_meter.specs.declared.Meter.{Meter}
 use Rattle.operator.specs.declared.NextResult.the-variants as NextResult
-use Rattle.operator.specs.Meters.{noMeter}
-use Rattle.operator.specs.Results.{hasResult, result, results}
+use Rattle.operator_meter.specs.Values.{noMeter, hasResult}
+use Rattle.operator.specs.Results.{result, results}
 use Rattle.operator.specs.Parts.{firstResult, nextResult}
 use Rattle.operator.proofs.Results.{givers}
 

@@ -1,5 +1,5 @@
 -- Which meters give the results of a window: each result is that of its own meter, whose count is above 0, and each such meter has one.
--- By the list of meters; the results of later meters have later numbers of meters. Assumes nothing.
+-- By the list of meters; the results of later meters have later numbers of meters.
 use Prim.Native.Nat.{ℕ, zero, suc, _+_, _<_}
 use mathlib.Core.Path.{_≡_, refl, sym, _∙_, ap}
 use mathlib.Core.Bool.{Bool, true, false, cond}
@@ -13,9 +13,9 @@ use Rattle.clock.specs.declared.ReadingTime.{ReadingTime}
 use Rattle.record.specs.declared.Record.{Record}
 use Rattle.store.specs.Lists.{Every, someOf}
 use Rattle.store.proofs.Pairs.{every-to}
-use Rattle.operator.specs.declared.Meter.{Meter}
-use Rattle.operator.specs.Meters.{noMeter}
-use Rattle.operator.specs.Results.{hasResult, result, results}
+use Rattle.operator_meter.specs.declared.Meter.{Meter}
+use Rattle.operator_meter.specs.Values.{noMeter, hasResult}
+use Rattle.operator.specs.Results.{result, results}
 use Rattle.operator.proofs.Results.{has-result-count}
 
 -- the record is the result of one of these meters, numbered from i on, and that meter has values

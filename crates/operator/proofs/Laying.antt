@@ -1,5 +1,5 @@
 -- A window's results laid down one by one: at each turn, what is laid down and what the meters from a place on still give are together all
--- of it, in numbers, in places and in bytes. Assumes nothing.
+-- of it, in numbers, in places and in bytes.
 use Prim.Native.Nat.{ℕ, suc, _+_, _*_, _≤_, _<_}
 use mathlib.Core.Path.{_≡_, refl, sym, _∙_, ap}
 use mathlib.Core.List.{List, [], _++_}
@@ -17,10 +17,11 @@ use Rattle.record.specs.Sizes.{recordBytes}
 use Rattle.record.specs.Layout.{bytesOf, allBytes}
 use Rattle.record.proofs.BytesOf.{length-bytesOf}
 use Rattle.record.proofs.AllBytes.{length-allBytes}
-use Rattle.operator.specs.declared.Meter.{Meter}
+use Rattle.operator_meter.specs.declared.Meter.{Meter}
 use Rattle.operator.specs.declared.NextResult.the-variants as NextResult
 use Rattle.operator.specs.declared.Operator.{Operator}
-use Rattle.operator.specs.Meters.{meterCount, noMeter, clear}
+use Rattle.operator_meter.specs.Values.{noMeter}
+use Rattle.operator.specs.Meters.{meterCount, clear}
 use Rattle.operator.specs.Results.{result, results}
 use Rattle.operator.specs.Parts.{nextResult}
 use Rattle.operator.specs.Work.{windowResults, close}

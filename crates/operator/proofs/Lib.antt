@@ -1,5 +1,4 @@
 -- Laws on the operator.
-pub mod Counted
 pub mod Values
 pub mod Adding
 pub mod Totals
@@ -8,9 +7,7 @@ pub mod Numbers
 pub mod Gives
 pub mod Closing
 pub mod Measures
-pub mod Sums
 pub mod Meters
-pub mod Bounds
 pub mod FromPlace
 pub mod NextResults
 pub mod Laying

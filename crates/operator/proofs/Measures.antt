@@ -1,6 +1,6 @@
 -- Measures of readings: what a reading brings, a meter holds and a result reports. None of it is lost or made: what readings bring, their
 -- meter holds on top of what it held; a closing window's result reports what the meter holds, and the meter is left with nothing. Which
--- measure is left open, as long as it adds up. Assumes nothing.
+-- measure is left open, as long as it adds up.
 use Prim.Native.Nat.{ℕ, zero, suc, _+_, _<_}
 use mathlib.Core.Path.{_≡_, refl, sym, _∙_, ap, ap₂, subst}
 use mathlib.Core.Bool.{Bool, true, false, cond, _&&_}
@@ -22,10 +22,11 @@ use Rattle.store.proofs.Choices.{not-both, cond-either}
 use Rattle.store.proofs.Permutations.{keep-permuted}
 use Rattle.store.proofs.Splitting.{EitherOf, keep-split}
 use Rattle.store.proofs.Amounts.{CommutativeMonoid, none-plus, totalOf, kept-append, total-permuted}
-use Rattle.operator.specs.declared.Meter.{Meter}
+use Rattle.operator_meter.specs.declared.Meter.{Meter}
 use Rattle.operator.specs.declared.Operator.{Operator}
-use Rattle.operator.specs.Meters.{meterCount, noMeter, withValue, add, addAll, clear}
-use Rattle.operator.specs.Results.{hasResult, result, results}
+use Rattle.operator_meter.specs.Values.{noMeter, withValue, hasResult}
+use Rattle.operator.specs.Meters.{meterCount, add, addAll, clear}
+use Rattle.operator.specs.Results.{result, results}
 use Rattle.operator.specs.Work.{Worked, windowResults, close, work}
 use Rattle.operator.proofs.Values.{counts, countsFor}
 use Rattle.operator.proofs.Adding.{meterOf, add-meter, add-length, addAll-length}

@@ -1,6 +1,6 @@
 -- What holds of every meter while readings are added. A law on meters that may grow with each reading is carried along the list; two
--- instances: the last value fits 32 bits, and the sum stays in the range of a count that grows by at most one a reading. Assumes nothing.
-use Prim.Native.Nat.{ℕ, suc, _+_, _≤_, _<_, _^_}
+-- instances: the last value fits 32 bits, and the sum stays in the range of a count that grows by at most one a reading.
+use Prim.Native.Nat.{ℕ, suc, _+_, _<_, _^_}
 use mathlib.Core.Path.{_≡_}
 use mathlib.Core.Bool.{true, false, cond}
 use mathlib.Core.List.{List, [], _∷_}
@@ -9,17 +9,17 @@ use native.Mathlib.Nat.{add-zero}
 use lib.IntN.{ℤ}
 use lib.ListN.{length, getD, set}
 use lib.Signed.{mag}
-use Rattle.signed.specs.Range.{InRange}
 use Rattle.settings.specs.declared.Settings.{Settings}
 use Rattle.store.specs.declared.Reading.{Reading}
 use Rattle.store.specs.Order.{Placed}
 use Rattle.store.proofs.Pairs.{every-to}
 use Rattle.store.specs.Lists.{Every}
-use Rattle.operator.specs.declared.Meter.{Meter}
+use Rattle.operator_meter.specs.declared.Meter.{Meter}
 use Rattle.operator.specs.declared.Operator.{Operator}
-use Rattle.operator.specs.Meters.{noMeter, withValue, isCounted, add, addAll}
+use Rattle.operator_meter.specs.Values.{noMeter, withValue, isCounted}
+use Rattle.operator.specs.Meters.{add, addAll}
+use Rattle.operator_meter.proofs.Bounds.{LastFits, Counted, no-last, no-counted, counted-value, last-value}
 use Rattle.store.proofs.Pairs.{every-set, every-at}
-use Rattle.operator.proofs.Sums.{add-range}
 
 -- a reading's value fits 32 bits
 abbrev pub ValueFits : Placed → Type 0
@@ -55,31 +55,6 @@ module _
     every-addAll n o (r ∷ rs) f h =
         let e : n + suc (length rs) ≡ suc n + length rs = omega arith in
         rw e (every-addAll (suc n) (add s o (r .reading)) rs (f .1) (every-add n o (r .reading) (f .0) h))
-
--- the last value fits 32 bits
-abbrev pub LastFits : Meter → Type 0
-LastFits m = mag (m .last) < 2 ^ 31
-
--- at most n values, and a sum that so many can have
-pub record Counted (n : ℕ) (m : Meter) : Type 0 where
-  pub count : m .count ≤ n
-  pub range : InRange (m .sum) (m .count)
-
-pub no-last : LastFits noMeter
-unfolding noMeter
-no-last = omega arith
-
-pub no-counted : (n : ℕ) → Counted n noMeter
-unfolding noMeter
-no-counted n = record { count = omega arith; range = omega arith }
-
-counted-value : (n : ℕ) (v : ℤ) (m : Meter) → mag v < 2 ^ 31 → Counted n m → Counted (suc n) (withValue v m)
-unfolding withValue
-counted-value n v m f h = record { count = omega (arith, h .count); range = add-range (m .count) (m .sum) v (h .range) f }
-
-last-value : (v : ℤ) (m : Meter) → mag v < 2 ^ 31 → LastFits (withValue v m)
-unfolding withValue
-last-value v m f = f
 
 pub lasts-addAll : (s : Settings) (o : Operator) (rs : List Placed) → Every ValueFits rs → Every LastFits (o .meters) → Every LastFits (addAll s o rs .meters)
 lasts-addAll s o rs f h = every-addAll (λ n m. LastFits m) (λ n. no-last) (λ n m g. g) (λ n v m g _. last-value v m g) s 0 o rs f h

@@ -1,5 +1,5 @@
 -- The numbering of a window's results: the first has the number behind the newest, each next one the next, and their meters rise.
--- By the list of meters. Assumes nothing.
+-- By the list of meters.
 use Prim.Native.Nat.{ℕ, zero, suc, _+_, _≤_, _<_}
 use mathlib.Core.Path.{_≡_, _∙_}
 use mathlib.Core.Bool.{true, false, cond}
@@ -8,8 +8,9 @@ use native.Mathlib.Omega.{arith}
 use lib.ListN.{length, getD}
 use Rattle.clock.specs.declared.ReadingTime.{ReadingTime}
 use Rattle.record.specs.declared.Record.{Record}
-use Rattle.operator.specs.declared.Meter.{Meter}
-use Rattle.operator.specs.Results.{hasResult, result, results}
+use Rattle.operator_meter.specs.declared.Meter.{Meter}
+use Rattle.operator_meter.specs.Values.{hasResult}
+use Rattle.operator.specs.Results.{result, results}
 
 -- meters from i on, each above the one before it
 abbrev pub Rising : ℕ → List Record → Type 0

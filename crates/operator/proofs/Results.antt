@@ -1,18 +1,17 @@
--- The results of a closing window: as many as meters with a count above 0, and none from a cleared operator. By the list of meters.
--- Assumes nothing.
-use Prim.Native.Nat.{ℕ, zero, suc, _≤_, _<_}
+-- The results of a closing window: as many as meters with a count above 0; no more than there are meters. By the list of meters.
+use Prim.Native.Nat.{ℕ, suc, _≤_, _<_}
 use mathlib.Core.Path.{_≡_, refl, ap}
 use mathlib.Core.Bool.{true, false, cond}
 use mathlib.Core.List.{List, [], _∷_}
 use mathlib.Core.Logic.{_↔_}
-use lib.ListN.{length, replicate}
+use lib.ListN.{length}
 use borrow.Author.Tests.{ltb-true, lt-ltb}
 use Rattle.clock.specs.declared.ReadingTime.{ReadingTime}
 use Rattle.store.specs.Lists.{keep}
 use Rattle.store.proofs.Keeping.{length-keep}
-use Rattle.operator.specs.declared.Meter.{Meter}
-use Rattle.operator.specs.Meters.{noMeter}
-use Rattle.operator.specs.Results.{hasResult, result, results}
+use Rattle.operator_meter.specs.declared.Meter.{Meter}
+use Rattle.operator_meter.specs.Values.{hasResult}
+use Rattle.operator.specs.Results.{result, results}
 
 -- a meter gives a result exactly if its count is above 0
 pub has-result-count : (m : Meter) → (hasResult m ≡ true) ↔ (0 < m .count)
@@ -42,9 +41,3 @@ module _ (kind : ℕ) (start : ReadingTime) where
 
   pub results-most : (i n : ℕ) (ms : List Meter) → length (results kind start i n ms) ≤ length ms
   results-most i n ms = rw (results-length i n ms) (givers-most ms)
-
-  -- meters without a value give none
-  pub results-none : (i n m : ℕ) → results kind start i n (replicate m noMeter) ≡ []
-  unfolding results hasResult noMeter
-  results-none i n zero = refl
-  results-none i n (suc m) = results-none (suc i) n m

@@ -1,5 +1,5 @@
 -- What a meter holds after readings were added: the old count and the number of its values, the old sum and their sum, and the last of
--- them. The laws are those of a run of values, carried over by `addAll-meter`. Assumes nothing.
+-- them. The laws are those of a run of values, carried over by `addAll-meter`.
 use Prim.Native.Nat.{ℕ, _+_, _<_}
 use mathlib.Core.Path.{_≡_, refl, sym, _∙_, ap}
 use mathlib.Core.Bool.{true}
@@ -9,9 +9,10 @@ use lib.IntN.{ℤ, _+ℤ_, +ℤ-idr, +ℤ-assoc}
 use lib.ListN.{length}
 use Rattle.settings.specs.declared.Settings.{Settings}
 use Rattle.store.specs.Order.{Placed}
-use Rattle.operator.specs.declared.Meter.{Meter}
+use Rattle.operator_meter.specs.declared.Meter.{Meter}
 use Rattle.operator.specs.declared.Operator.{Operator}
-use Rattle.operator.specs.Meters.{withValue, addAll}
+use Rattle.operator_meter.specs.Values.{withValue}
+use Rattle.operator.specs.Meters.{addAll}
 use Rattle.operator.proofs.Values.{countsFor, valuesOf, total, lastOr, countOf, sumOf, valuesOf-append, lastOr-end}
 use Rattle.operator.proofs.Adding.{meterOf, withValues, addAll-meter}
 

@@ -1,13 +1,13 @@
 -- The values that a run of readings brings to one meter, in order, with their number, sum and last: what a meter is to hold. A run of
 -- readings behind another brings its values behind the other's, and number and sum do not mind the order. Sums are amounts that add up;
--- the other laws go by the list. Assumes nothing.
-use Prim.Native.Nat.{ℕ, _+_}
-use mathlib.Core.Path.{_≡_, refl, _∙_, ap}
+-- the other laws go by the list.
+use Prim.Native.Nat.{ℕ}
+use mathlib.Core.Path.{_≡_, refl, ap}
 use mathlib.Core.Bool.{Bool, true, false, cond, _&&_}
 use mathlib.Core.List.{List, [], _∷_, _++_, foldr, map}
 use lib.Dec.{eqb}
 use lib.IntN.{ℤ, pos, _+ℤ_, +ℤ-idr, +ℤ-assoc, +ℤ-comm}
-use lib.ListN.{length, length-append}
+use lib.ListN.{length}
 use Rattle.settings.specs.declared.Settings.{Settings}
 use Rattle.store.specs.declared.Reading.{Reading}
 use Rattle.store.specs.Lists.{keep}
@@ -17,7 +17,7 @@ use Rattle.store.proofs.Choices.{cond-map}
 use Rattle.store.proofs.Amounts.{CommutativeMonoid}
 use Rattle.store.proofs.Amounts as amounts
 use Rattle.store.proofs.Permutations.{length-permuted, keep-permuted, map-permuted}
-use Rattle.operator.specs.Meters.{isCounted}
+use Rattle.operator_meter.specs.Values.{isCounted}
 
 -- a reading of meter i with a value that is not dropped
 abbrev pub counts : Settings → ℕ → Reading → Bool
@@ -61,28 +61,11 @@ valuesOf-append s i (r ∷ rs) qs =
 sums : CommutativeMonoid ℤ
 sums = record { none = pos 0; plus = _+ℤ_; plus-none = +ℤ-idr; plus-assoc = +ℤ-assoc; plus-comm = +ℤ-comm }
 
-pub total-append : (vs ws : List ℤ) → total (vs ++ ws) ≡ total vs +ℤ total ws
-unfolding total sums
-total-append vs ws = amounts.total-append sums (λ v. v) vs ws
-
-pub countOf-append : (s : Settings) (i : ℕ) (rs qs : List Placed) → countOf s i (rs ++ qs) ≡ countOf s i rs + countOf s i qs
-unfolding countOf
-countOf-append s i rs qs = ap length (valuesOf-append s i rs qs) ∙ length-append (valuesOf s i rs) (valuesOf s i qs)
-
-pub sumOf-append : (s : Settings) (i : ℕ) (rs qs : List Placed) → sumOf s i (rs ++ qs) ≡ sumOf s i rs +ℤ sumOf s i qs
-unfolding sumOf
-sumOf-append s i rs qs = ap total (valuesOf-append s i rs qs) ∙ total-append (valuesOf s i rs) (valuesOf s i qs)
-
 -- the last one is the last one
 pub lastOr-end : (old v : ℤ) (vs : List ℤ) → lastOr old (vs ++ v ∷ []) ≡ v
 unfolding lastOr
 lastOr-end old v [] = refl
 lastOr-end old v (w ∷ ws) = lastOr-end w v ws
-
-pub lastOr-append : (old : ℤ) (vs ws : List ℤ) → lastOr old (vs ++ ws) ≡ lastOr (lastOr old vs) ws
-unfolding lastOr
-lastOr-append old [] ws = refl
-lastOr-append old (v ∷ vs) ws = lastOr-append v vs ws
 
 -- ---- in any order
 

@@ -3,4 +3,3 @@ pub mod Meters
 pub mod Results
 pub mod Parts
 pub mod Work
-pub mod Bounds

@@ -1,17 +1,12 @@
--- What single functions of the operator give. The contracts above them pin them down. Assumes nothing.
-use Prim.Native.Nat.{ℕ, suc, _+_}
+-- What single functions of the operator give. The contracts above them pin them down.
+use Prim.Native.Nat.{ℕ, suc}
 use mathlib.Core.Bool.{cond}
 use mathlib.Core.List.{List, [], _∷_}
-use lib.IntN.{ℤ, _+ℤ_}
 use lib.ListN.{drop}
-use Rattle.operator.specs.declared.Meter.{Meter}
+use Rattle.operator_meter.specs.declared.Meter.{Meter}
 use Rattle.operator.specs.declared.NextResult.{NextResult}
 use Rattle.operator.specs.declared.NextResult.the-variants as NextResult
-use Rattle.operator.specs.Results.{hasResult}
-
--- a meter with one value more, where a newer value is there already
-unfoldable pub withOlderValue : ℤ → Meter → Meter
-withOlderValue v m = record { sum = m .sum +ℤ v; count = m .count + 1; last = m .last }
+use Rattle.operator_meter.specs.Values.{hasResult}
 
 -- the first meter with a result, the list's first one having number i
 unfoldable pub firstResult : ℕ → List Meter → NextResult

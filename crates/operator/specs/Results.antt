@@ -1,17 +1,12 @@
--- The results of a closing window (document 01, section 'Buckets and the operator'). Assumes nothing.
+-- The results of a closing window (document 01, section 'Buckets and the operator').
 use Prim.Native.Nat.{ℕ, suc}
-use mathlib.Core.Bool.{Bool, cond}
+use mathlib.Core.Bool.{cond}
 use mathlib.Core.List.{List, [], _∷_}
-use lib.Dec.{ltb}
-use lib.IntN.{pos}
 use Rattle.clock.specs.declared.ReadingTime.{ReadingTime}
 use Rattle.signed.specs.Mean.{mean}
 use Rattle.record.specs.declared.Record.{Record}
-use Rattle.operator.specs.declared.Meter.{Meter}
-
--- this meter has a result
-unfoldable pub hasResult : Meter → Bool
-hasResult m = ltb 0 (m .count)
+use Rattle.operator_meter.specs.declared.Meter.{Meter}
+use Rattle.operator_meter.specs.Values.{hasResult}
 
 -- the result of meter number i, of this kind, at the window's start, with this number
 unfoldable pub result : ℕ → ReadingTime → ℕ → ℕ → Meter → Record
@@ -34,8 +29,3 @@ results kind start i number (m ∷ ms) =
     cond (hasResult m)
     (result kind start i (suc number) m ∷ results kind start (suc i) (suc number) ms)
     (results kind start (suc i) number ms)
-
--- a record without a result: an undo has only an id, a boundary only a time, corrections done neither
-unfoldable pub plain : ℕ → ℕ → ReadingTime → Record
-plain kind id time =
-    record { sum = pos 0; id = id; time = time; count = 0; mean = pos 0; last = pos 0; kind = kind; meter = 0 }

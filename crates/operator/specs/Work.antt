@@ -1,4 +1,4 @@
--- A bucket's work (document 01, section 'Buckets and the operator'). Assumes nothing.
+-- A bucket's work (document 01, section 'Buckets and the operator').
 use Prim.Native.Nat.{ℕ, _+_}
 use mathlib.Core.Bool.{cond}
 use mathlib.Core.List.{List, []}

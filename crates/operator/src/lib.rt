@@ -1,7 +1,6 @@
-// The operator: count, sum and last value of each meter, with the numbering of results. It goes by value and is handed on from bucket to
-// bucket.
+// The operator: its meters, with the numbering of results. It goes by value and is handed on from bucket to bucket.
 ghost use mathlib.Core.Path.{_≡_};
-ghost use mathlib.Core.Bool.{true, cond};
+ghost use mathlib.Core.Bool.{true};
 ghost use Prim.Native.Nat.{ℕ, _+_, _*_, _<_, _≤_, _^_};
 ghost use lib.ListN.{length};
 ghost use Rattle.area.specs.Laid.{inFront};
@@ -11,12 +10,13 @@ ghost use Rattle.settings.specs.declared.Settings.{Settings as Limits};
 ghost use Rattle.record.specs.Sizes.{recordBytes};
 ghost use Rattle.record.specs.Layout.{allBytes};
 ghost use Rattle.store.specs.Lists.{allOf, Every};
-ghost use Rattle.operator.specs.Meters.{meterCount, withValue, isCounted, clear, fresh, add};
-ghost use Rattle.operator.specs.Parts.{withOlderValue, nextResult};
-ghost use Rattle.operator.specs.Bounds.{meterOk};
-ghost use Rattle.operator.specs.Results.{hasResult, result};
-ghost use Rattle.operator.specs.Work.{close};
+ghost use Rattle.operator_meter.specs.Bounds.{meterOk};
+ghost use Rattle.operator.specs.Meters.{meterCount, clear, fresh, add};
+ghost use Rattle.operator.specs.Parts.{nextResult};
+ghost use Rattle.operator.specs.Results.{result};
+ghost use Rattle.operator.specs.Work.{Worked, close};
 use clock::ReadingTime;
+use operator_meter::Meter;
 use record::Record;
 use settings::Settings;
 use store::Reading;
@@ -25,16 +25,7 @@ use store::Reading;
 pub const METERS: usize = 64;
 
 // The same as the limit of a byte that names a meter.
-pub const METER_LIMIT: u8 = 64;
-
-// The largest count of a meter.
-pub const COUNT_LIMIT: u32 = 32_768;
-
-pub struct Meter {
-    pub sum: i64,
-    pub count: u32,
-    pub last: i32,
-}
+pub const METER_LIMIT: u8 = METERS as u8;
 
 // The number is the id of the newest result, 0 if there is none.
 pub struct Operator {
@@ -46,52 +37,6 @@ pub struct Operator {
 pub enum NextResult {
     At(usize),
     Nothing,
-}
-
-// A value that the operator does not drop.
-pub fn is_counted(s: Settings, value: i32) -> bool
-    ensures { λ r. ⌜ r ≡ isCounted s value ⌝ }
-{
-    (s.low <= value) & (value <= s.high)
-}
-
-impl Meter {
-    // One value more; it becomes the last one unless a newer one is there.
-    pub fn with_value(mut self, value: i32, newest: bool) -> Meter
-        requires { ⌜ (self .count < 2 ^ 31) × InRange (self .sum) (self .count) ⌝ }
-        ensures { λ r. ⌜ r ≡ cond newest (withValue value self) (withOlderValue value self) ⌝ }
-    {
-        self.sum = self.sum + (value as i64);
-        self.count = self.count + 1;
-        if newest {
-            self.last = value;
-        }
-        self
-    }
-
-    // Whether the count is within its limit and the sum one that so many values can have. A sum of 0 is told first: most meters have no
-    // value.
-    pub fn is_within_bounds(self) -> bool
-        ensures { λ r. ⌜ r ≡ meterOk self ⌝ }
-    {
-        if COUNT_LIMIT < self.count {
-            return false;
-        }
-        if self.sum == 0 {
-            return true;
-        }
-        let n = self.count as i64;
-        if self.sum < 0 {
-            return 0 - n * 2_147_483_648 <= self.sum;
-        }
-        self.sum <= n * 2_147_483_647
-    }
-
-    pub fn has_result(self) -> bool
-        ensures { λ r. ⌜ r ≡ hasResult self ⌝ }
-    {
-        0 < self.count
-    }
 }
 
 // The result of a meter.
@@ -146,7 +91,7 @@ impl Operator {
         ensures { λ q. ⌜ q ≡ add s self r ⌝ }
     {
         let value = r.value;
-        if is_counted(s, value) {
+        if operator_meter::is_counted(s, value) {
             let i = r.meter as usize;
             let m = self.meters[i];
             let next = m.with_value(value, true);
@@ -189,9 +134,11 @@ impl Operator {
     // Closes the window that bucket j ends: lays its results down from the area's first byte on, numbers on behind them, clears the meters.
     // How many results there are is the difference of the numberings.
     pub fn close(mut self, s: Settings, kind: u8, j: u32, area: &mut [u8]) -> Operator
-        requires { ⌜ (meterCount * recordBytes ≤ length (now area)) × (windowStart (s .bucket) (s .window) j < 2 ^ 32) × (self .number + meterCount < 2 ^ 32) × Every (λ m. InRange (m .sum) (m .count)) (self .meters) ⌝ }
-        ensures { λ r. ⌜ r ≡ close s kind j self .operator ⌝ }
-        ensures { λ _. ⌜ now (area .exit) ≡ inFront (allBytes (close s kind j self .records)) (now (area .entry)) ⌝ }
+        requires { ⌜ (meterCount * recordBytes ≤ length (now area)) × (windowStart (s .bucket) (s .window) j < 2 ^ 32) ×
+            (self .number + meterCount < 2 ^ 32) × Every (λ m. InRange (m .sum) (m .count)) (self .meters) ⌝ }
+        ensures { λ r.
+            let done : Worked = close s kind j self in
+            ⌜ (r ≡ done .operator) × (now (area .exit) ≡ inFront (allBytes (done .records)) (now (area .entry))) ⌝ }
     {
         let start = ReadingTime(clock::window_start(s.bucket, s.window, j) as u32);
         let mut number = self.number;

@@ -1,2 +1,5 @@
--- What a text that is played leaves.
+-- How a playback begins, what a text that is played leaves, one turn, and the whole.
+pub mod Start
 pub mod Replied
+pub mod Turn
+pub mod Run

@@ -16,7 +16,7 @@ use Rattle.store.specs.Lists.{keep, someOf, modify}
 use Rattle.protocol.specs.Kinds.{Kind, kindOf, uses, isStep}
 use Rattle.protocol.specs.Node.{Node, noLine, keepsTentative, readingOf, onLine}
 use Rattle.protocol.specs.Tests.{firstFailed}
-use Rattle.protocol.specs.Refusals.{lineOf, wrongLine, isZero, unusedField, wrongMeter, wrongId, tooEarly, isHeldBack, isFull}
+use Rattle.protocol.specs.Refusals.{namedLine, wrongLine, isZero, unusedField, wrongMeter, wrongId, tooEarly, isHeldBack, isFull}
 use Rattle.protocol.specs.Refusals.{callTests, lineTests, stepTests, testsOf, answerTo}
 use Rattle.protocol.specs.Rules.{Outcome, ruleOf}
 use Rattle.protocol.specs.Displays.{lacksPlaces}
@@ -36,22 +36,22 @@ pub record Reaches (s : Settings) (n : Node) (k : Call) : Type 0 where
 pub record ReadingFits (s : Settings) (n : Node) (k : Call) : Type 0 where
   pub reaches : Reaches s n k
   pub ofMeter : k .meter < 64
-  pub nextId : k .id ≡ lineOf n k .lastId + 1
-  pub notEarly : lineOf n k .boundary .0 ≤ k .time .0
-  pub hasPlace : length (lineOf n k .kept) < 256
+  pub nextId : k .id ≡ namedLine n k .lastId + 1
+  pub notEarly : namedLine n k .boundary .0 ≤ k .time .0
+  pub hasPlace : length (namedLine n k .kept) < 256
 
 pub record BoundaryFits (s : Settings) (n : Node) (k : Call) : Type 0 where
   pub reaches : Reaches s n k
-  pub notEarly : lineOf n k .boundary .0 ≤ k .time .0
-  pub noTentative : keepsTentative (lineOf n k) ≡ false
+  pub notEarly : namedLine n k .boundary .0 ≤ k .time .0
+  pub noTentative : keepsTentative (namedLine n k) ≡ false
   pub noId : k .id ≡ 0
   pub noMeter : k .meter ≡ 0
   pub noValue : k .value ≡ pos 0
 
 pub record UndoFits (s : Settings) (n : Node) (k : Call) : Type 0 where
   pub reaches : Reaches s n k
-  pub notStable : lineOf n k .lastStableId ≤ k .id
-  pub notAhead : k .id ≤ lineOf n k .lastId
+  pub notStable : namedLine n k .lastStableId ≤ k .id
+  pub notAhead : k .id ≤ namedLine n k .lastId
   pub noTime : k .time .0 ≡ 0
   pub noMeter : k .meter ≡ 0
   pub noValue : k .value ≡ pos 0
@@ -78,9 +78,9 @@ module _ (s : Settings) (n : Node) (k : Call) where
   )
 
   -- 14: only where 256 readings are kept
-  pub refused-14 : answerTo s n k ≡ 14 → 256 ≤ length (lineOf n k .kept)
+  pub refused-14 : answerTo s n k ≡ 14 → 256 ≤ length (namedLine n k .kept)
   unfolding testsOf callTests lineTests failsWith
-  refused-14 e = full-256 (lineOf n k) (kindOf (k .kind)) (refused-iff 14 (omega arith) .0 e .fails)
+  refused-14 e = full-256 (namedLine n k) (kindOf (k .kind)) (refused-iff 14 (omega arith) .0 e .fails)
 
   reaches-iff : ((ltb (k .now .0) (n .clock .0) ≡ false) × (not (leb 1 (k .line) && leb (k .line) (s .lines)) ≡ false)) ↔ Reaches s n k
   reaches-iff = (
@@ -90,8 +90,8 @@ module _ (s : Settings) (n : Node) (k : Call) where
 
   -- the tests that only readings meet: meter, id, time and place
   reading-iff :
-      (Reaches s n k × (leb 64 (k .meter) ≡ false) × (not (eqb (k .id) (lineOf n k .lastId + 1)) ≡ false) ×
-      (ltb (k .time .0) (lineOf n k .boundary .0) ≡ false) × (leb 256 (length (lineOf n k .kept)) ≡ false)) ↔
+      (Reaches s n k × (leb 64 (k .meter) ≡ false) × (not (eqb (k .id) (namedLine n k .lastId + 1)) ≡ false) ×
+      (ltb (k .time .0) (namedLine n k .boundary .0) ≡ false) × (leb 256 (length (namedLine n k .kept)) ≡ false)) ↔
       ReadingFits s n k
   reading-iff = (
     λ f.
@@ -100,14 +100,14 @@ module _ (s : Settings) (n : Node) (k : Call) where
           ofMeter = leb-false 64 (k .meter) (f .1);
           nextId = eqb-true _ _ (not-false _ (f .2));
           notEarly = ltb-false _ _ (f .3);
-          hasPlace = leb-false 256 (length (lineOf n k .kept)) (f .4);
+          hasPlace = leb-false 256 (length (namedLine n k .kept)) (f .4);
         },
     λ r. (
       r .reaches,
       lt-leb 64 (k .meter) (r .ofMeter),
       ap not (eq-eqb _ _ (r .nextId)),
       le-ltb _ _ (r .notEarly),
-      lt-leb 256 (length (lineOf n k .kept)) (r .hasPlace),
+      lt-leb 256 (length (namedLine n k .kept)) (r .hasPlace),
     ),
   )
 
@@ -119,7 +119,7 @@ module _ (s : Settings) (n : Node) (k : Call) where
     λ r. ap not (four-iff (k .id) (k .time .0) (k .meter) (k .value) .1 (r .noId, (r .noTime, (r .noMeter, r .noValue)))),
   )
 
-  pub accepts-S : kindOf (k .kind) ≡ Kind.S → (answerTo s n k ≡ 0) ↔ (ReadingFits s n k × (keepsTentative (lineOf n k) ≡ false))
+  pub accepts-S : kindOf (k .kind) ≡ Kind.S → (answerTo s n k ≡ 0) ↔ (ReadingFits s n k × (keepsTentative (namedLine n k) ≡ false))
   unfolding testsByKind refusalsOf keep someOf testsOf callTests lineTests stepTests firstFailed wrongLine isStep uses wrongMeter wrongId tooEarly isHeldBack isFull
   accepts-S e = (
     λ a.
@@ -167,7 +167,7 @@ module _ (s : Settings) (n : Node) (k : Call) where
     λ a.
         let f = passed-as s n k Kind.U e a in
         let g = three-iff (k .time .0) (k .meter) (k .value) .0 (not-false _ (f .fields)) in
-        let i = between (lineOf n k .lastStableId) (k .id) (lineOf n k .lastId) .0 (not-false _ (f .id)) in
+        let i = between (namedLine n k .lastStableId) (k .id) (namedLine n k .lastId) .0 (not-false _ (f .id)) in
         record {
           reaches = reaches-iff .0 (f .onTime, f .line);
           notStable = i .0;
@@ -179,11 +179,11 @@ module _ (s : Settings) (n : Node) (k : Call) where
     λ r.
         let a = reaches-iff .1 (r .reaches) in
         let g = ap not (three-iff (k .time .0) (k .meter) (k .value) .1 (r .noTime, (r .noMeter, r .noValue))) in
-        let i = ap not (between (lineOf n k .lastStableId) (k .id) (lineOf n k .lastId) .1 (r .notStable, r .notAhead)) in
+        let i = ap not (between (namedLine n k .lastStableId) (k .id) (namedLine n k .lastId) .1 (r .notStable, r .notAhead)) in
         answer-by-kind s n k Kind.U e ∙ rw (a .0, a .1, g, i),
   )
 
-  pub accepts-R : kindOf (k .kind) ≡ Kind.R → (answerTo s n k ≡ 0) ↔ (Reaches s n k × Bare k × (keepsTentative (lineOf n k) ≡ false))
+  pub accepts-R : kindOf (k .kind) ≡ Kind.R → (answerTo s n k ≡ 0) ↔ (Reaches s n k × Bare k × (keepsTentative (namedLine n k) ≡ false))
   unfolding testsByKind refusalsOf keep someOf testsOf callTests lineTests stepTests firstFailed wrongLine isStep uses unusedField isHeldBack
   accepts-R e = (
     λ a. let f = passed-as s n k Kind.R e a in (reaches-iff .0 (f .onTime, f .line), bare-iff .0 (f .fields), f .free),
@@ -267,21 +267,21 @@ module _ (s : Settings) (n : Node) (k : Call) where
 
   kept-behind :
       (kind : Kind) → outcomeOf s n k .node .lines ≡ modify (onLine k kind) (k .line - 1) (n .lines) →
-      onLine k kind (lineOf n k) .kept ≡ lineOf n k .kept ++ readingOf k ∷ [] → length (n .lines) ≡ s .lines → Reaches s n k →
-      getD (outcomeOf s n k .node .lines) (k .line - 1) noLine .kept ≡ lineOf n k .kept ++ readingOf k ∷ []
-  unfolding lineOf
+      onLine k kind (namedLine n k) .kept ≡ namedLine n k .kept ++ readingOf k ∷ [] → length (n .lines) ≡ s .lines → Reaches s n k →
+      getD (outcomeOf s n k .node .lines) (k .line - 1) noLine .kept ≡ namedLine n k .kept ++ readingOf k ∷ []
+  unfolding namedLine
   kept-behind kind e q l r =
       rw (e, getD-modify (onLine k kind) (n .lines) (k .line - 1) noLine (omega (arith, r .firstLine, r .lastLine))) q
 
   -- an accepted reading stands behind those that its line kept
   pub accepted-S-kept :
       kindOf (k .kind) ≡ Kind.S → length (n .lines) ≡ s .lines → answerTo s n k ≡ 0 →
-      getD (outcomeOf s n k .node .lines) (k .line - 1) noLine .kept ≡ lineOf n k .kept ++ readingOf k ∷ []
+      getD (outcomeOf s n k .node .lines) (k .line - 1) noLine .kept ≡ namedLine n k .kept ++ readingOf k ∷ []
   unfolding done isStep uses onLine
   accepted-S-kept e l h = kept-behind Kind.S (input-changes-line Kind.S e refl h) refl l (accepts-S e .0 h .0 .reaches)
 
   pub accepted-T-kept :
       kindOf (k .kind) ≡ Kind.T → length (n .lines) ≡ s .lines → answerTo s n k ≡ 0 →
-      getD (outcomeOf s n k .node .lines) (k .line - 1) noLine .kept ≡ lineOf n k .kept ++ readingOf k ∷ []
+      getD (outcomeOf s n k .node .lines) (k .line - 1) noLine .kept ≡ namedLine n k .kept ++ readingOf k ∷ []
   unfolding done isStep uses onLine
   accepted-T-kept e l h = kept-behind Kind.T (input-changes-line Kind.T e refl h) refl l (accepts-T e .0 h .reaches)

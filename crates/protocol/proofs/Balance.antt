@@ -1,5 +1,5 @@
 -- The balance of a node by any measure of readings: of the accepted stable readings those below bucket c are in the stable results and in
--- the window open at the checkpoint, since these are the failure-free run's; those from it on are kept. Assumes nothing.
+-- the window open at the checkpoint, since these are the failure-free run's; those from it on are kept.
 use Prim.Native.Nat.{ℕ, _<_}
 use mathlib.Core.Path.{_≡_, refl, sym, _∙_, ap, ap₂}
 use mathlib.Core.List.{List, _++_, flatten}

@@ -1,5 +1,5 @@
 -- Results are numbered one after the other: a bucket's behind the operator's number, which goes on by as many; the failure-free run's from
--- 1 on. Assumes nothing.
+-- 1 on.
 use Prim.Native.Nat.{ℕ, zero, suc, _+_}
 use mathlib.Core.Path.{_≡_, refl, subst}
 use mathlib.Core.Bool.{true, false, cond}
@@ -13,10 +13,11 @@ use Rattle.journal.specs.Kinds.{letterS}
 use Rattle.record.specs.declared.Record.{Record}
 use Rattle.store.specs.declared.Reading.{Reading}
 use Rattle.store.specs.Order.{Placed, inBucket}
-use Rattle.operator.specs.declared.Meter.{Meter}
+use Rattle.operator_meter.specs.declared.Meter.{Meter}
 use Rattle.operator.specs.declared.Operator.{Operator}
 use Rattle.operator.specs.Meters.{addAll, fresh}
-use Rattle.operator.specs.Results.{hasResult, result, results}
+use Rattle.operator_meter.specs.Values.{hasResult}
+use Rattle.operator.specs.Results.{result, results}
 use Rattle.operator.specs.Work.{Worked, windowResults, close, work}
 use Rattle.operator.proofs.Adding.{addAll-number}
 use Rattle.operator.proofs.Closing.{work-number}
@@ -27,7 +28,8 @@ consecutive-append : (n m : ℕ) (xs ys : List Record) → m ≡ n + length xs �
 consecutive-append n m [] ys e h k = subst (λ (i : ℕ). Consecutive i ys) (let q : m ≡ n = omega arith in q) k
 consecutive-append n m (x ∷ xs) ys e h k = (h .0, consecutive-append (suc n) m xs ys (omega arith) (h .1) k)
 
-results-consecutive : (kind : ℕ) (start : ReadingTime) (i number : ℕ) (ms : List Meter) → Consecutive number (results kind start i number ms)
+results-consecutive :
+    (kind : ℕ) (start : ReadingTime) (i number : ℕ) (ms : List Meter) → Consecutive number (results kind start i number ms)
 unfolding results result
 results-consecutive kind start i number [] = tt
 results-consecutive kind start i number (m ∷ ms) =
@@ -52,7 +54,8 @@ work-consecutive s kind j rs o =
       | false ↦ tt
     ])
 
-pub failureFree-count : (s : Settings) (ls : List (List Reading)) (n : ℕ) → failureFree s ls n .operator .number ≡ length (failureFree s ls n .records)
+pub failureFree-count :
+    (s : Settings) (ls : List (List Reading)) (n : ℕ) → failureFree s ls n .operator .number ≡ length (failureFree s ls n .records)
 unfolding failureFree fresh
 failureFree-count s ls zero = refl
 failureFree-count s ls (suc n) =

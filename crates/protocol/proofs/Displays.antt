@@ -1,5 +1,5 @@
 -- What is held for the displays stays within the places: a step adds no more results than there are free ones (15), and an acknowledgement
--- raises its display's id, not past the newest stable one (17). Assumes nothing.
+-- raises its display's id, not past the newest stable one (17).
 use Prim.Native.Nat.{ℕ, zero, suc, _+_, _-_, _≤_, _<_, min}
 use mathlib.Core.Path.{_≡_, refl}
 use mathlib.Core.Bool.{Bool, true, false, cond, _&&_, _||_, true≢false}
@@ -20,7 +20,7 @@ use Rattle.store.proofs.Pairs.{every-to, every-set}
 use Rattle.retransmission.specs.Sizes.{heldResults}
 use Rattle.operator.proofs.Closing.{work-number}
 use Rattle.protocol.specs.Kinds.{Kind, kindOf, uses, isStep}
-use Rattle.protocol.specs.Node.{Node, isStable, keptOf}
+use Rattle.protocol.specs.Node.{Node, isStableBucket, keptOf}
 use Rattle.protocol.specs.declared.Rule.{Rule}
 use Rattle.protocol.specs.declared.Rule.the-variants as Rule
 use Rattle.protocol.specs.Rules.{isCorrecting, someOverdue, ruleOf, worked, act}
@@ -112,7 +112,7 @@ module _ (s : Settings) (n : Node) (order : n .c ≤ n .p) (level : n .p ≡ n .
   step-held : (now : ArrivalTick) → lacksPlaces s n (ruleOf s n now) ≡ false → HeldIn (act s n (ruleOf s n now) .node)
   unfolding ruleOf
   step-held now =
-      rule-cases (isStable s (n .c) (n .lines)) (ltb (n .c) (n .p)) (isCorrecting (n .phase)) (someOverdue s (n .p) now (n .lines))
+      rule-cases (isStableBucket s (n .c) (n .lines)) (ltb (n .c) (n .p)) (isCorrecting (n .phase)) (someOverdue s (n .p) now (n .lines))
       (λ (rule : Rule). lacksPlaces s n rule ≡ false → HeldIn (act s n rule .node)) (λ _ _ _. withdraw-held)
       (λ a b e. let h : n .p ≤ n .c = ltb-false _ _ b in stable-held (omega (arith, order)) e)
       (λ _ _ _. end-held) (λ _ _ _ _. tentative-held) (λ _ _ _. idle-held)
@@ -166,7 +166,7 @@ module _ (s : Settings) (n : Node) (display id : ℕ) where
         known = ltb-false _ _ (id-fits .1);
       }
 
-  -- and one that is so is accepted
+  -- a claim of its own: one that is so is accepted
   pub acknowledgement-accepted : AcknowledgementFits s n display id → answerToAcknowledgement s n display id ≡ 0
   unfolding answerToAcknowledgement wrongDisplay wrongAcknowledgement firstFailed
   acknowledgement-accepted v =
@@ -226,6 +226,7 @@ module _ (s : Settings) (n : Node) (display from : ℕ) where
         near = ltb-false _ _ (inside .1);
       }
 
+  -- a claim of its own, as for an acknowledgement
   pub fetch-accepted : FetchFits s n display from → answerToFetch s n display from ≡ 0
   unfolding answerToFetch wrongDisplay wrongFetch firstFailed
   fetch-accepted v =

@@ -1,5 +1,5 @@
 -- The failure-free run by any measure of readings: what its results report of a meter and what the window still open holds of it is what
--- the readings of the buckets worked bring. By induction on the buckets, each taken from the readings below the next. Assumes nothing.
+-- the readings of the buckets worked bring. By induction on the buckets, each taken from the readings below the next.
 use Prim.Native.Nat.{ℕ, zero, suc, _<_}
 use mathlib.Core.Path.{_≡_, refl, sym, _∙_, ap, ap₂}
 use mathlib.Core.Bool.{Bool, true, false}

@@ -1,21 +1,18 @@
 -- What each test of a call says in plain arithmetic.
 use Prim.Native.Nat.{ℕ, zero, suc, _≤_, _<_}
 use mathlib.Core.Path.{_≡_, refl, sym, ap}
-use mathlib.Core.Bool.{Bool, true, false, not, _&&_, _||_, true≢false}
+use mathlib.Core.Bool.{Bool, true, false, not, _&&_, true≢false}
 use mathlib.Core.List.{List, [], _∷_}
 use mathlib.Core.Logic.{_↔_}
 use native.Mathlib.Omega.{arith}
 use lib.Dec.{leb, eqb}
 use lib.IntN.{ℤ, pos, negsuc, pos-ne-negsuc}
 use lib.ListN.{length, getD}
-use borrow.Author.Tests.{leb-true, eqb-true, eqb-false, not-false}
-use borrow.Author.Tests.{le-leb, eq-eqb}
+use borrow.Author.Tests.{leb-true, le-leb, eqb-true, eq-eqb, not-false}
 use Rattle.settings.specs.declared.Settings.{Settings}
-use Rattle.journal.specs.Kinds.{letterT}
-use Rattle.store.specs.declared.Reading.{Reading}
-use Rattle.store.specs.Lists.{Every, someOf, modify}
+use Rattle.store.specs.Lists.{modify}
 use Rattle.protocol.specs.Kinds.{Kind, uses}
-use Rattle.protocol.specs.Node.{Line, keepsTentative}
+use Rattle.protocol.specs.Node.{Line}
 use Rattle.protocol.specs.Refusals.{isZero, isFull}
 
 pub getD-modify : {A : Type 0} (f : A → A) (xs : List A) (i : ℕ) (d : A) → i < length xs → getD (modify f i xs) i d ≡ f (getD xs i d)
@@ -61,27 +58,6 @@ pub four-iff :
     (a b c : ℕ) (z : ℤ) →
     (eqb a 0 && (eqb b 0 && (eqb c 0 && isZero z)) ≡ true) ↔ ((a ≡ 0) × ((b ≡ 0) × ((c ≡ 0) × (z ≡ pos 0))))
 four-iff a b c z = and-iff (eqb a 0) (eqb b 0 && (eqb c 0 && isZero z)) (eqb-iff a 0) (three-iff b c z)
-
--- no reading of the list has the letter T
-pub none-iff :
-    (rs : List Reading) →
-    (someOf (λ (r : Reading). eqb (r .kind) letterT) rs ≡ false) ↔ Every (λ (r : Reading). r .kind ≡ letterT → ⊥) rs
-unfolding someOf
-none-iff [] = (λ e. tt, λ h. refl)
-none-iff (r ∷ rs) =
-    (elim (eqb (r .kind) letterT) as
-    (λ b.
-    eqb (r .kind) letterT ≡ b →
-    (b || someOf (λ (x : Reading). eqb (x .kind) letterT) rs ≡ false) ↔
-    ((r .kind ≡ letterT → ⊥) × Every (λ (x : Reading). x .kind ≡ letterT → ⊥) rs)) [
-      | true ↦ λ q. (λ e. absurd (true≢false e), λ h. absurd (h .0 (eqb-true _ _ q)))
-      | false ↦ λ q. (λ e. (eqb-false _ _ q, none-iff rs .0 e), λ h. none-iff rs .1 (h .1))
-    ])
-    refl
-
-pub no-tentative-iff : (l : Line) → (keepsTentative l ≡ false) ↔ Every (λ (r : Reading). r .kind ≡ letterT → ⊥) (l .kept)
-unfolding keepsTentative
-no-tentative-iff l = none-iff (l .kept)
 
 pub full-256 : (l : Line) (kind : Kind) → isFull l kind ≡ true → 256 ≤ length (l .kept)
 unfolding isFull uses

@@ -1,6 +1,5 @@
 -- A line when bucket c is worked as stable: its readings of the bucket are exactly its accepted stable ones, and once they leave, the line
--- agrees for the next bucket. A tentative reading is not below the boundary, and so not in a bucket that the boundary finishes. Assumes
--- nothing.
+-- agrees for the next bucket. A tentative reading is not below the boundary, and so not in a bucket that the boundary finishes.
 use Prim.Native.Nat.{ℕ, suc, _*_, _/_, _≤_, _<_}
 use mathlib.Core.Path.{_≡_, sym, _∙_}
 use mathlib.Core.Bool.{true, false, not, _&&_}
@@ -34,7 +33,8 @@ later-bucket c n =
     le-leb (suc c) n (omega arith))
     (λ e. let h : c < n = leb-true _ _ e in rw (le-leb c n (omega arith), ne-eqb n c (omega arith)))
 
-later-readings : (length c : ℕ) (rs : List Reading) → Every (λ (r : Reading). isFrom length c r && not (isIn length c r) ≡ isFrom length (suc c) r) rs
+later-readings :
+    (length c : ℕ) (rs : List Reading) → Every (λ (r : Reading). isFrom length c r && not (isIn length c r) ≡ isFrom length (suc c) r) rs
 unfolding isFrom isIn
 later-readings length c rs = every-any _ rs (λ r. later-bucket c (bucketOf length (r .time)))
 

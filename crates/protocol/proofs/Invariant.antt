@@ -1,5 +1,5 @@
 -- What holds after every list of calls: the node's c, p and phase are the monitor's d, t and mark, every line agrees with the monitor and its
--- accepted stable readings, and the output is measured against the failure-free run below c. Each call keeps it. Assumes nothing.
+-- accepted stable readings, and the output is measured against the failure-free run below c. Each call keeps it.
 use Prim.Native.Nat.{ℕ, suc, _+_, _*_, _-_, _≤_, _<_}
 use mathlib.Core.Path.{_≡_, refl, sym, _∙_, ap, subst}
 use mathlib.Core.Bool.{true, false, cond, false≢true}
@@ -23,11 +23,11 @@ use Rattle.operator.specs.declared.Operator.{Operator}
 use Rattle.operator.specs.Work.{work}
 use Rattle.protocol.specs.declared.Phase.{Phase}
 use Rattle.protocol.specs.Kinds.{Kind, kindOf, uses, isStep}
-use Rattle.protocol.specs.Node.{Line, noLine, isStable, keptOf, onLine}
+use Rattle.protocol.specs.Node.{Line, noLine, isStableBucket, keptOf, onLine}
 use Rattle.protocol.specs.declared.Rule.{Rule}
 use Rattle.protocol.specs.declared.Rule.the-variants as Rule
 use Rattle.protocol.specs.Rules.{isCorrecting, ruleOf, without, boundaryAt, worked, act}
-use Rattle.protocol.specs.Refusals.{lineOf, answerTo}
+use Rattle.protocol.specs.Refusals.{namedLine, answerTo}
 use Rattle.protocol.specs.Calls.{input, done as doneBy, accepted, outcomeOf, acknowledgedBy}
 use Rattle.protocol.specs.Monitor.{LineMonitor, observeLine, observeInput, observeKind, observe}
 use Rattle.protocol.specs.FailureFree.{stableAfter, failureFree}
@@ -56,21 +56,27 @@ module _ (s : Settings) (c : ℕ) where
   Finished : Line → LineMonitor → List Reading → Type 0
   Finished l g rs = Agrees s c l g rs × (suc c * s .bucket ≤ l .boundary .0)
 
-  each-finished : {ls : List Line} {gs : List LineMonitor} {zs : List (List Reading)} → isStable s c ls ≡ true → Each (Agrees s c) ls gs zs → Each Finished ls gs zs
-  unfolding isStable allOf finishes bucketEnd Finished
+  each-finished :
+      {ls : List Line} {gs : List LineMonitor} {zs : List (List Reading)} → isStableBucket s c ls ≡ true → Each (Agrees s c) ls gs zs →
+      Each Finished ls gs zs
+  unfolding isStableBucket allOf finishes bucketEnd Finished
   each-finished e done = done
   each-finished e (more {a = l} r rs) =
       let h : c * s .bucket + s .bucket ≤ l .boundary .0 = leb-true _ _ (and-parts _ _ e .0) in
       more (r, omega arith) (each-finished (and-parts (leb (c * s .bucket + s .bucket) (l .boundary .0)) _ e .1) rs)
 
   module _ (room : 0 < s .bucket) where
-    each-gather : {ls : List Line} {gs : List LineMonitor} {zs : List (List Reading)} (n : ℕ) → Each Finished ls gs zs → gather (s .bucket) c n (keptOf ls) ≡ gather (s .bucket) c n zs
+    each-gather :
+        {ls : List Line} {gs : List LineMonitor} {zs : List (List Reading)} (n : ℕ) → Each Finished ls gs zs →
+        gather (s .bucket) c n (keptOf ls) ≡ gather (s .bucket) c n zs
     unfolding gather keptOf Finished
     each-gather n done = refl
     each-gather n (more {a = l} {b = g} {c = rs} r rest) =
         rw (line-bucket s room c l g rs (r .0) (r .1), each-gather (suc n) rest)
 
-    each-without : {ls : List Line} {gs : List LineMonitor} {zs : List (List Reading)} → Each Finished ls gs zs → Each (Agrees s (suc c)) (map (without s c) ls) gs zs
+    each-without :
+        {ls : List Line} {gs : List LineMonitor} {zs : List (List Reading)} → Each Finished ls gs zs →
+        Each (Agrees s (suc c)) (map (without s c) ls) gs zs
     unfolding Finished
     each-without v = each-map (without s c) (λ l g rs r. line-finish s room c l g rs (r .0) (r .1)) v
 
@@ -97,7 +103,10 @@ Called s t k kind =
     }
 
 -- bucket c worked with the readings that the failure-free run has of it
-measured-bucket : (s : Settings) (c p : ℕ) (phase : Phase) (operator checkpoint : Operator) (zs : List (List Reading)) (out : List Record) (rs : List Placed) → rs ≡ inBucket (s .bucket) c zs → p ≡ c → Measured c p phase operator checkpoint (failureFree s zs c) out → Measured (suc c) (suc p) phase (work s letterS c rs operator .operator) (work s letterS c rs operator .operator) (failureFree s zs (suc c)) (out ++ (work s letterS c rs operator .records ++ boundaryAt s c))
+measured-bucket :
+    (s : Settings) (c p : ℕ) (phase : Phase) (operator checkpoint : Operator) (zs : List (List Reading)) (out : List Record) (rs : List Placed) →
+    rs ≡ inBucket (s .bucket) c zs → p ≡ c → Measured c p phase operator checkpoint (failureFree s zs c) out →
+    Measured (suc c) (suc p) phase (work s letterS c rs operator .operator) (work s letterS c rs operator .operator) (failureFree s zs (suc c)) (out ++ (work s letterS c rs operator .records ++ boundaryAt s c))
 unfolding failureFree
 measured-bucket s c p phase operator checkpoint zs out rs e q v =
     rw (e, v .level (sym q) .0, v .atCheckpoint)
@@ -106,8 +115,10 @@ measured-bucket s c p phase operator checkpoint zs out rs e q v =
     (work-onward s letterS c (inBucket (s .bucket) c zs) (failureFree s zs c .operator)) s c)
 
 module _ (s : Settings) (room : 0 < s .bucket) (t : Trace) (v : Invariant s t) where
-  input-kept : (k : Call) (kind : Kind) → kindOf (k .kind) ≡ kind → Passed s (t .node) k kind → Invariant s (record { node = accepted (k .now) (input (t .node) k kind) .node; monitor = observeInput (t .monitor) k kind; stables = modify (withStable k kind) (k .line - 1) (t .stables); acknowledged = t .acknowledged; output = t .output ++ accepted (k .now) (input (t .node) k kind) .records })
-  unfolding accepted input observeInput lineOf
+  input-kept :
+      (k : Call) (kind : Kind) → kindOf (k .kind) ≡ kind → Passed s (t .node) k kind →
+      Invariant s (record { node = accepted (k .now) (input (t .node) k kind) .node; monitor = observeInput (t .monitor) k kind; stables = modify (withStable k kind) (k .line - 1) (t .stables); acknowledged = t .acknowledged; output = t .output ++ accepted (k .now) (input (t .node) k kind) .records })
+  unfolding accepted input observeInput namedLine
   input-kept k kind e h =
       record {
         some = subst (λ n. 0 < n) (sym (length-modify (onLine k kind) (k .line - 1) (t .node .lines))) (v .some);
@@ -118,7 +129,7 @@ module _ (s : Settings) (room : 0 < s .bucket) (t : Trace) (v : Invariant s t) w
         level = v .level;
         lines =
             each-modify (onLine k kind) (observeLine k kind) (withStable k kind) noLine (k .line - 1)
-            (λ g rs r. line-input s room (t .node .c) k (lineOf (t .node) k) g rs r kind e (h .id) (h .time) (h .free)) (v .lines);
+            (λ g rs r. line-input s room (t .node .c) k (namedLine (t .node) k) g rs r kind e (h .id) (h .time) (h .free)) (v .lines);
         output =
             rw (
               append-nil (t .output),
@@ -143,7 +154,9 @@ module _ (s : Settings) (room : 0 < s .bucket) (t : Trace) (v : Invariant s t) w
             measured-withdraw _ _ _ _ _ _ _ (v .output) (failureFree-numbered s (t .stables) (t .node .c)) (record { 0 = 0 });
       }
 
-  stable-kept : (now : ArrivalTick) → isStable s (t .node .c) (t .node .lines) ≡ true → t .node .p ≡ t .node .c → Invariant s (Stepped s t now Rule.WorkStable)
+  stable-kept :
+      (now : ArrivalTick) → isStableBucket s (t .node .c) (t .node .lines) ≡ true → t .node .p ≡ t .node .c →
+      Invariant s (Stepped s t now Rule.WorkStable)
   unfolding Stepped accepted act monitorAct worked inBucket
   stable-kept now e q =
       record {
@@ -160,7 +173,9 @@ module _ (s : Settings) (room : 0 < s .bucket) (t : Trace) (v : Invariant s t) w
       }
 
   -- what rule 2 gives are the failure-free run's next results
-  pub worked-free : isStable s (t .node .c) (t .node .lines) ≡ true → t .node .p ≡ t .node .c → failureFree s (t .stables) (suc (t .node .c)) .records ≡ failureFree s (t .stables) (t .node .c) .records ++ worked s letterS (t .node .c) (t .node) .records
+  pub worked-free :
+      isStableBucket s (t .node .c) (t .node .lines) ≡ true → t .node .p ≡ t .node .c →
+      failureFree s (t .stables) (suc (t .node .c)) .records ≡ failureFree s (t .stables) (t .node .c) .records ++ worked s letterS (t .node .c) (t .node) .records
   unfolding failureFree worked inBucket
   worked-free e q =
       let readings : sort (gather (s .bucket) (t .node .c) 1 (keptOf (t .node .lines))) ≡ sort (gather (s .bucket) (t .node .c) 1 (t .stables)) =
@@ -233,7 +248,7 @@ module _ (s : Settings) (room : 0 < s .bucket) (t : Trace) (v : Invariant s t) w
   called-kept k Kind.P e h =
       rw (
         no-new-stable k,
-        monitor-step s (t .monitor) (k .now .0),
+        monitor-step s (t .monitor) (k .now),
         ← (same-rule s room (t .node) (t .monitor) (t .stables) (k .now) (v .some) (v .same-c) (v .same-p) (v .same-mark) (v .order) (v .lines)),
       )
       (step-kept (k .now))

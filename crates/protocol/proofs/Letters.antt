@@ -1,4 +1,4 @@
--- Only the letter S has the kind S, and only T the kind T: by cases on the tests before. Assumes nothing.
+-- Only the letter S has the kind S, and only T the kind T: by cases on the tests before.
 use Prim.Native.Nat.{ℕ}
 use mathlib.Core.Path.{_≡_, refl}
 use mathlib.Core.Bool.{Bool, true, false, cond}

@@ -1,6 +1,6 @@
 -- One line of the node against what the monitor has of it and its accepted stable readings. All three are parts of the readings that were
 -- accepted on the line and not undone: the node keeps those of bucket c or later, the monitor has an entry for each, and the accepted
--- stable ones are those that are not tentative. Refusals 11 to 13 keep it so. Assumes nothing.
+-- stable ones are those that are not tentative. Refusals 11 to 13 keep it so.
 use Prim.Native.Nat.{ℕ, _+_, _*_, _/_, _≤_, _<_}
 use mathlib.Core.Path.{_≡_, refl, sym, _∙_, ap}
 use mathlib.Core.Bool.{Bool, true, false, not}
@@ -38,7 +38,7 @@ isStableReading r = not (isTentativeReading r)
 
 -- what the monitor has of a reading
 unfoldable pub entryOfReading : Reading → Entry
-entryOfReading r = record { id = r .id; time = r .time .0; arrival = r .arrival .0 }
+entryOfReading r = record { id = r .id; time = r .time; arrival = r .arrival }
 
 -- a line's stable readings, after an accepted call of this kind
 unfoldable pub withStable : Call → Kind → List Reading → List Reading
@@ -53,7 +53,7 @@ withStable k Kind.P rs = rs
 pub record Agrees (s : Settings) (c : ℕ) (l : Line) (g : LineMonitor) (stables : List Reading) : Type 0 where
   -- accepted and not undone
   pub all : List Reading
-  pub boundary : l .boundary .0 ≡ g .boundary
+  pub boundary : l .boundary ≡ g .boundary
   pub entries : g .entries ≡ map entryOfReading all
   pub kept : l .kept ≡ keep (isFrom (s .bucket) c) all
   pub stable : keep isStableReading all ≡ stables
@@ -90,7 +90,9 @@ stable-not-tentative : (r : Reading) → isStableReading r ≡ true → isTentat
 unfolding isStableReading
 stable-not-tentative r e = not-true _ e
 
-none-tentative : (rs : List Reading) → someOf (λ (r : Reading). eqb (r .kind) letterT) rs ≡ false → Every (λ (r : Reading). isTentativeReading r ≡ false) rs
+none-tentative :
+    (rs : List Reading) → someOf (λ (r : Reading). eqb (r .kind) letterT) rs ≡ false →
+    Every (λ (r : Reading). isTentativeReading r ≡ false) rs
 unfolding isTentativeReading
 none-tentative rs e = none-passes (λ (r : Reading). eqb (r .kind) letterT) rs e
 
@@ -105,7 +107,9 @@ module _ (s : Settings) (room : 0 < s .bucket) (c : ℕ) (k : Call) (l : Line) (
   more-kept : l .boundary .0 ≤ k .time .0 → l .kept ++ readingOf k ∷ [] ≡ keep (isFrom (s .bucket) c) (v .all ++ readingOf k ∷ [])
   more-kept inTime = rw (v .kept) (sym (keep-last (isFrom (s .bucket) c) (v .all) (readingOf k) (after-start inTime)))
 
-  stable-call : k .kind ≡ letterS → wrongId l (k .id) Kind.S ≡ false → tooEarly l (k .time .0) Kind.S ≡ false → Agrees s c (onLine k Kind.S l) (observeLine k Kind.S g) (withStable k Kind.S stables)
+  stable-call :
+      k .kind ≡ letterS → wrongId l (k .id) Kind.S ≡ false → tooEarly l (k .time .0) Kind.S ≡ false →
+      Agrees s c (onLine k Kind.S l) (observeLine k Kind.S g) (withStable k Kind.S stables)
   unfolding onLine observeLine withStable wrongId tooEarly uses readingOf
   stable-call e wrong early =
       let new : k .id ≡ l .lastId + 1 = eqb-true _ _ (not-false _ wrong) in
@@ -126,7 +130,9 @@ module _ (s : Settings) (room : 0 < s .bucket) (c : ℕ) (k : Call) (l : Line) (
         past = v .past;
       }
 
-  tentative-call : k .kind ≡ letterT → wrongId l (k .id) Kind.T ≡ false → tooEarly l (k .time .0) Kind.T ≡ false → Agrees s c (onLine k Kind.T l) (observeLine k Kind.T g) (withStable k Kind.T stables)
+  tentative-call :
+      k .kind ≡ letterT → wrongId l (k .id) Kind.T ≡ false → tooEarly l (k .time .0) Kind.T ≡ false →
+      Agrees s c (onLine k Kind.T l) (observeLine k Kind.T g) (withStable k Kind.T stables)
   unfolding onLine observeLine withStable wrongId tooEarly uses readingOf
   tentative-call e wrong early =
       let new : k .id ≡ l .lastId + 1 = eqb-true _ _ (not-false _ wrong) in
@@ -167,7 +173,9 @@ module _ (s : Settings) (room : 0 < s .bucket) (c : ℕ) (k : Call) (l : Line) (
       }
 
   -- refusal 13: a boundary comes only where no tentative reading is kept, so none is below it
-  boundary-call : tooEarly l (k .time .0) Kind.B ≡ false → isHeldBack l Kind.B ≡ false → Agrees s c (onLine k Kind.B l) (observeLine k Kind.B g) (withStable k Kind.B stables)
+  boundary-call :
+      tooEarly l (k .time .0) Kind.B ≡ false → isHeldBack l Kind.B ≡ false →
+      Agrees s c (onLine k Kind.B l) (observeLine k Kind.B g) (withStable k Kind.B stables)
   unfolding onLine observeLine withStable tooEarly uses isHeldBack keepsTentative
   boundary-call early held =
       record {
@@ -190,7 +198,9 @@ module _ (s : Settings) (room : 0 < s .bucket) (c : ℕ) (k : Call) (l : Line) (
       }
 
   -- whatever kind the call is of
-  pub line-input : (kind : Kind) → kindOf (k .kind) ≡ kind → wrongId l (k .id) kind ≡ false → tooEarly l (k .time .0) kind ≡ false → isHeldBack l kind ≡ false → Agrees s c (onLine k kind l) (observeLine k kind g) (withStable k kind stables)
+  pub line-input :
+      (kind : Kind) → kindOf (k .kind) ≡ kind → wrongId l (k .id) kind ≡ false → tooEarly l (k .time .0) kind ≡ false →
+      isHeldBack l kind ≡ false → Agrees s c (onLine k kind l) (observeLine k kind g) (withStable k kind stables)
   unfolding onLine observeLine withStable
   line-input Kind.S e wrong early held = stable-call (kind-S (k .kind) e) wrong early
   line-input Kind.T e wrong early held = tentative-call (kind-T (k .kind) e) wrong early

@@ -1,5 +1,5 @@
 -- Laws on lists by tests on their elements: what is kept, what every element has, what some element passes. Each is by induction on the
--- list and by cases on one test. Assumes nothing.
+-- list and by cases on one test.
 use mathlib.Core.Path.{_≡_, refl, sym, _∙_}
 use mathlib.Core.Bool.{Bool, true, false, cond, _&&_, _||_, true≢false, and-comm}
 use mathlib.Core.List.{List, [], _∷_, _++_, append-nil}
@@ -30,7 +30,8 @@ module _ {A : Type 0} where
       ]
 
   -- what every kept element has, every element has, where those left out have it
-  pub every-from-kept : (P : A → Type 0) (test : A → Bool) (xs : List A) → Every (λ x. test x ≡ false → P x) xs → Every P (keep test xs) → Every P xs
+  pub every-from-kept :
+      (P : A → Type 0) (test : A → Bool) (xs : List A) → Every (λ x. test x ≡ false → P x) xs → Every P (keep test xs) → Every P xs
   unfolding keep
   every-from-kept P test [] h k = tt
   every-from-kept P test (x ∷ xs) h k =

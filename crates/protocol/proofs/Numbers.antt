@@ -1,5 +1,5 @@
 -- Results and their numbers: those of a bucket's work are of its kind and numbered above the operator's number before and up to the one
--- after; so are those of the failure-free run, from 1. Assumes nothing.
+-- after; so are those of the failure-free run, from 1.
 use Prim.Native.Nat.{ℕ, zero, suc, _+_, _≤_, _<_}
 use mathlib.Core.Path.{_≡_, refl}
 use mathlib.Core.Bool.{true, false, cond}
@@ -16,10 +16,11 @@ use Rattle.store.specs.declared.Reading.{Reading}
 use Rattle.store.specs.Order.{Placed, inBucket}
 use Rattle.store.specs.Lists.{Every}
 use Rattle.store.proofs.Pairs.{every-to, every-append}
-use Rattle.operator.specs.declared.Meter.{Meter}
+use Rattle.operator_meter.specs.declared.Meter.{Meter}
 use Rattle.operator.specs.declared.Operator.{Operator}
 use Rattle.operator.specs.Meters.{addAll}
-use Rattle.operator.specs.Results.{hasResult, result, results}
+use Rattle.operator_meter.specs.Values.{hasResult}
+use Rattle.operator.specs.Results.{result, results}
 use Rattle.operator.specs.Work.{Worked, windowResults, close, work}
 use Rattle.operator.proofs.Adding.{addAll-number}
 use Rattle.protocol.specs.FailureFree.{failureFree}
@@ -30,10 +31,13 @@ pub record Numbered (letter from to : ℕ) (r : Record) : Type 0 where
   pub above : from < r .id
   pub up : r .id ≤ to
 
-pub wider : {kind from to : ℕ} (from₁ to₁ : ℕ) → from₁ ≤ from → to ≤ to₁ → (r : Record) → Numbered kind from to r → Numbered kind from₁ to₁ r
+pub wider :
+    {kind from to : ℕ} (from₁ to₁ : ℕ) → from₁ ≤ from → to ≤ to₁ → (r : Record) → Numbered kind from to r → Numbered kind from₁ to₁ r
 wider from₁ to₁ h g r b = record { kind = b .kind; above = omega (arith, b .above); up = omega (arith, b .up) }
 
-pub results-numbered : (kind : ℕ) (start : ReadingTime) (i number : ℕ) (ms : List Meter) → Every (Numbered kind number (number + length (results kind start i number ms))) (results kind start i number ms)
+pub results-numbered :
+    (kind : ℕ) (start : ReadingTime) (i number : ℕ) (ms : List Meter) →
+    Every (Numbered kind number (number + length (results kind start i number ms))) (results kind start i number ms)
 unfolding results result
 results-numbered kind start i number [] = tt
 results-numbered kind start i number (m ∷ ms) =
@@ -89,7 +93,9 @@ work-onward s kind j rs o =
     ])
 
 -- the records of the failure-free run are stable results, numbered from 1
-pub failureFree-numbered : (s : Settings) (ls : List (List Reading)) (n : ℕ) → Every (Numbered letterS 0 (failureFree s ls n .operator .number)) (failureFree s ls n .records)
+pub failureFree-numbered :
+    (s : Settings) (ls : List (List Reading)) (n : ℕ) →
+    Every (Numbered letterS 0 (failureFree s ls n .operator .number)) (failureFree s ls n .records)
 unfolding failureFree
 failureFree-numbered s ls zero = tt
 failureFree-numbered s ls (suc n) =

@@ -1,4 +1,4 @@
--- The invariant holds at the opening, and so after every list of calls. Assumes nothing.
+-- The invariant holds at the opening, and so after every list of calls.
 use Prim.Native.Nat.{ℕ, zero, suc, _<_}
 use mathlib.Core.Path.{refl}
 use mathlib.Core.List.{List, []}
@@ -17,7 +17,7 @@ use Rattle.protocol.proofs.Places.{Each, done, more}
 use Rattle.protocol.proofs.Lines.{Agrees}
 use Rattle.protocol.proofs.Invariant.{Invariant, after-kept}
 
-line-opened : (s : Settings) → Agrees s 0 noLine (record { boundary = 0; entries = [] }) []
+line-opened : (s : Settings) → Agrees s 0 noLine (record { boundary = record { 0 = 0 }; entries = [] }) []
 unfolding noLine keep
 line-opened s =
     record {
@@ -32,7 +32,9 @@ line-opened s =
       past = omega arith;
     }
 
-each-opened : (s : Settings) (n : ℕ) → Each (Agrees s 0) (replicate n noLine) (replicate n (record { boundary = 0; entries = [] })) (replicate n [])
+each-opened :
+    (s : Settings) (n : ℕ) →
+    Each (Agrees s 0) (replicate n noLine) (replicate n (record { boundary = record { 0 = 0 }; entries = [] })) (replicate n [])
 each-opened s zero = done
 each-opened s (suc n) = more (line-opened s) (each-opened s n)
 

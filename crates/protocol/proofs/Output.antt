@@ -1,6 +1,5 @@
 -- The output's invariant, and that each rule of a step keeps it: with its undos applied, the output is the failure-free results through the
 -- buckets worked as stable, then tentative ones numbered above the checkpoint's number, so that an undo at that number strikes only these.
--- Assumes nothing.
 use Prim.Native.Nat.{ℕ, suc, _≤_, _<_}
 use mathlib.Core.Path.{_≡_, refl, sym, _∙_, ap, ap₂}
 use mathlib.Core.Bool.{Bool, true, false, cond}
@@ -18,7 +17,7 @@ use Rattle.store.specs.Lists.{Every, keep}
 use Rattle.store.proofs.Pairs.{every-to, every-append}
 use Rattle.store.proofs.Keeping.{keep-append, keep-all, keep-none}
 use Rattle.operator.specs.declared.Operator.{Operator}
-use Rattle.operator.specs.Results.{plain}
+use Rattle.record.specs.Markers.{marker}
 use Rattle.operator.specs.Work.{Worked}
 use Rattle.protocol.specs.declared.Phase.{Phase}
 use Rattle.protocol.specs.declared.Phase.the-variants as Phase
@@ -66,12 +65,12 @@ pub none-stable : (rs : List Record) → Every (λ (r : Record). r .kind ≡ let
 unfolding stableRecords isStable
 none-stable rs h = keep-none (λ (r : Record). isStable (r .kind)) rs (every-to rs (λ r e. ap isStable e) h)
 
-pub undo-not-stable : (n : ℕ) (time : ReadingTime) → stableRecords itself (plain letterU n time ∷ []) ≡ []
-unfolding stableRecords isStable plain keep
+pub undo-not-stable : (n : ℕ) (time : ReadingTime) → stableRecords itself (marker letterU n time ∷ []) ≡ []
+unfolding stableRecords isStable marker keep
 undo-not-stable n time = refl
 
-pub done-not-stable : (n : ℕ) (time : ReadingTime) → stableRecords itself (plain letterR n time ∷ []) ≡ []
-unfolding stableRecords isStable plain keep
+pub done-not-stable : (n : ℕ) (time : ReadingTime) → stableRecords itself (marker letterR n time ∷ []) ≡ []
+unfolding stableRecords isStable marker keep
 done-not-stable n time = refl
 
 -- the boundary that follows a window says nothing of results
@@ -82,30 +81,36 @@ pub record Silent (results : List Record) (due : Bool) (rs : List Record) : Type
   pub stables : stableRecords itself rs ≡ []
 
 pub boundary-silent : (s : Settings) (j : ℕ) (results : List Record) (due : Bool) → Silent results due (boundaryAt s j)
-unfolding boundaryAt applied struck doneDue applyOne struckByOne isResult isStable isTentative plain keep stableRecords
+unfolding boundaryAt applied struck doneDue applyOne struckByOne isResult isStable isTentative marker keep stableRecords
 boundary-silent s j results due =
     elim (closesWindow (s .window) j) as
-    (λ b. Silent results due (cond b (plain letterB 0 (record { 0 = bucketEnd (s .bucket) j }) ∷ []) [])) [
+    (λ b. Silent results due (cond b (marker letterB 0 (record { 0 = bucketEnd (s .bucket) j }) ∷ []) [])) [
       | true ↦ record { applies = refl; strikes = refl; keepsDue = refl; stables = refl }
       | false ↦ record { applies = refl; strikes = refl; keepsDue = refl; stables = refl }
     ]
 
-undo-due : (due : Bool) (n : ℕ) (time : ReadingTime) → doneDue itself due (plain letterU n time ∷ []) ≡ true
-unfolding doneDue plain
+undo-due : (due : Bool) (n : ℕ) (time : ReadingTime) → doneDue itself due (marker letterU n time ∷ []) ≡ true
+unfolding doneDue marker
 undo-due due n time = refl
 
 module _ (c p : ℕ) (phase : Phase) (operator checkpoint : Operator) (past : Worked) (output : List Record) (v : Measured c p phase operator checkpoint past output) where
-  more-struck : (xs : List Record) → Every (λ (r : Record). r .kind ≡ letterT) (struck itself (applied itself [] output) xs) → Every (λ (r : Record). r .kind ≡ letterT) (struck itself [] (output ++ xs))
+  more-struck :
+      (xs : List Record) → Every (λ (r : Record). r .kind ≡ letterT) (struck itself (applied itself [] output) xs) →
+      Every (λ (r : Record). r .kind ≡ letterT) (struck itself [] (output ++ xs))
   more-struck xs h =
       rw (struck-append [] output xs) (every-append _ (struck itself [] output) (struck itself (applied itself [] output) xs) (v .strikes) h)
 
-  none-struck : (xs : List Record) → struck itself (applied itself [] output) xs ≡ [] → Every (λ (r : Record). r .kind ≡ letterT) (struck itself [] (output ++ xs))
+  none-struck :
+      (xs : List Record) → struck itself (applied itself [] output) xs ≡ [] →
+      Every (λ (r : Record). r .kind ≡ letterT) (struck itself [] (output ++ xs))
   none-struck xs e = more-struck xs (rw e tt)
 
   no-more-stable : (xs : List Record) → stableRecords itself xs ≡ [] → stableRecords itself (output ++ xs) ≡ past .records
   no-more-stable xs e = stable-append output xs ∙ rw (v .asTheyCame, e) (append-nil _)
 
-  pub measured-withdraw : Every (Numbered letterS 0 (past .operator .number)) (past .records) → (time : ReadingTime) → Measured c c Phase.Correcting checkpoint checkpoint past (output ++ plain letterU (checkpoint .number) time ∷ [])
+  pub measured-withdraw :
+      Every (Numbered letterS 0 (past .operator .number)) (past .records) → (time : ReadingTime) →
+      Measured c c Phase.Correcting checkpoint checkpoint past (output ++ marker letterU (checkpoint .number) time ∷ [])
   unfolding isCorrecting
   measured-withdraw f time =
       record {
@@ -122,7 +127,7 @@ module _ (c p : ℕ) (phase : Phase) (operator checkpoint : Operator) (past : Wo
             (rw (v .undone, undo-struck (checkpoint .number) time (past .records) (v .tentative) low high)
             (every-to (v .tentative) (λ r b. b .kind) (v .numbers)));
         due =
-            doneDue-append false output (plain letterU (checkpoint .number) time ∷ []) ∙
+            doneDue-append false output (marker letterU (checkpoint .number) time ∷ []) ∙
             undo-due (doneDue itself false output) (checkpoint .number) time;
         asTheyCame = no-more-stable _ (undo-not-stable (checkpoint .number) time);
       }
@@ -133,7 +138,9 @@ module _ (c p : ℕ) (phase : Phase) (operator checkpoint : Operator) (past : Wo
       high : Every (λ (r : Record). checkpoint .number < r .id) (v .tentative)
       high = every-to (v .tentative) (λ r b. b .above) (v .numbers)
 
-  pub measured-stable : p ≡ c → (w : Worked) → Onward letterS (past .operator) w → (s : Settings) (j : ℕ) → Measured (suc c) (suc p) phase (w .operator) (w .operator) (record { operator = w .operator; records = past .records ++ w .records }) (output ++ (w .records ++ boundaryAt s j))
+  pub measured-stable :
+      p ≡ c → (w : Worked) → Onward letterS (past .operator) w → (s : Settings) (j : ℕ) →
+      Measured (suc c) (suc p) phase (w .operator) (w .operator) (record { operator = w .operator; records = past .records ++ w .records }) (output ++ (w .records ++ boundaryAt s j))
   measured-stable e w f s j =
       record {
         atCheckpoint = refl;
@@ -173,8 +180,8 @@ module _ (c p : ℕ) (phase : Phase) (operator checkpoint : Operator) (past : Wo
       are : Every IsResult (w .records)
       are = every-to (w .records) stable-result kinds
 
-  pub measured-done : (time : ReadingTime) → Measured c p Phase.Stable operator checkpoint past (output ++ plain letterR 0 time ∷ [])
-  unfolding isCorrecting applied struck doneDue applyOne struckByOne isResult isStable isTentative plain
+  pub measured-done : (time : ReadingTime) → Measured c p Phase.Stable operator checkpoint past (output ++ marker letterR 0 time ∷ [])
+  unfolding isCorrecting applied struck doneDue applyOne struckByOne isResult isStable isTentative marker
   measured-done time =
       record {
         atCheckpoint = v .atCheckpoint;
@@ -188,7 +195,9 @@ module _ (c p : ℕ) (phase : Phase) (operator checkpoint : Operator) (past : Wo
         asTheyCame = no-more-stable _ (done-not-stable 0 time);
       }
 
-  pub measured-tentative : c ≤ p → isCorrecting phase ≡ false → (w : Worked) → Onward letterT operator w → Measured c (suc p) Phase.Failure (w .operator) checkpoint past (output ++ w .records)
+  pub measured-tentative :
+      c ≤ p → isCorrecting phase ≡ false → (w : Worked) → Onward letterT operator w →
+      Measured c (suc p) Phase.Failure (w .operator) checkpoint past (output ++ w .records)
   unfolding isCorrecting
   measured-tentative h m w f =
       record {

@@ -8,7 +8,7 @@ use Rattle.store.specs.Lists.{allOf}
 use Rattle.protocol.specs.Kinds.{Kind, kindOf, isStep}
 use Rattle.protocol.specs.Node.{Node}
 use Rattle.protocol.specs.Tests.{firstFailed}
-use Rattle.protocol.specs.Refusals.{lineOf, wrongLine, unusedField, wrongMeter, wrongId, tooEarly, isHeldBack, isFull}
+use Rattle.protocol.specs.Refusals.{namedLine, wrongLine, unusedField, wrongMeter, wrongId, tooEarly, isHeldBack, isFull}
 use Rattle.protocol.specs.Refusals.{callTests, lineTests, stepTests, testsOf, answerTo}
 use Rattle.protocol.specs.Rules.{ruleOf}
 use Rattle.protocol.specs.Displays.{lacksPlaces}
@@ -24,10 +24,10 @@ pub record Passed (s : Settings) (n : Node) (k : Call) (kind : Kind) : Type 0 wh
   pub line : wrongLine s kind (k .line) ≡ false
   pub fields : unusedField k kind ≡ false
   pub meter : wrongMeter (k .meter) kind ≡ false
-  pub id : wrongId (lineOf n k) (k .id) kind ≡ false
-  pub time : tooEarly (lineOf n k) (k .time .0) kind ≡ false
-  pub free : isHeldBack (lineOf n k) kind ≡ false
-  pub room : isFull (lineOf n k) kind ≡ false
+  pub id : wrongId (namedLine n k) (k .id) kind ≡ false
+  pub time : tooEarly (namedLine n k) (k .time .0) kind ≡ false
+  pub free : isHeldBack (namedLine n k) kind ≡ false
+  pub room : isFull (namedLine n k) kind ≡ false
   pub places : isStep kind && lacksPlaces s n (ruleOf s n (k .now)) ≡ false
 
 module _ (s : Settings) (n : Node) (k : Call) where
@@ -51,7 +51,7 @@ module _ (s : Settings) (n : Node) (k : Call) where
   pub passed : answerTo s n k ≡ 0 → Passed s n k (kindOf (k .kind))
   passed = passed-as (kindOf (k .kind)) refl
 
-  -- and a call that passes them all is accepted
+  -- a claim of its own: a call that passes them all is accepted
   pub accepted-if-passed : Passed s n k (kindOf (k .kind)) → answerTo s n k ≡ 0
   unfolding answerTo testsOf callTests lineTests stepTests firstFailed
   accepted-if-passed p =

@@ -1,5 +1,5 @@
 -- The node and the monitor choose the same rule: bucket c is stable where c is below the least boundary divided by the bucket length, and
--- an overdue reading of bucket p or later is kept, since p is at or above c. Assumes nothing.
+-- an overdue reading of bucket p or later is kept, since p is at or above c.
 use Prim.Native.Nat.{ℕ, suc, _+_, _*_, _/_, _≤_, _<_, min}
 use mathlib.Core.Path.{_≡_, refl, sym, _∙_, ap, ap₂}
 use mathlib.Core.Bool.{Bool, true, false, cond, _&&_, _||_, and-true}
@@ -9,6 +9,7 @@ use native.Mathlib.Nat.{le-div-iff-mul-le, not-suc-le-zero}
 use lib.Dec.{leb, ltb}
 use lib.ListN.{length}
 use borrow.Author.Tests.{leb-true, le-leb}
+use Rattle.clock.specs.declared.ReadingTime.{ReadingTime}
 use Rattle.clock.specs.declared.ArrivalTick.{ArrivalTick}
 use Rattle.clock.specs.Buckets.{bucketOf, bucketEnd, finishes}
 use Rattle.clock.specs.Hold.{isDue}
@@ -18,7 +19,7 @@ use Rattle.store.specs.Lists.{Every, someOf, allOf}
 use Rattle.store.proofs.Choices.{and-parts}
 use Rattle.store.proofs.Pairs.{every-any}
 use Rattle.store.proofs.Keeping.{some-map}
-use Rattle.protocol.specs.Node.{Line, Node, isStable}
+use Rattle.protocol.specs.Node.{Line, Node, isStableBucket}
 use Rattle.protocol.specs.declared.Rule.{Rule}
 use Rattle.protocol.specs.declared.Rule.the-variants as Rule
 use Rattle.protocol.specs.Rules.{firstRule, isCorrecting, isOverdue, someOverdue, ruleOf}
@@ -30,7 +31,7 @@ use Rattle.protocol.proofs.Places.{Each, done, more}
 use Rattle.protocol.proofs.Lines.{isFrom, entryOfReading, Agrees}
 
 -- the rule that the monitor's tests give, and what it does to the monitor
-unfoldable pub monitorRule : Settings → Monitor → ℕ → Rule
+unfoldable pub monitorRule : Settings → Monitor → ArrivalTick → Rule
 monitorRule s y now = firstRule (ltb (y .d) (stableBuckets s y)) (ltb (y .d) (y .t)) (y .mark) (anyDue s (y .t) now (y .lines))
 
 unfoldable pub monitorAct : Monitor → Rule → Monitor
@@ -41,7 +42,10 @@ monitorAct y Rule.WorkTentative = record { d = y .d; t = suc (y .t); mark = y .m
 monitorAct y Rule.Idle = y
 
 -- the five cases of a step, with what the tests were
-pub rule-cases : (a b m d : Bool) (G : Rule → Type 0) → (a ≡ true → b ≡ true → G Rule.Withdraw) → (a ≡ true → b ≡ false → G Rule.WorkStable) → (a ≡ false → m ≡ true → G Rule.EndCorrection) → (a ≡ false → m ≡ false → d ≡ true → G Rule.WorkTentative) → (a ≡ false → m ≡ false → G Rule.Idle) → G (firstRule a b m d)
+pub rule-cases :
+    (a b m d : Bool) (G : Rule → Type 0) → (a ≡ true → b ≡ true → G Rule.Withdraw) → (a ≡ true → b ≡ false → G Rule.WorkStable) →
+    (a ≡ false → m ≡ true → G Rule.EndCorrection) → (a ≡ false → m ≡ false → d ≡ true → G Rule.WorkTentative) →
+    (a ≡ false → m ≡ false → G Rule.Idle) → G (firstRule a b m d)
 unfolding firstRule
 rule-cases true true m d G u f k t i = u refl refl
 rule-cases true false m d G u f k t i = f refl refl
@@ -50,7 +54,9 @@ rule-cases false b false true G u f k t i = t refl refl refl
 rule-cases false b false false G u f k t i = i refl refl
 
 -- the monitor's own chain of tests is the node's chain of rules
-by-tests : (y : Monitor) (a b m d : Bool) → cond a (cond b (monitorAct y Rule.Withdraw) (monitorAct y Rule.WorkStable)) (cond m (monitorAct y Rule.EndCorrection) (cond d (monitorAct y Rule.WorkTentative) (monitorAct y Rule.Idle))) ≡ monitorAct y (firstRule a b m d)
+by-tests :
+    (y : Monitor) (a b m d : Bool) →
+    cond a (cond b (monitorAct y Rule.Withdraw) (monitorAct y Rule.WorkStable)) (cond m (monitorAct y Rule.EndCorrection) (cond d (monitorAct y Rule.WorkTentative) (monitorAct y Rule.Idle))) ≡ monitorAct y (firstRule a b m d)
 unfolding firstRule
 by-tests y true true m d = refl
 by-tests y true false m d = refl
@@ -58,7 +64,7 @@ by-tests y false b true d = refl
 by-tests y false b false true = refl
 by-tests y false b false false = refl
 
-pub monitor-step : (s : Settings) (y : Monitor) (now : ℕ) → observeStep s y now ≡ monitorAct y (monitorRule s y now)
+pub monitor-step : (s : Settings) (y : Monitor) (now : ArrivalTick) → observeStep s y now ≡ monitorAct y (monitorRule s y now)
 unfolding observeStep monitorAct monitorRule
 monitor-step s y now = by-tests y (ltb (y .d) (stableBuckets s y)) (ltb (y .d) (y .t)) (y .mark) (anyDue s (y .t) now (y .lines))
 
@@ -73,8 +79,9 @@ all-least x (l ∷ m ∷ ls) h =
     ap (_&&_ (leb x (l .boundary .0))) (all-least x (m ∷ ls) (omega arith)) ∙ sym (leb-min x (l .boundary .0) (leastBoundaryOf (m ∷ ls)))
 
 -- so bucket c is stable where it is below the least boundary divided by the bucket length
-pub stable-least : (s : Settings) (c : ℕ) (ls : List Line) → 0 < s .bucket → 0 < length ls → isStable s c ls ≡ ltb c (leastBoundaryOf ls / s .bucket)
-unfolding isStable finishes bucketEnd
+pub stable-least :
+    (s : Settings) (c : ℕ) (ls : List Line) → 0 < s .bucket → 0 < length ls → isStableBucket s c ls ≡ ltb c (leastBoundaryOf ls / s .bucket)
+unfolding isStableBucket finishes bucketEnd
 stable-least s c ls room h =
     all-least (c * s .bucket + s .bucket) ls h ∙
     both-ways (leb (c * s .bucket + s .bucket) (leastBoundaryOf ls)) (ltb c (leastBoundaryOf ls / s .bucket))
@@ -90,13 +97,17 @@ stable-least s c ls room h =
 
 module _ (s : Settings) (c : ℕ) where
   -- they have the same least boundary
-  pub same-least : {ls : List Line} {gs : List LineMonitor} {zs : List (List Reading)} → Each (Agrees s c) ls gs zs → leastBoundaryOf ls ≡ leastBoundary gs
+  pub same-least :
+      {ls : List Line} {gs : List LineMonitor} {zs : List (List Reading)} → Each (Agrees s c) ls gs zs →
+      leastBoundaryOf ls ≡ leastBoundary gs
   unfolding leastBoundaryOf leastBoundary
   same-least done = refl
-  same-least (more r done) = r .boundary
-  same-least (more r (more q rs)) = ap₂ min (r .boundary) (same-least (more q rs))
+  same-least (more r done) = ap (λ (b : ReadingTime). b .0) (r .boundary)
+  same-least (more r (more q rs)) = ap₂ min (ap (λ (b : ReadingTime). b .0) (r .boundary)) (same-least (more q rs))
 
-  overdue-from : (p : ℕ) (now : ArrivalTick) → c ≤ p → (rs : List Reading) → Every (λ (r : Reading). isOverdue s p now r ≡ true → isFrom (s .bucket) c r ≡ true) rs
+  overdue-from :
+      (p : ℕ) (now : ArrivalTick) → c ≤ p → (rs : List Reading) →
+      Every (λ (r : Reading). isOverdue s p now r ≡ true → isFrom (s .bucket) c r ≡ true) rs
   unfolding isOverdue isFrom
   overdue-from p now h rs =
       every-any _ rs
@@ -104,12 +115,15 @@ module _ (s : Settings) (c : ℕ) where
       let g : p ≤ bucketOf (s .bucket) (r .time) = leb-true _ _ (and-parts _ _ e .0) in
       le-leb c (bucketOf (s .bucket) (r .time)) (omega arith))
 
-  entries-due : (p : ℕ) (now : ArrivalTick) (rs : List Reading) → someOf (entryDue s p (now .0)) (map entryOfReading rs) ≡ someOf (isOverdue s p now) rs
+  entries-due :
+      (p : ℕ) (now : ArrivalTick) (rs : List Reading) → someOf (entryDue s p now) (map entryOfReading rs) ≡ someOf (isOverdue s p now) rs
   unfolding entryDue isOverdue entryOfReading bucketOf isDue
-  entries-due p now rs = some-map entryOfReading (entryDue s p (now .0)) rs
+  entries-due p now rs = some-map entryOfReading (entryDue s p now) rs
 
   -- an overdue reading of bucket p or later is kept
-  pub overdue-kept : {ls : List Line} {gs : List LineMonitor} {zs : List (List Reading)} (p : ℕ) (now : ArrivalTick) → c ≤ p → Each (Agrees s c) ls gs zs → someOverdue s p now ls ≡ anyDue s p (now .0) gs
+  pub overdue-kept :
+      {ls : List Line} {gs : List LineMonitor} {zs : List (List Reading)} (p : ℕ) (now : ArrivalTick) → c ≤ p → Each (Agrees s c) ls gs zs →
+      someOverdue s p now ls ≡ anyDue s p now gs
   unfolding someOf someOverdue anyDue
   overdue-kept p now h done = refl
   overdue-kept p now h (more {b = g} r rs) =
@@ -117,10 +131,13 @@ module _ (s : Settings) (c : ℕ) where
       (ap (someOf (isOverdue s p now)) (r .kept) ∙
       some-kept (isOverdue s p now) (isFrom (s .bucket) c) (r .all) (overdue-from p now h (r .all)) ∙
       sym (entries-due p now (r .all)) ∙
-      ap (someOf (entryDue s p (now .0))) (sym (r .entries)))
+      ap (someOf (entryDue s p now)) (sym (r .entries)))
       (overdue-kept p now h rs)
 
-pub same-rule : (s : Settings) → 0 < s .bucket → (n : Node) (y : Monitor) (zs : List (List Reading)) (now : ArrivalTick) → 0 < length (n .lines) → n .c ≡ y .d → n .p ≡ y .t → isCorrecting (n .phase) ≡ y .mark → n .c ≤ n .p → Each (Agrees s (n .c)) (n .lines) (y .lines) zs → ruleOf s n now ≡ monitorRule s y (now .0)
+pub same-rule :
+    (s : Settings) → 0 < s .bucket → (n : Node) (y : Monitor) (zs : List (List Reading)) (now : ArrivalTick) → 0 < length (n .lines) →
+    n .c ≡ y .d → n .p ≡ y .t → isCorrecting (n .phase) ≡ y .mark → n .c ≤ n .p → Each (Agrees s (n .c)) (n .lines) (y .lines) zs →
+    ruleOf s n now ≡ monitorRule s y now
 unfolding ruleOf monitorRule stableBuckets
 same-rule s room n y zs now h same-c same-p same-mark order v =
     rw (

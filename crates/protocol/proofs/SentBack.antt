@@ -1,4 +1,4 @@
--- What is held after every list of calls: by the invariant, and since each call keeps what is held within the places. Assumes nothing.
+-- What is held after every list of calls: by the invariant, and since each call keeps what is held within the places.
 use Prim.Native.Nat.{ℕ, zero, suc, _+_, _/_, _-_, _≤_, _<_}
 use mathlib.Core.Path.{_≡_, refl, sym, _∙_, ap, subst}
 use mathlib.Core.Bool.{true, false, cond, true≢false}
@@ -17,7 +17,7 @@ use Rattle.operator.specs.declared.Operator.{Operator}
 use Rattle.operator.specs.Meters.{fresh}
 use Rattle.retransmission.specs.Sizes.{heldResults}
 use Rattle.protocol.specs.Kinds.{Kind, kindOf, uses, isStep}
-use Rattle.protocol.specs.Node.{Node, opened, isStable}
+use Rattle.protocol.specs.Node.{Node, opened, isStableBucket}
 use Rattle.protocol.specs.declared.Rule.{Rule}
 use Rattle.protocol.specs.declared.Rule.the-variants as Rule
 use Rattle.protocol.specs.Rules.{isCorrecting, someOverdue, ruleOf, worked, act}
@@ -28,7 +28,7 @@ use Rattle.protocol.specs.Monitor.{leastBoundary, stableBuckets}
 use Rattle.protocol.specs.FailureFree.{failureFree}
 use Rattle.protocol.specs.Runs.{Event, Trace, start, next, after}
 use Rattle.protocol.specs.Demand.{stableResults}
-use Rattle.protocol.specs.SentBack.{Held, SentBack}
+use Rattle.protocol.specs.SentBack.{HeldTrace, TraceSentBack}
 use Rattle.protocol.proofs.Rules.{rule-cases, stable-least, same-least}
 use Rattle.protocol.proofs.Acceptance.{refused-15}
 use Rattle.protocol.proofs.Counts.{failureFree-count, failureFree-consecutive}
@@ -73,10 +73,13 @@ pub record Kept (s : Settings) (t : Trace) : Type 0 where
   pub held : HeldIn (t .node)
 
 -- where no tentative work is out, the numbering is the checkpoint's
-level-number : (s : Settings) (t : Trace) → Invariant s t → t .node .p ≡ t .node .c → t .node .operator .number ≡ t .node .checkpoint .number
+level-number :
+    (s : Settings) (t : Trace) → Invariant s t → t .node .p ≡ t .node .c → t .node .operator .number ≡ t .node .checkpoint .number
 level-number s t v e = ap (λ (o : Operator). o .number) (v .output .level (sym e) .0)
 
-next-same : (s : Settings) (t : Trace) (e : Event) → t .node .acknowledged ≡ t .acknowledged → next s t e .node .acknowledged ≡ next s t e .acknowledged
+next-same :
+    (s : Settings) (t : Trace) (e : Event) → t .node .acknowledged ≡ t .acknowledged →
+    next s t e .node .acknowledged ≡ next s t e .acknowledged
 unfolding next acknowledgedBy
 next-same s t Event.turnedAway h = h
 next-same s t (Event.journal k) h = outcome-acknowledged s (t .node) k ∙ h
@@ -132,7 +135,9 @@ module _ (s : Settings) (room : 0 < s .bucket) (t : Trace) (v : Kept s t) where
       (t .monitor .d < stableBuckets s (t .monitor)) × (t .monitor .t ≡ t .monitor .d) ×
       (leastOf (t .acknowledged) + heldResults < length (failureFree s (t .stables) (suc (t .monitor .d)) .records))
 
-  stable-full : isStable s (t .node .c) (t .node .lines) ≡ true → ltb (t .node .c) (t .node .p) ≡ false → lacksPlaces s (t .node) Rule.WorkStable ≡ true → Full
+  stable-full :
+      isStableBucket s (t .node .c) (t .node .lines) ≡ true → ltb (t .node .c) (t .node .p) ≡ false →
+      lacksPlaces s (t .node) Rule.WorkStable ≡ true → Full
   unfolding lacksPlaces freePlaces givenUpTo stableBuckets stableResults
   stable-full a b e =
       let i = v .invariant in
@@ -156,14 +161,14 @@ module _ (s : Settings) (room : 0 < s .bucket) (t : Trace) (v : Kept s t) where
   unfolding ruleOf lacksPlaces
   lacking-full now =
       let n = t .node in
-      rule-cases (isStable s (n .c) (n .lines)) (ltb (n .c) (n .p)) (isCorrecting (n .phase)) (someOverdue s (n .p) now (n .lines))
+      rule-cases (isStableBucket s (n .c) (n .lines)) (ltb (n .c) (n .p)) (isCorrecting (n .phase)) (someOverdue s (n .p) now (n .lines))
       (λ (rule : Rule). lacksPlaces s n rule ≡ true → Full) (λ _ _ e. absurd (true≢false (sym e))) (λ a b e. stable-full a b e)
       (λ _ _ e. absurd (true≢false (sym e))) (λ _ _ _ e. absurd (true≢false (sym e))) (λ _ _ e. absurd (true≢false (sym e)))
 
   refused-full : (k : Call) → answerTo s (t .node) k ≡ 15 → (kindOf (k .kind) ≡ Kind.P) × Full
   refused-full k e = let r = refused-15 s (t .node) k .0 e in (r .0, lacking-full (k .now) (r .2))
 
-  pub held-after : Held s t
+  pub held-after : HeldTrace s t
   unfolding stableResults
   held-after =
       record {
@@ -180,5 +185,5 @@ module _ (s : Settings) (room : 0 < s .bucket) (t : Trace) (v : Kept s t) where
         full = λ k e. let r = refused-full k e in (r .0, r .1 .0, r .1 .1, r .1 .2);
       }
 
-pub sentBack : SentBack
+pub sentBack : TraceSentBack
 sentBack = record { held = λ s room h es. held-after s room (after s (start s) es) (kept-after s room h es) }

@@ -1,6 +1,5 @@
 -- How many steps settle a node: every accepted step takes exactly one off the steps that it needs, as long as it needs one. So nothing is
--- left to work and the node is not correcting exactly where no step is needed; with k buckets left, k + 2 steps are always enough. Assumes
--- nothing.
+-- left to work and the node is not correcting exactly where no step is needed; with k buckets left, k + 2 steps are always enough.
 use Prim.Native.Nat.{ℕ, zero, suc, _+_, _-_, _/_, _≤_, _<_, min}
 use mathlib.Core.Path.{_≡_, refl, sym, _∙_, ap, ap₂}
 use mathlib.Core.Bool.{Bool, true, false, true≢false}
@@ -15,7 +14,7 @@ use Rattle.clock.specs.declared.ArrivalTick.{ArrivalTick}
 use Rattle.settings.specs.declared.Settings.{Settings}
 use Rattle.journal.specs.declared.Call.{Call}
 use Rattle.protocol.specs.Kinds.{Kind, kindOf, uses, isStep}
-use Rattle.protocol.specs.Node.{Line, Node, isStable}
+use Rattle.protocol.specs.Node.{Line, Node, isStableBucket}
 use Rattle.protocol.specs.declared.Rule.{Rule}
 use Rattle.protocol.specs.Rules.{isCorrecting, ruleOf, without, act}
 use Rattle.protocol.specs.Refusals.{answerTo}
@@ -24,7 +23,7 @@ use Rattle.protocol.specs.Monitor.{stableBuckets, leftToWork}
 use Rattle.protocol.specs.Undos.{doneDue}
 use Rattle.protocol.specs.Runs.{Event, Trace, next}
 use Rattle.protocol.specs.StepCount.{stepsNeeded, leastBoundaryOf, bucketsLeft}
-use Rattle.protocol.specs.Demand.{itself, Steps, rest, step, aside}
+use Rattle.protocol.specs.Demand.{itself, TraceSteps, rest, step, aside}
 use Rattle.protocol.proofs.Rules.{rule-cases, stable-least, same-least}
 use Rattle.protocol.proofs.Invariant.{Invariant, next-kept}
 
@@ -89,10 +88,10 @@ least-without s j (l ∷ m ∷ ls) = ap (min (l .boundary .0)) (least-without s 
 
 module _ (s : Settings) (n : Node) (v : Level s n) where
   -- by the test of rules 1 and 2
-  some-left : isStable s (n .c) (n .lines) ≡ true → n .c < leastBoundaryOf (n .lines) / s .bucket
+  some-left : isStableBucket s (n .c) (n .lines) ≡ true → n .c < leastBoundaryOf (n .lines) / s .bucket
   some-left e = ltb-true _ _ (sym (stable-least s (n .c) (n .lines) (v .bucket) (v .lines)) ∙ e)
 
-  none-left : isStable s (n .c) (n .lines) ≡ false → leastBoundaryOf (n .lines) / s .bucket ≤ n .c
+  none-left : isStableBucket s (n .c) (n .lines) ≡ false → leastBoundaryOf (n .lines) / s .bucket ≤ n .c
   none-left e = ltb-false _ _ (sym (stable-least s (n .c) (n .lines) (v .bucket) (v .lines)) ∙ e)
 
   not-correcting : n .c < n .p → (b : Bool) → isCorrecting (n .phase) ≡ b → b ≡ false
@@ -135,7 +134,8 @@ module _ (s : Settings) (room : 0 < s .bucket) where
   unfolding leftToWork stableBuckets bucketsLeft
   left-same {t} v = sym (ap₂ (λ (m c : ℕ). m / s .bucket - c) (same-least s (t .node .c) (v .lines)) (v .same-c))
 
-  steps-take : {n : ℕ} {t u : Trace} → Steps s t n u → Invariant s t → Invariant s u × (stepsAhead s (u .node) ≡ stepsAhead s (t .node) - n)
+  steps-take :
+      {n : ℕ} {t u : Trace} → TraceSteps s t n u → Invariant s t → Invariant s u × (stepsAhead s (u .node) ≡ stepsAhead s (t .node) - n)
   unfolding next acknowledgedBy stepsAhead bucketsLeft
   steps-take rest v = (v, omega arith)
   steps-take {u} (step {t = t} {n = n} k e a q) v =
@@ -154,7 +154,7 @@ module _ (s : Settings) (room : 0 < s .bucket) where
       (none-out s (t .node) (invariant-level v)))
 
   pub settled :
-      {n : ℕ} (t u : Trace) → Invariant s t → Steps s t n u → stepsAhead s (t .node) ≤ n →
+      {n : ℕ} (t u : Trace) → Invariant s t → TraceSteps s t n u → stepsAhead s (t .node) ≤ n →
       (leftToWork s (u .monitor) ≡ 0) × (doneDue itself false (u .output) ≡ false)
   unfolding stepsAhead
   settled {n} t u v q enough =

@@ -18,7 +18,7 @@ use Rattle.operator.specs.Work.{Worked}
 use Rattle.operator.proofs.Closing.{work-number}
 use Rattle.protocol.specs.declared.Rule.{Rule}
 use Rattle.protocol.specs.declared.Rule.the-variants as Rule
-use Rattle.protocol.specs.Node.{Node, isStable, keptOf}
+use Rattle.protocol.specs.Node.{Node, isStableBucket, keptOf}
 use Rattle.protocol.specs.Rules.{Outcome, isCorrecting, someOverdue, ruleOf, boundaryAt, worked, act}
 use Rattle.protocol.specs.Undos.{stableRecords}
 use Rattle.protocol.specs.Demand.{itself}
@@ -89,7 +89,7 @@ module _ (s : Settings) (n : Node) where
       n .c ≤ n .p → (n .p ≡ n .c → n .operator .number ≡ n .checkpoint .number) → (now : ArrivalTick) → Gives n (act s n (ruleOf s n now))
   unfolding ruleOf
   step-gives order level now =
-      rule-cases (isStable s (n .c) (n .lines)) (ltb (n .c) (n .p)) (isCorrecting (n .phase)) (someOverdue s (n .p) now (n .lines))
+      rule-cases (isStableBucket s (n .c) (n .lines)) (ltb (n .c) (n .p)) (isCorrecting (n .phase)) (someOverdue s (n .p) now (n .lines))
       (λ (rule : Rule). Gives n (act s n rule)) (λ _ _. withdraw-gives)
       (λ _ b. let h : n .p ≤ n .c = ltb-false _ _ b in stable-gives (level (omega (arith, order))))
       (λ _ _. end-gives) (λ _ _ _. tentative-gives) (λ _ _. idle-gives)

@@ -1,4 +1,4 @@
--- Laws on two tests that imply each other, and on tests joined by `&&`. Each is by cases. Assumes nothing.
+-- Laws on two tests that imply each other, and on tests joined by `&&`. Each is by cases.
 use Prim.Native.Nat.{ℕ, _≤_, min}
 use mathlib.Core.Path.{_≡_, refl, sym}
 use mathlib.Core.Bool.{Bool, true, false, _&&_}

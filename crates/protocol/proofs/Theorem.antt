@@ -1,5 +1,5 @@
 -- Demand 3 on the node's meaning. A clean output is what the invariant says of the output; two nodes with none left to work have worked the
--- same buckets, since both worked all below the least boundary; and the steps left settle within the buckets and two. Assumes nothing.
+-- same buckets, since both worked all below the least boundary; and the steps left settle within the buckets and two.
 use Prim.Native.Nat.{ℕ, _*_, _/_, _≤_, _<_, min}
 use mathlib.Core.Path.{_≡_, refl, sym, _∙_, ap, subst}
 use mathlib.Core.Bool.{true}
@@ -8,6 +8,7 @@ use native.Mathlib.Omega.{arith}
 use native.Mathlib.Nat.{le-div-iff-mul-le}
 use lib.Dec.{leb}
 use borrow.Author.Tests.{leb-true, le-leb}
+use Rattle.clock.specs.declared.ReadingTime.{ReadingTime}
 use Rattle.settings.specs.declared.Settings.{Settings}
 use Rattle.journal.specs.Kinds.{letterS, letterT}
 use Rattle.record.specs.declared.Record.{Record}
@@ -22,7 +23,7 @@ use Rattle.protocol.specs.StepCount.{leastBoundaryOf}
 use Rattle.protocol.specs.FailureFree.{failureFree}
 use Rattle.protocol.specs.Undos.{applied, struck, stableRecords}
 use Rattle.protocol.specs.Runs.{Trace, start, after}
-use Rattle.protocol.specs.Demand.{stableResults, itself, Clean, boundaries, sent, Demand3}
+use Rattle.protocol.specs.Demand.{stableResults, itself, CleanTrace, boundaries, sent, TraceDemand3}
 use Rattle.protocol.proofs.Places.{Each, done, more}
 use Rattle.protocol.proofs.Lines.{Agrees}
 use Rattle.protocol.proofs.Rules.{all-least, same-least}
@@ -34,7 +35,9 @@ use Rattle.protocol.proofs.Settling.{left-and-two, settled}
 
 -- the buckets worked are below the least boundary
 
-all-past : (s : Settings) (c : ℕ) {ls : List Line} {gs : List LineMonitor} {zs : List (List Reading)} → Each (Agrees s c) ls gs zs → allOf (λ (l : Line). leb (c * s .bucket) (l .boundary .0)) ls ≡ true
+all-past :
+    (s : Settings) (c : ℕ) {ls : List Line} {gs : List LineMonitor} {zs : List (List Reading)} → Each (Agrees s c) ls gs zs →
+    allOf (λ (l : Line). leb (c * s .bucket) (l .boundary .0)) ls ≡ true
 unfolding allOf
 all-past s c done = refl
 all-past s c (more {a = l} r rs) = rw (le-leb (c * s .bucket) (l .boundary .0) (r .past), all-past s c rs)
@@ -61,7 +64,7 @@ pub came : (s : Settings) (t : Trace) → Invariant s t → stableRecords itself
 unfolding stableResults
 came s t v = v .output .asTheyCame ∙ ap (λ n. failureFree s (t .stables) n .records) (v .same-c)
 
-clean-after : (s : Settings) → 0 < s .bucket → (t : Trace) → Invariant s t → Clean s t
+clean-after : (s : Settings) → 0 < s .bucket → (t : Trace) → Invariant s t → CleanTrace s t
 unfolding stableResults
 clean-after s room t v =
     record {
@@ -84,18 +87,20 @@ clean-after s room t v =
 
 -- two nodes
 
-least : List ℕ → ℕ
+least : List ReadingTime → ℕ
 least [] = 0
-least (n ∷ []) = n
-least (n ∷ m ∷ ns) = min n (least (m ∷ ns))
+least (b ∷ []) = b .0
+least (b ∷ c ∷ bs) = min (b .0) (least (c ∷ bs))
 
 least-boundaries : (gs : List LineMonitor) → leastBoundary gs ≡ least (map (λ (g : LineMonitor). g .boundary) gs)
 unfolding leastBoundary least
 least-boundaries [] = refl
 least-boundaries (g ∷ []) = refl
-least-boundaries (g ∷ h ∷ gs) = ap (min (g .boundary)) (least-boundaries (h ∷ gs))
+least-boundaries (g ∷ h ∷ gs) = ap (min (g .boundary .0)) (least-boundaries (h ∷ gs))
 
-all-worked : (s : Settings) → 0 < s .bucket → (t : Trace) → Invariant s t → leftToWork s (t .monitor) ≡ 0 → t .monitor .d ≡ least (boundaries t) / s .bucket
+all-worked :
+    (s : Settings) → 0 < s .bucket → (t : Trace) → Invariant s t → leftToWork s (t .monitor) ≡ 0 →
+    t .monitor .d ≡ least (boundaries t) / s .bucket
 unfolding leftToWork boundaries stableBuckets
 all-worked s room t v e =
     let none : t .monitor .d ≡ leastBoundary (t .monitor .lines) / s .bucket = omega (arith, worked-stable s room t v) in
@@ -105,14 +110,16 @@ of-sent : (s : Settings) (t : Trace) → stableResults s t ≡ failureFree s (se
 unfolding stableResults sent
 of-sent s t = ap (λ (w : Worked). w .records) (sym (failureFree-without s (t .stables) (t .monitor .d)))
 
-same-results : (s : Settings) → 0 < s .bucket → (t u : Trace) → Invariant s t → Invariant s u → sent t ≡ sent u → boundaries t ≡ boundaries u → leftToWork s (t .monitor) ≡ 0 → leftToWork s (u .monitor) ≡ 0 → stableResults s t ≡ stableResults s u
+same-results :
+    (s : Settings) → 0 < s .bucket → (t u : Trace) → Invariant s t → Invariant s u → sent t ≡ sent u → boundaries t ≡ boundaries u →
+    leftToWork s (t .monitor) ≡ 0 → leftToWork s (u .monitor) ≡ 0 → stableResults s t ≡ stableResults s u
 same-results s room t u v w same-sent same-boundaries et eu =
     let same : t .monitor .d ≡ u .monitor .d =
-    all-worked s room t v et ∙ ap (λ ns. least ns / s .bucket) same-boundaries ∙ sym (all-worked s room u w eu) in
+    all-worked s room t v et ∙ ap (λ (bs : List ReadingTime). least bs / s .bucket) same-boundaries ∙ sym (all-worked s room u w eu) in
     of-sent s t ∙ ap (λ n. failureFree s (sent t) n .records) same ∙
     ap (λ ls. failureFree s ls (u .monitor .d) .records) same-sent ∙ sym (of-sent s u)
 
-pub demand3 : Demand3
+pub demand3 : TraceDemand3
 demand3 =
     record {
       clean = λ s room h es. clean-after s room (after s (start s) es) (invariant s room h es);

@@ -1,5 +1,5 @@
 -- What records do to an output with its undos applied: results go to the end and strike nothing; an undo at a number takes away exactly the
--- results above it. Assumes nothing.
+-- results above it.
 use Prim.Native.Nat.{ℕ, _≤_, _<_}
 use mathlib.Core.Path.{_≡_, refl, sym, _∙_, ap, ap₂}
 use mathlib.Core.Bool.{Bool, true, false, cond, not}
@@ -13,7 +13,7 @@ use Rattle.record.specs.Kinds.{isStable, isTentative, isResult}
 use Rattle.store.specs.Lists.{Every}
 use Rattle.store.proofs.Pairs.{every-to}
 use Rattle.store.proofs.Keeping.{keep-append, keep-all, keep-none}
-use Rattle.operator.specs.Results.{plain}
+use Rattle.record.specs.Markers.{marker}
 use Rattle.protocol.specs.Undos.{applyOne, applied, struckByOne, struck, doneDue}
 use Rattle.protocol.specs.Demand.{itself}
 
@@ -22,7 +22,9 @@ unfolding applied
 applied-append results [] ys = refl
 applied-append results (x ∷ xs) ys = applied-append (applyOne itself results x) xs ys
 
-pub struck-append : (results xs ys : List Record) → struck itself results (xs ++ ys) ≡ struck itself results xs ++ struck itself (applied itself results xs) ys
+pub struck-append :
+    (results xs ys : List Record) →
+    struck itself results (xs ++ ys) ≡ struck itself results xs ++ struck itself (applied itself results xs) ys
 unfolding struck applied
 struck-append results [] ys = refl
 struck-append results (x ∷ xs) ys =
@@ -69,16 +71,16 @@ doneDue-results due (r ∷ rs) h = rw (h .0 .noUndo, h .0 .noDone) (doneDue-resu
 
 -- an undo at n of results up to n and then results above it
 module _ (n : ℕ) (time : ReadingTime) (xs ys : List Record) (low : Every (λ (r : Record). r .id ≤ n) xs) (high : Every (λ (r : Record). n < r .id) ys) where
-  pub undo-applied : applied itself (xs ++ ys) (plain letterU n time ∷ []) ≡ xs
-  unfolding applied applyOne isResult isStable isTentative plain
+  pub undo-applied : applied itself (xs ++ ys) (marker letterU n time ∷ []) ≡ xs
+  unfolding applied applyOne isResult isStable isTentative marker
   undo-applied =
       keep-append _ xs ys ∙
       ap₂ _++_ (keep-all _ xs (every-to xs (λ x h. le-leb (x .id) n h) low))
       (keep-none _ ys (every-to ys (λ x h. lt-leb (x .id) n h) high)) ∙
       append-nil xs
 
-  pub undo-struck : struck itself (xs ++ ys) (plain letterU n time ∷ []) ≡ ys
-  unfolding struck struckByOne plain
+  pub undo-struck : struck itself (xs ++ ys) (marker letterU n time ∷ []) ≡ ys
+  unfolding struck struckByOne marker
   undo-struck =
       append-nil _ ∙
       keep-append _ xs ys ∙

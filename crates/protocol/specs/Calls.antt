@@ -1,4 +1,4 @@
--- What a call does to the node (document 01, sections 'Clocks, lines and readings' and 'One step'). Assumes nothing.
+-- What a call does to the node (document 01, sections 'Clocks, lines and readings' and 'One step').
 use Prim.Native.Nat.{ℕ, _-_}
 use mathlib.Core.Bool.{Bool, cond}
 use mathlib.Core.List.{List, []}

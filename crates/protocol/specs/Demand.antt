@@ -1,8 +1,9 @@
--- Demand 3 on the node's meaning. Assumes nothing.
+-- Demand 3 on the node's meaning.
 use Prim.Native.Nat.{ℕ, zero, suc, _+_, _≤_, _<_}
 use mathlib.Core.Path.{_≡_}
 use mathlib.Core.Bool.{true, false}
 use mathlib.Core.List.{List, [], _++_, map}
+use Rattle.clock.specs.declared.ReadingTime.{ReadingTime}
 use Rattle.settings.specs.declared.Settings.{Settings}
 use Rattle.journal.specs.declared.Call.{Call}
 use Rattle.record.specs.declared.Record.{Record}
@@ -26,7 +27,7 @@ itself r = r
 
 -- the output with its undos applied is the failure-free results and then tentative ones; only tentative ones were struck; the stable
 -- records as they came are the failure-free results too
-pub record Clean (s : Settings) (t : Trace) : Type 0 where
+pub record CleanTrace (s : Settings) (t : Trace) : Type 0 where
   pub tentative : List Record
   pub undone : applied itself [] (t .output) ≡ stableResults s t ++ tentative
   pub allStable : Every (λ (r : Record). isStable (r .kind) ≡ true) (stableResults s t)
@@ -35,23 +36,23 @@ pub record Clean (s : Settings) (t : Trace) : Type 0 where
   pub asTheyCame : stableRecords itself (t .output) ≡ stableResults s t
   pub worked : t .monitor .d ≤ stableBuckets s (t .monitor)
 
-unfoldable pub boundaries : Trace → List ℕ
+unfoldable pub boundaries : Trace → List ReadingTime
 boundaries t = map (λ (g : LineMonitor). g .boundary) (t .monitor .lines)
 
 unfoldable pub sent : Trace → List (List Reading)
 sent t = map (map withoutArrival) (t .stables)
 
 -- so many steps, none refused; between them displays may acknowledge
-pub data Steps (s : Settings) : Trace → ℕ → Trace → Type 0 where
-  rest : {t : Trace} → Steps s t zero t
+pub data TraceSteps (s : Settings) : Trace → ℕ → Trace → Type 0 where
+  rest : {t : Trace} → TraceSteps s t zero t
   step :
       {t u : Trace} {n : ℕ} (k : Call) → kindOf (k .kind) ≡ Kind.P → answerTo s (t .node) k ≡ 0 →
-      Steps s (next s t (Event.journal k)) n u → Steps s t (suc n) u
-  aside : {t u : Trace} {n : ℕ} (display id : ℕ) → Steps s (next s t (Event.acknowledge display id)) n u → Steps s t n u
+      TraceSteps s (next s t (Event.journal k)) n u → TraceSteps s t (suc n) u
+  aside : {t u : Trace} {n : ℕ} (display id : ℕ) → TraceSteps s (next s t (Event.acknowledge display id)) n u → TraceSteps s t n u
 
-pub record Demand3 : Type 0 where
+pub record TraceDemand3 : Type 0 where
   -- after any list: clean
-  pub clean : (s : Settings) → 0 < s .bucket → 0 < s .lines → (es : List Event) → Clean s (after s (start s) es)
+  pub clean : (s : Settings) → 0 < s .bucket → 0 < s .lines → (es : List Event) → CleanTrace s (after s (start s) es)
   -- two nodes with the same settings, sent readings and greatest boundaries, none left to work: the same stable records
   pub replicas :
       (s : Settings) → 0 < s .bucket → 0 < s .lines → (es fs : List Event) →
@@ -63,5 +64,5 @@ pub record Demand3 : Type 0 where
   -- with k left to work, k + 2 steps leave none and no R due
   pub settles :
       (s : Settings) → 0 < s .bucket → 0 < s .lines → (es : List Event) (t : Trace) →
-      Steps s (after s (start s) es) (leftToWork s (after s (start s) es .monitor) + 2) t →
+      TraceSteps s (after s (start s) es) (leftToWork s (after s (start s) es .monitor) + 2) t →
       (leftToWork s (t .monitor) ≡ 0) × (doneDue itself false (t .output) ≡ false)

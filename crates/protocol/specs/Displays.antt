@@ -1,9 +1,10 @@
--- The displays: what they have acknowledged, what is held for them, and what is asked of their calls (document 02, W2). Assumes nothing.
+-- The displays: what they have acknowledged, what is held for them, and what is asked of their calls (document 02, W2).
 use Prim.Native.Nat.{ℕ, suc, _-_, min}
 use mathlib.Core.Bool.{Bool, false, not, _&&_, _||_}
 use mathlib.Core.List.{List, [], _∷_}
 use lib.Dec.{leb, ltb}
 use lib.ListN.{length, getD, set}
+use Rattle.answer.specs.Numbers as Answer
 use Rattle.settings.specs.declared.Settings.{Settings}
 use Rattle.journal.specs.Kinds.{letterS}
 use Rattle.retransmission.specs.Sizes.{heldResults, fetchLimit}
@@ -61,13 +62,14 @@ wrongFetch n from = leb from (givenUpTo n) || ltb (suc (newestStable n)) from
 unfoldable pub answerToAcknowledgement : Settings → Node → ℕ → ℕ → ℕ
 answerToAcknowledgement s n display id =
     firstFailed
-    (record { fails = wrongDisplay s display; number = 16 } ∷
-    record { fails = wrongAcknowledgement n display id; number = 17 } ∷ [])
+    (record { fails = wrongDisplay s display; number = Answer.wrongDisplay } ∷
+    record { fails = wrongAcknowledgement n display id; number = Answer.wrongResultId } ∷ [])
 
 unfoldable pub answerToFetch : Settings → Node → ℕ → ℕ → ℕ
 answerToFetch s n display from =
     firstFailed
-    (record { fails = wrongDisplay s display; number = 16 } ∷ record { fails = wrongFetch n from; number = 17 } ∷ [])
+    (record { fails = wrongDisplay s display; number = Answer.wrongDisplay } ∷
+    record { fails = wrongFetch n from; number = Answer.wrongResultId } ∷ [])
 
 -- this display's last id is this one
 unfoldable pub acknowledging : List ℕ → ℕ → ℕ → List ℕ

@@ -1,6 +1,6 @@
 -- The failure-free run of document 01 (sections 'Buckets and the operator' and 'From the opening on'): the accepted stable readings of each
 -- line, in the order accepted, and the buckets worked one after the other, each once. Which calls count is decided by letter and answer
--- alone. Assumes nothing.
+-- alone.
 use Prim.Native.Nat.{ℕ, zero, suc, _-_}
 use mathlib.Core.Bool.{Bool, cond, _&&_}
 use mathlib.Core.List.{List, [], _∷_, _++_}

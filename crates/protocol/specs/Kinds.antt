@@ -1,4 +1,4 @@
--- The six kinds of calls, and the fields that they use (document 01, section 'Clocks, lines and readings'). Assumes nothing.
+-- The six kinds of calls, and the fields that they use (document 01, section 'Clocks, lines and readings').
 use Prim.Native.Nat.{ℕ}
 use mathlib.Core.Bool.{Bool, true, false, cond, not}
 use lib.Dec.{eqb}

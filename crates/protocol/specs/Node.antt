@@ -1,5 +1,4 @@
 -- The node: its lines with their kept readings, and what an input does to its line (document 01, section 'Clocks, lines and readings').
--- Assumes nothing.
 use Prim.Native.Nat.{ℕ}
 use mathlib.Core.Bool.{Bool}
 use mathlib.Core.List.{List, [], _∷_, _++_, map}
@@ -101,8 +100,8 @@ opened s =
     }
 
 -- bucket j is stable: each line's boundary finishes it
-unfoldable pub isStable : Settings → ℕ → List Line → Bool
-isStable s j = allOf (λ (l : Line). finishes (s .bucket) (l .boundary) j)
+unfoldable pub isStableBucket : Settings → ℕ → List Line → Bool
+isStableBucket s j = allOf (λ (l : Line). finishes (s .bucket) (l .boundary) j)
 
 -- the line keeps a tentative reading
 unfoldable pub keepsTentative : Line → Bool

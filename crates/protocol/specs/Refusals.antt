@@ -1,10 +1,11 @@
--- Refusals 7 to 15, in order (document 01, section 'Refusal by whom'; document 02, W2). Assumes nothing.
+-- Refusals 7 to 15, in order (document 01, section 'Refusal by whom'; document 02, W2).
 use Prim.Native.Nat.{ℕ, _+_, _-_}
 use mathlib.Core.Bool.{Bool, false, cond, not, _&&_, _||_}
 use mathlib.Core.List.{List, [], _∷_, _++_}
 use lib.Dec.{leb, ltb, eqb}
 use lib.IntN.{ℤ, pos, negsuc}
 use lib.ListN.{length, getD}
+use Rattle.answer.specs.Numbers as Answer
 use Rattle.clock.specs.declared.ArrivalTick.{ArrivalTick}
 use Rattle.settings.specs.declared.Settings.{Settings}
 use Rattle.journal.specs.declared.Call.{Call}
@@ -18,8 +19,8 @@ unfoldable pub use Rattle.protocol.specs.Tests.{firstFailed}
 use Rattle.protocol.specs.Displays.{lacksPlaces}
 
 -- the line that a call names
-unfoldable pub lineOf : Node → Call → Line
-lineOf n k = getD (n .lines) (k .line - 1) noLine
+unfoldable pub namedLine : Node → Call → Line
+namedLine n k = getD (n .lines) (k .line - 1) noLine
 
 -- 8: no line of that number; a step names none
 unfoldable pub wrongLine : Settings → Kind → ℕ → Bool
@@ -69,26 +70,26 @@ isFull l kind = uses kind .value && leb readingsPerLine (length (l .kept))
 -- the tests on a call of this kind alone
 unfoldable pub callTests : Settings → ArrivalTick → Call → Kind → List Test
 callTests s clock k kind =
-    record { fails = ltb (k .now .0) (clock .0); number = 7 } ∷
-    record { fails = wrongLine s kind (k .line); number = 8 } ∷
-    record { fails = unusedField k kind; number = 9 } ∷
-    record { fails = wrongMeter (k .meter) kind; number = 10 } ∷ []
+    record { fails = ltb (k .now .0) (clock .0); number = Answer.earlierCall } ∷
+    record { fails = wrongLine s kind (k .line); number = Answer.wrongLine } ∷
+    record { fails = unusedField k kind; number = Answer.unusedField } ∷
+    record { fails = wrongMeter (k .meter) kind; number = Answer.wrongMeter } ∷ []
 
 -- those on its line
 unfoldable pub lineTests : Line → Call → Kind → List Test
 lineTests l k kind =
-    record { fails = wrongId l (k .id) kind; number = 11 } ∷
-    record { fails = tooEarly l (k .time .0) kind; number = 12 } ∷
-    record { fails = isHeldBack l kind; number = 13 } ∷
-    record { fails = isFull l kind; number = 14 } ∷ []
+    record { fails = wrongId l (k .id) kind; number = Answer.wrongId } ∷
+    record { fails = tooEarly l (k .time .0) kind; number = Answer.tooEarly } ∷
+    record { fails = isHeldBack l kind; number = Answer.heldBack } ∷
+    record { fails = isFull l kind; number = Answer.fullLine } ∷ []
 
 -- that on a step's rule
 unfoldable pub stepTests : Settings → Node → ArrivalTick → Kind → List Test
-stepTests s n now kind = record { fails = isStep kind && lacksPlaces s n (ruleOf s n now); number = 15 } ∷ []
+stepTests s n now kind = record { fails = isStep kind && lacksPlaces s n (ruleOf s n now); number = Answer.lacksPlaces } ∷ []
 
 -- all of them, in their order
 unfoldable pub testsOf : Settings → Node → Call → Kind → List Test
-testsOf s n k kind = callTests s (n .clock) k kind ++ (lineTests (lineOf n k) k kind ++ stepTests s n (k .now) kind)
+testsOf s n k kind = callTests s (n .clock) k kind ++ (lineTests (namedLine n k) k kind ++ stepTests s n (k .now) kind)
 
 -- the answer to a call: 0 if it is accepted
 unfoldable pub answerTo : Settings → Node → Call → ℕ

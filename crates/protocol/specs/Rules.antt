@@ -1,4 +1,4 @@
--- One step: which of the five rules applies, and what it does (document 01, section 'One step'). Assumes nothing.
+-- One step: which of the five rules applies, and what it does (document 01, section 'One step').
 use Prim.Native.Nat.{ℕ, suc}
 use mathlib.Core.Bool.{Bool, true, false, cond, not, _&&_}
 use mathlib.Core.List.{List, [], _∷_, _++_, map}
@@ -13,9 +13,9 @@ use Rattle.record.specs.declared.Record.{Record}
 use Rattle.store.specs.declared.Reading.{Reading}
 use Rattle.store.specs.Lists.{keep, someOf}
 use Rattle.store.specs.Order.{isIn, inBucket}
-use Rattle.operator.specs.Results.{plain}
+use Rattle.record.specs.Markers.{marker}
 use Rattle.operator.specs.Work.{Worked, work}
-use Rattle.protocol.specs.Node.{Line, Node, withBuckets, withPhase, withOperator, withCheckpoint, withLines, isStable, keptOf}
+use Rattle.protocol.specs.Node.{Line, Node, withBuckets, withPhase, withOperator, withCheckpoint, withLines, isStableBucket, keptOf}
 use Rattle.protocol.specs.declared.Rule.{Rule}
 use Rattle.protocol.specs.declared.Rule.the-variants as Rule
 use Rattle.protocol.specs.declared.Phase.{Phase}
@@ -41,7 +41,7 @@ someOverdue s p now = someOf (λ (l : Line). someOf (isOverdue s p now) (l .kept
 
 unfoldable pub ruleOf : Settings → Node → ArrivalTick → Rule
 ruleOf s n now =
-    firstRule (isStable s (n .c) (n .lines)) (ltb (n .c) (n .p)) (isCorrecting (n .phase)) (someOverdue s (n .p) now (n .lines))
+    firstRule (isStableBucket s (n .c) (n .lines)) (ltb (n .c) (n .p)) (isCorrecting (n .phase)) (someOverdue s (n .p) now (n .lines))
 
 -- a node after a call, and the records given
 pub record Outcome : Type 0 where
@@ -61,7 +61,7 @@ without s j l =
 -- the boundary that follows a window's stable results, at the window's end
 unfoldable pub boundaryAt : Settings → ℕ → List Record
 boundaryAt s j =
-    cond (closesWindow (s .window) j) (plain letterB 0 (record { 0 = bucketEnd (s .bucket) j }) ∷ []) []
+    cond (closesWindow (s .window) j) (marker letterB 0 (record { 0 = bucketEnd (s .bucket) j }) ∷ []) []
 
 -- bucket j worked with all that is kept of it
 unfoldable pub worked : Settings → ℕ → ℕ → Node → Worked
@@ -72,7 +72,7 @@ unfoldable pub act : Settings → Node → Rule → Outcome
 act s n Rule.Withdraw =
     record {
       node = withBuckets (n .c) (n .c) (withPhase Phase.Correcting (withOperator (n .checkpoint) n));
-      records = plain letterU (n .checkpoint .number) (record { 0 = 0 }) ∷ [];
+      records = marker letterU (n .checkpoint .number) (record { 0 = 0 }) ∷ [];
     }
 act s n Rule.WorkStable =
     record {
@@ -83,7 +83,7 @@ act s n Rule.WorkStable =
       records = worked s letterS (n .c) n .records ++ boundaryAt s (n .c);
     }
 act s n Rule.EndCorrection =
-    record { node = withPhase Phase.Stable n; records = plain letterR 0 (record { 0 = 0 }) ∷ [] }
+    record { node = withPhase Phase.Stable n; records = marker letterR 0 (record { 0 = 0 }) ∷ [] }
 act s n Rule.WorkTentative =
     record {
       node = withBuckets (n .c) (suc (n .p)) (withPhase Phase.Failure (withOperator (worked s letterT (n .p) n .operator) n));

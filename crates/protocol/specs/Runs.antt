@@ -1,5 +1,4 @@
 -- Lists of calls on the node's meaning, each on what the one before left (document 01, section 'From the opening on'; document 02, W2).
--- Assumes nothing.
 use Prim.Native.Nat.{ℕ}
 use mathlib.Core.Bool.{Bool}
 use mathlib.Core.List.{List, [], _∷_, _++_}

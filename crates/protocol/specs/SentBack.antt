@@ -1,4 +1,4 @@
--- The send-back store on the node's meaning: what is held for the displays (document 02, W2). Assumes nothing.
+-- The send-back store on the node's meaning: what is held for the displays (document 02, W2).
 use Prim.Native.Nat.{ℕ, suc, _+_, _≤_, _<_}
 use mathlib.Core.Path.{_≡_}
 use mathlib.Core.List.{List, [], _∷_}
@@ -21,7 +21,7 @@ Consecutive n [] = Unit {0}
 Consecutive n (r ∷ rs) = (r .id ≡ suc n) × Consecutive (suc n) rs
 
 -- what is held after a list: by what was acknowledged, and the failure-free results
-pub record Held (s : Settings) (t : Trace) : Type 0 where
+pub record HeldTrace (s : Settings) (t : Trace) : Type 0 where
   -- the node has for acknowledged what was acknowledged
   pub acknowledged : t .node .acknowledged ≡ t .acknowledged
   -- the results are numbered from 1 on, and the newest stable id is the last one's
@@ -36,5 +36,5 @@ pub record Held (s : Settings) (t : Trace) : Type 0 where
       (kindOf (k .kind) ≡ Kind.P) × (t .monitor .d < stableBuckets s (t .monitor)) × (t .monitor .t ≡ t .monitor .d) ×
       (leastOf (t .acknowledged) + heldResults < length (failureFree s (t .stables) (suc (t .monitor .d)) .records))
 
-pub record SentBack : Type 0 where
-  pub held : (s : Settings) → 0 < s .bucket → 0 < s .lines → (es : List Event) → Held s (after s (start s) es)
+pub record TraceSentBack : Type 0 where
+  pub held : (s : Settings) → 0 < s .bucket → 0 < s .lines → (es : List Event) → HeldTrace s (after s (start s) es)

@@ -1,5 +1,5 @@
 -- How many steps it takes until every stable bucket is worked and the box is not correcting, if no input comes between and no step is
--- refused (document 02, W4). Assumes nothing.
+-- refused (document 02, W4).
 use Prim.Native.Nat.{ℕ, zero, suc, _+_, _-_, _/_, min}
 use mathlib.Core.Bool.{Bool, cond}
 use mathlib.Core.List.{List, [], _∷_}

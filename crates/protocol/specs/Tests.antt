@@ -1,4 +1,4 @@
--- Tests in their order, each with its refusal's number. Assumes nothing.
+-- Tests in their order, each with its refusal's number.
 use Prim.Native.Nat.{ℕ}
 use mathlib.Core.Bool.{Bool, cond}
 use mathlib.Core.List.{List, [], _∷_}

@@ -1,5 +1,5 @@
--- Undos applied to an output, record by record (document 01, section 'From the opening on'). An output's elements are the node's records, or
--- whatever is read as records: bytes. Assumes nothing.
+-- Undos applied to an output, record by record (document 01, section 'From the opening on'). An output's elements are the node's records,
+-- or whatever is read as records: bytes.
 use mathlib.Core.Bool.{Bool, true, false, cond, not}
 use mathlib.Core.List.{List, [], _∷_, _++_}
 use lib.Dec.{leb, eqb}

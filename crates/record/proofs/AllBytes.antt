@@ -1,4 +1,4 @@
--- The bytes of records one behind the other: how many, and one record more. By induction on the records. Assumes nothing.
+-- The bytes of records one behind the other: how many, and one record more. By induction on the records.
 use Prim.Native.Nat.{_*_}
 use mathlib.Core.Path.{_≡_, refl, sym, _∙_, ap}
 use mathlib.Core.List.{List, [], _∷_, _++_, append-assoc}

@@ -1,5 +1,5 @@
 -- A record's bytes give its fields back, and 32 bytes with two zeros in place are the bytes of the fields read from them.
--- Each word goes there and back by the laws of its encoding; the places add up by computing. Assumes nothing.
+-- Each word goes there and back by the laws of its encoding; the places add up by computing.
 use mathlib.Core.Path.{_≡_, refl, sym, ap, _∙_}
 use mathlib.Core.List.{List, [], _∷_, _++_}
 use Prim.Native.Nat.{ℕ, zero, suc, _+_, _-_, _^_, _<_, _≤_}
@@ -24,7 +24,9 @@ length-bytesOf r = refl
 -- ---- from a record to its bytes and back
 
 -- a signed number, as the word of its width
-signed-back : (width bits : ℕ) (z : ℤ) → 256 ^ width ≡ 2 ^ bits → 1 ≤ bits → mag z < 2 ^ (bits - 1) → signedOf bits (numberOf (littleEndian width (twos bits z))) ≡ z
+signed-back :
+    (width bits : ℕ) (z : ℤ) → 256 ^ width ≡ 2 ^ bits → 1 ≤ bits → mag z < 2 ^ (bits - 1) →
+    signedOf bits (numberOf (littleEndian width (twos bits z))) ≡ z
 signed-back width bits z e some fits = rw (numberOf-littleEndian width (twos bits z) (rw e (twos-fits bits z fits))) (signedOf-twos bits z some fits)
 
 pub fieldsOf-bytesOf : (r : Record) → Within r → fieldsOf (bytesOf r) ≡ r
@@ -42,9 +44,10 @@ fieldsOf-bytesOf r w =
 areBytes-word : (a : List ℕ) (width x : ℕ) → AreBytes a → AreBytes (a ++ littleEndian width x)
 areBytes-word a width x h = areBytes-append a (littleEndian width x) h (areBytes-littleEndian width x)
 
-pub areBytes-bytesOf : (r : Record) → Within r → AreBytes (bytesOf r)
+-- the words are bytes whatever they are made of
+pub areBytes-bytesOf : (r : Record) → r .kind < 2 ^ 8 → r .meter < 2 ^ 8 → AreBytes (bytesOf r)
 unfolding bytesOf
-areBytes-bytesOf r w =
+areBytes-bytesOf r kind meter =
     let tag = r .kind ∷ r .meter ∷ 0 ∷ 0 ∷ [] in
     let id = tag ++ littleEndian 4 (r .id) in
     let time = id ++ littleEndian 4 (r .time .0) in
@@ -57,12 +60,13 @@ areBytes-bytesOf r w =
     (areBytes-word time 4 (r .count) (areBytes-word id 4 (r .time .0) (areBytes-word tag 4 (r .id) bytes)))))
   where
     bytes : AreBytes (r .kind ∷ r .meter ∷ 0 ∷ 0 ∷ [])
-    bytes zero = w .kind
-    bytes (suc zero) = w .meter
+    bytes zero = kind
+    bytes (suc zero) = meter
     bytes (suc (suc zero)) = omega arith
     bytes (suc (suc (suc zero))) = omega arith
     bytes (suc (suc (suc (suc i)))) = omega arith
 
+-- a claim of its own: no two records have the same bytes
 pub bytesOf-injective : (r s : Record) → Within r → Within s → bytesOf r ≡ bytesOf s → r ≡ s
 bytesOf-injective r s v w e = sym (fieldsOf-bytesOf r v) ∙ ap fieldsOf e ∙ fieldsOf-bytesOf s w
 
@@ -82,7 +86,8 @@ module _ (b : List ℕ) (h : AreBytes b) (at width : ℕ) (fits : at + width ≤
   wordAt-bound = rw length-part at (numberOf-bound (take width (drop at b)) (areBytes-take width (drop at b) (areBytes-drop at b h)))
 
   -- also where the word is read as a signed number of so many bits, and written as a word again
-  littleEndian-signedAt : (bits : ℕ) → 256 ^ width ≡ 2 ^ bits → littleEndian width (twos bits (signedOf bits (wordAt at width b))) ≡ take width (drop at b)
+  littleEndian-signedAt :
+      (bits : ℕ) → 256 ^ width ≡ 2 ^ bits → littleEndian width (twos bits (signedOf bits (wordAt at width b))) ≡ take width (drop at b)
   littleEndian-signedAt bits e = rw (twos-signedOf bits (wordAt at width b) (rw e at wordAt-bound)) littleEndian-wordAt
 
 first-four : (b : List ℕ) → 4 ≤ length b → take 4 b ≡ getD b 0 0 ∷ getD b 1 0 ∷ getD b 2 0 ∷ getD b 3 0 ∷ []

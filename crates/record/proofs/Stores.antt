@@ -1,4 +1,4 @@
--- What the writer's runs of stores come to: each laid behind the one before, they are a record's bytes. Assumes nothing.
+-- What the writer's runs of stores come to: each laid behind the one before, they are a record's bytes.
 use mathlib.Core.Path.{_≡_, refl, ap, _∙_}
 use mathlib.Core.List.{List, [], _∷_, _++_}
 use Prim.Native.Nat.{ℕ, _+_, _-_, _≤_}
@@ -32,7 +32,9 @@ halves-laid l b n h fits =
 
 module _ (l : List ℕ) (r : Record) where
   -- tag, id and time
-  pub head-laid : {k m n : List ℕ} → k ≡ laid l 0 (r .kind ∷ r .meter ∷ 0 ∷ 0 ∷ []) → m ≡ laid k 4 (littleEndian 4 (r .id)) → n ≡ laid m 8 (littleEndian 4 (r .time .0))
+  pub head-laid :
+      {k m n : List ℕ} → k ≡ laid l 0 (r .kind ∷ r .meter ∷ 0 ∷ 0 ∷ []) → m ≡ laid k 4 (littleEndian 4 (r .id)) →
+      n ≡ laid m 8 (littleEndian 4 (r .time .0))
       → n ≡ laid l 0 (take 12 (bytesOf r))
   unfolding bytesOf littleEndian
   head-laid p q s =
@@ -57,7 +59,9 @@ module _ (l : List ℕ) (r : Record) where
       rw e at t ∙ ap (λ (x : List ℕ). laid x 28 last) three ∙ laid-laid l 12 28 (count ++ sum ++ mean) last refl
 
   -- the first twelve bytes and the other twenty
-  pub record-laid : {k m : List ℕ} → recordBytes ≤ length l → k ≡ laid l 0 (take 12 (bytesOf r)) → m ≡ laid k 12 (drop 12 (bytesOf r)) → m ≡ inFront (bytesOf r) l
+  pub record-laid :
+      {k m : List ℕ} → recordBytes ≤ length l → k ≡ laid l 0 (take 12 (bytesOf r)) → m ≡ laid k 12 (drop 12 (bytesOf r)) →
+      m ≡ inFront (bytesOf r) l
   record-laid fits p q =
       let size = length-bytesOf r in
       q

@@ -1,5 +1,4 @@
--- A record's fields at their places in its bytes. That the bytes are laid out so fixes them (crates/record/proofs/Decoding.antt). Assumes
--- nothing.
+-- A record's fields at their places in its bytes. That the bytes are laid out so fixes them (crates/record/proofs/Decoding.antt).
 use Prim.Native.Nat.{ℕ}
 use mathlib.Core.List.{List}
 use lib.ListN.{getD, take, drop}

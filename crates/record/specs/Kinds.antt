@@ -1,4 +1,4 @@
--- The kinds of records, by their letter's byte (document 01, sections 'Buckets and the operator' and 'From the opening on'). Assumes nothing.
+-- The kinds of records, by their letter's byte (document 01, sections 'Buckets and the operator' and 'From the opening on').
 use Prim.Native.Nat.{ℕ}
 use mathlib.Core.Bool.{Bool, _||_}
 use lib.Dec.{eqb}

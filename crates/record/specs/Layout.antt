@@ -1,4 +1,4 @@
--- A record's bytes, little-endian (document 01, section 'Store and output area'). Assumes nothing.
+-- A record's bytes, little-endian (document 01, section 'Store and output area').
 use Prim.Native.Nat.{ℕ}
 use mathlib.Core.List.{List, [], _∷_, _++_}
 use Rattle.signed.specs.Twos.{twos}

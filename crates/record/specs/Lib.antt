@@ -5,3 +5,4 @@ pub mod Layout
 pub mod Within
 pub mod Fields
 pub mod Decoded
+pub mod Markers

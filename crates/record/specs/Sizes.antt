@@ -1,4 +1,4 @@
--- The size of a record. Assumes nothing.
+-- The size of a record.
 use Prim.Native.Nat.{ℕ}
 
 -- bytes of one record (document 01, section 'Store and output area')

@@ -1,9 +1,10 @@
--- The records that a program can hold: each field within its width. Assumes nothing.
+-- The records that a program can hold: each field within its width.
 use Prim.Native.Nat.{_<_, _^_}
 use lib.Signed.{mag}
 use Rattle.record.specs.declared.Record.{Record}
 
--- kind and meter of one byte, id, time and count of four, sum of eight signed, mean and last of four signed (a signed number's `mag` is n for n and for -(n + 1))
+-- kind and meter of one byte, id, time and count of four, sum of eight signed, mean and last of four signed (a signed number's `mag` is n
+-- for n and for -(n + 1))
 pub record Within (r : Record) : Type 0 where
   pub kind : r .kind < 2 ^ 8
   pub meter : r .meter < 2 ^ 8

@@ -7,8 +7,9 @@ ghost use Rattle.area.specs.Laid.{laid, inFront};
 ghost use Rattle.record.specs.Sizes.{recordBytes};
 ghost use Rattle.record.specs.Kinds.{isStable, isTentative, isResult, isRecord};
 ghost use Rattle.record.specs.Layout.{bytesOf};
+ghost use Rattle.record.specs.Markers.{marker};
 ghost use Rattle.record.specs.Fields.{fieldsOf};
-ghost use Rattle.record.specs.Decoded.{isWellFormed, decoded};
+ghost use Rattle.record.specs.Decoded.{isWellFormed, decoded, ExactRecord};
 use clock::ReadingTime;
 
 // Bytes of one record.
@@ -142,13 +143,30 @@ pub fn fields_of(bytes: &[u8]) -> Record
     }
 }
 
-// The record that these bytes are, or that they are none.
+// The record that these bytes are, or refusal 6.
 pub fn decode(bytes: &[u8]) -> Decoded
     ensures { λ r. ⌜ r ≡ decoded (now (bytes .entry)) ⌝ }
+    ensures { λ r. ⌜ ExactRecord (now (bytes .entry)) r ⌝ }
 {
     if is_well_formed(bytes) {
         Decoded::Is(fields_of(bytes))
     } else {
         Decoded::Malformed
+    }
+}
+
+// A record without a result.
+pub fn marker(kind: u8, id: u32, time: ReadingTime) -> Record
+    ensures { λ r. ⌜ r ≡ marker kind id time ⌝ }
+{
+    Record {
+        sum: 0,
+        id: id,
+        time: time,
+        count: 0,
+        mean: 0,
+        last: 0,
+        kind: kind,
+        meter: 0,
     }
 }

@@ -1,4 +1,4 @@
--- No text of a record is longer than 123 bytes, and one is as long: by how many digits the greatest number of each width has. Assumes nothing.
+-- No text of a record is longer than 123 bytes, and one is as long: by how many digits the greatest number of each width has.
 use mathlib.Core.Path.{_≡_, refl}
 use Prim.Native.Nat.{_≤_}
 use native.Mathlib.Omega.{arith}
@@ -38,7 +38,7 @@ tail-short r w = simp length-append
 pub text-short : (r : Record) → Within r → length (recordText r) ≤ longestRecordText
 text-short r w = rw (recordText-parts r, length-append) (omega (arith, head-short r w, tail-short r w))
 
--- the greatest unsigned numbers and the least signed ones
+-- a claim of its own: the greatest unsigned numbers and the least signed ones have a text as long as the bound
 abbrev pub longest : Record
 longest =
     record {

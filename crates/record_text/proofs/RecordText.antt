@@ -1,5 +1,5 @@
 -- The text of a record is its two parts, one behind the other, and the text of a record's bytes is the record's. The first by taking the
--- fields of the first part out of its brackets. Assumes nothing.
+-- fields of the first part out of its brackets.
 use mathlib.Core.Path.{_≡_}
 use mathlib.Core.Bool.{true}
 use mathlib.Core.List.{List, _++_, append-assoc}
@@ -34,6 +34,7 @@ recordText-parts r =
       append-assoc (decimal (pos (r .time .0))) meter tail,
     )
 
+-- a claim of its own: the text that is written of a record's bytes is the record's
 pub textOf-bytesOf : (r : Record) → Within r → isRecord (r .kind) ≡ true → textOf (decoded (bytesOf r)) ≡ recordText r
 unfolding textOf
 textOf-bytesOf r w k = rw (decoded-bytesOf r w k)
@@ -49,7 +50,9 @@ module _ (l : List ℕ) (r : Record) where
   pub room-tail : {e k : ℕ} → length (recordText r) ≤ length l → e ≡ length (textHead r) → k ≡ length l → e + length (textTail r) ≤ k
   room-tail room e same = omega (arith, length-recordText r)
 
-  pub parts-laid : {e f : ℕ} {k m : List ℕ} → (e ≡ length (textHead r)) × (k ≡ laid l 0 (textHead r)) → LaidTo k e (textTail r) f m → (f ≡ length (recordText r)) × (m ≡ laid l 0 (recordText r))
+  pub parts-laid :
+      {e f : ℕ} {k m : List ℕ} → (e ≡ length (textHead r)) × (k ≡ laid l 0 (textHead r)) → LaidTo k e (textTail r) f m →
+      (f ≡ length (recordText r)) × (m ≡ laid l 0 (recordText r))
   parts-laid {e = e} p q = (
     omega (arith, length-recordText r),
     cc (recordText-parts r, laid-laid l 0 e (textHead r) (textTail r) (omega arith)),

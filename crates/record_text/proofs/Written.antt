@@ -1,5 +1,5 @@
 -- What the writer of a record's text answers and leaves, case by case: nothing of a text that is longer than the area, and else the text, read
--- back from where it was made, in front. Assumes nothing.
+-- back from where it was made, in front.
 use mathlib.Core.Path.{_≡_, refl, ap, _∙_}
 use mathlib.Core.List.{List}
 use Prim.Native.Nat.{ℕ, _-_, _<_, _≤_}

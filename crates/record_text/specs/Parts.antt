@@ -1,4 +1,4 @@
--- The two parts that a record's text is written in. Assumes nothing.
+-- The two parts that a record's text is written in.
 use Prim.Native.Nat.{ℕ}
 use mathlib.Core.List.{List, [], _∷_, _++_}
 use lib.IntN.{pos}

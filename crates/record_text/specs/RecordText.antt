@@ -1,11 +1,11 @@
 -- The text of a record: a line as `merge` prints it (document 01, sections 'On the last tick and past it' and 'Refusal by whom').
--- Assumes nothing.
 use Prim.Native.Nat.{ℕ}
 use mathlib.Core.Bool.{cond}
 use mathlib.Core.List.{List, [], _∷_}
 use lib.Dec.{ltb, eqb}
 use lib.IntN.{pos}
 use lib.ListN.{length}
+use Rattle.answer.specs.Numbers as Answer
 use Rattle.decimal.specs.Decimal.{decimal}
 use Rattle.fields.specs.Keys.{kindKey, idKey, timeKey, meterKey, countKey, sumKey, meanKey, lastKey}
 use Rattle.fields.specs.Line.{field, lineOf}
@@ -34,8 +34,8 @@ textOf Decoded.Malformed = []
 -- document 01's number that the writer of a record's text answers: bytes that are no record are refused first, then an area shorter than
 -- their text
 unfoldable pub textAnswer : Decoded → List ℕ → ℕ
-textAnswer (Decoded.Is r) area = cond (ltb (length area) (length (recordText r))) 5 0
-textAnswer Decoded.Malformed area = 6
+textAnswer (Decoded.Is r) area = cond (ltb (length area) (length (recordText r))) Answer.shortArea Answer.accepted
+textAnswer Decoded.Malformed area = Answer.malformed
 
 -- the bytes that are laid in front of the area: the text, or none where the answer is a refusal
 unfoldable pub textWritten : Decoded → List ℕ → List ℕ

@@ -1,4 +1,4 @@
--- The longest text of a record. Assumes nothing.
+-- The longest text of a record.
 use Prim.Native.Nat.{ℕ}
 
 abbrev pub longestRecordText : ℕ

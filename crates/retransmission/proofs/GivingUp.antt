@@ -1,4 +1,4 @@
--- Giving results up one after the other: what is left to give up, over the store as it is, stays the same. Assumes nothing.
+-- Giving results up one after the other: what is left to give up, over the store as it is, stays the same.
 use Prim.Native.Nat.{ℕ, suc, _+_, _-_, _*_, _%_, _≤_, _<_}
 use mathlib.Core.Path.{_≡_, refl, sym, _∙_, ap, subst}
 use mathlib.Core.List.{List}

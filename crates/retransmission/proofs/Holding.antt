@@ -1,4 +1,4 @@
--- Results held one after the other: what is left to hold, over the store as it is, stays the same. Assumes nothing.
+-- Results held one after the other: what is left to hold, over the store as it is, stays the same.
 use Prim.Native.Nat.{ℕ, suc, _+_, _-_, _*_, _%_, _≤_, _<_}
 use mathlib.Core.Path.{_≡_, refl, sym, _∙_, ap}
 use mathlib.Core.List.{List, [], _∷_}

@@ -1,5 +1,5 @@
 -- The store's places as results are laid, given up and fetched: what they should be is the results behind number n laid over empty places,
--- one behind the other, at most 512 of them. Assumes nothing.
+-- one behind the other, at most 512 of them.
 use Prim.Native.Nat.{ℕ, zero, suc, _+_, _-_, _%_, _≤_, _<_}
 use mathlib.Core.Path.{_≡_, refl, sym, _∙_, ap, ap₂, subst}
 use mathlib.Core.Bool.{true, _&&_}

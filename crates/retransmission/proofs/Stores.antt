@@ -1,5 +1,5 @@
 -- A store and its places: the places laid down are found again, what lies behind them stays, and places laid down as they were change
--- nothing. Assumes nothing.
+-- nothing.
 use Prim.Native.Nat.{ℕ, zero, suc, _+_, _*_, _≤_, _<_}
 use mathlib.Core.Path.{_≡_, refl, sym, _∙_, ap, ap₂, subst}
 use mathlib.Core.List.{List, [], _∷_, _++_, append-assoc}

@@ -1,4 +1,4 @@
--- The send-back store's places, each of a record's bytes: result n stands at place (n - 1) modulo 512 (document 02, W2). Assumes nothing.
+-- The send-back store's places, each of a record's bytes: result n stands at place (n - 1) modulo 512 (document 02, W2).
 use Prim.Native.Nat.{ℕ, zero, suc, _-_, _%_}
 use mathlib.Core.Bool.{Bool, true, cond, _&&_}
 use mathlib.Core.List.{List, [], _∷_, _++_}
@@ -19,14 +19,14 @@ unfoldable pub pieces : ℕ → List ℕ → List (List ℕ)
 pieces zero bytes = []
 pieces (suc n) bytes = take recordBytes bytes ∷ pieces n (drop recordBytes bytes)
 
--- pieces one behind the other
+-- pieces one after the other
 unfoldable pub joined : List (List ℕ) → List ℕ
 joined [] = []
 joined (b ∷ bs) = b ++ joined bs
 
 -- ---- the store
 
--- the places of a store, and a store with these places: what lies behind them is as it was
+-- the places of a store, and a store with these places: what lies after them is as it was
 unfoldable pub placesOf : List ℕ → List (List ℕ)
 placesOf sent = pieces heldResults sent
 
@@ -65,7 +65,7 @@ unfoldable pub placesOk : List (List ℕ) → ℕ → ℕ → Bool
 placesOk ps n zero = true
 placesOk ps n (suc k) = placeOk (suc n) (getD ps (placeOf (suc n)) []) && placesOk ps (suc n) k
 
--- pieces numbered behind n, each laid at its place
+-- pieces numbered after n, each laid at its place
 module _ {A : Type 0} where
   unfoldable pub heldOver : List A → ℕ → List A → List A
   heldOver ps n [] = ps

@@ -1,4 +1,4 @@
--- Sizes of the send-back store (document 02, W2). Assumes nothing.
+-- Sizes of the send-back store (document 02, W2).
 use Prim.Native.Nat.{ℕ, _*_}
 use Rattle.record.specs.Sizes.{recordBytes}
 

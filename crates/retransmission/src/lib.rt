@@ -26,7 +26,7 @@ pub fn give_up(sent: &mut [u8], from: u64, to: u64)
     let mut n = from;
     while n < to {
         let at = (n % HELD_RESULTS) as usize * RECORD_BYTES;
-        columns::zero_u8(sent, at, at + RECORD_BYTES);
+        store_columns::zero_u8(sent, at, at + RECORD_BYTES);
         n += 1;
     }
 }
@@ -39,7 +39,7 @@ fn copy_record(source: &[u8], from: usize, out: &mut [u8], to: usize)
     area::put_bytes(out, to, &source[from..from + RECORD_BYTES]);
 }
 
-// Copies the area's first n records, the results behind number `newest`, to their places.
+// Copies the area's first n records, the results after number `newest`, to their places.
 pub fn hold(sent: &mut [u8], newest: u64, area: &[u8], n: usize)
     requires { ⌜ (heldBytes ≤ length (now sent)) × (n * recordBytes ≤ length (now area)) × (newest + n < 2 ^ 64) ⌝ }
     ensures { λ _.
@@ -54,7 +54,7 @@ pub fn hold(sent: &mut [u8], newest: u64, area: &[u8], n: usize)
     }
 }
 
-// Whether the places of the results behind number `before`, n of them, each have a stable result's kind and its own id; the store's end
+// Whether the places of the results after number `before`, n of them, each have a stable result's kind and its own id; the store's end
 // does not come in between.
 fn is_run_held(sent: &[u8], before: u64, n: usize) -> bool
     requires { ⌜ (heldBytes ≤ length (now sent)) × (before % heldResults + n ≤ heldResults) × (before + n < 2 ^ 64) ⌝ }
@@ -92,7 +92,7 @@ pub fn are_held(sent: &[u8], least: u64, newest: u64) -> bool
     is_run_held(sent, least, room) & is_run_held(sent, least + room as u64, n - room)
 }
 
-// Lays the record that stands from `from` on over an area from `to` on: a record's bytes, whatever the two behind its meter are.
+// Lays the record that stands from `from` on over an area from `to` on: a record's bytes, whatever the two after its meter are.
 fn lay_record(sent: &[u8], from: usize, area: &mut [u8], to: usize)
     requires { ⌜ (from + recordBytes ≤ length (now sent)) × (to + recordBytes ≤ length (now area)) ⌝ }
     ensures { λ _.
@@ -103,7 +103,7 @@ fn lay_record(sent: &[u8], from: usize, area: &mut [u8], to: usize)
     record::put_record(&mut area[to..], held);
 }
 
-// Lays the records that stand at the places of the results behind number `from`, n of them, from the area's first byte on.
+// Lays the records that stand at the places of the results after number `from`, n of them, from the area's first byte on.
 pub fn copy_out(sent: &[u8], from: u64, n: usize, area: &mut [u8])
     requires { ⌜ (heldBytes ≤ length (now sent)) × (n * recordBytes ≤ length (now area)) × (from + n < 2 ^ 64) ⌝ }
     ensures { λ _. ⌜ now (area .exit) ≡ inFront (allBytes (heldBehind (placesOf (now (sent .entry))) from n)) (now (area .entry)) ⌝ }

@@ -1,4 +1,4 @@
--- The reader is exact: a text is read as settings exactly if it is their line, whole. Assumes nothing.
+-- The reader is exact: a text is read as settings exactly if it is their line, whole.
 use mathlib.Core.Path.{_≡_, refl, ap}
 use mathlib.Core.Bool.{true, false, cond}
 use mathlib.Core.List.{List, []}
@@ -23,7 +23,9 @@ settings-line text s fit p =
     let end : 0 + length (settingsText s) ≡ length text = omega (arith, ap length p) in
     rw (settings-complete text [] 0 s fit (whole-spelled text (settingsText s) p), eq-eqb (0 + length (settingsText s)) (length text) end)
 
-settings-only : (text : List ℕ) (answer : SettingsAt) → settingsAt text 0 ≡ answer → (settingsAnswer (judged text answer) ≡ 1 → ⊥) → (s : Settings) × SettingsFit s × (text ≡ settingsText s)
+settings-only :
+    (text : List ℕ) (answer : SettingsAt) → settingsAt text 0 ≡ answer → (settingsAnswer (judged text answer) ≡ 1 → ⊥) →
+    (s : Settings) × SettingsFit s × (text ≡ settingsText s)
 unfolding judged settingsAnswer
 settings-only text (SettingsAt.Line s e) q n =
     let found = settings-sound text 0 e s q in

@@ -1,4 +1,4 @@
--- The longest settings line of the form, and that its length is reached. Assumes nothing.
+-- The longest settings line of the form, and that its length is reached.
 use mathlib.Core.Path.{_≡_, refl, ap}
 use Prim.Native.Nat.{_-_, _≤_, _^_}
 use native.Mathlib.Omega.{arith}
@@ -13,6 +13,7 @@ use Rattle.settings.specs.SettingsLine.{settingsText}
 use Rattle.settings.specs.declared.Settings.{Settings}
 use Rattle.settings.proofs.SettingsLines.{stretches, text-stretches}
 
+-- claims of their own: no settings line is longer than the bound, and one is as long
 pub settings-line-short : (s : Settings) → SettingsFit s → length (settingsText s) ≤ longestSettingsLine
 unfolding stretches decimal
 settings-line-short s fit =

@@ -1,5 +1,5 @@
 -- A settings line is read exactly if the text has it: field by field, each stretch of the text is the field's, and stretches join to the
--- line. Assumes nothing.
+-- line.
 use mathlib.Core.Path.{_≡_, refl, ap, subst, _∙_}
 use mathlib.Core.Bool.{true}
 use mathlib.Core.List.{List, [], _∷_, _++_, append-assoc}
@@ -44,7 +44,8 @@ Claim s at (SettingsAt.Line x f) = Spells s at (settingsText x) f × SettingsFit
 Claim s at SettingsAt.Malformed = Unit {0}
 
 -- what is read is what the text spells
-pub settings-sound : (s : List ℕ) (at f : ℕ) (x : Settings) → settingsAt s at ≡ SettingsAt.Line x f → Spells s at (settingsText x) f × SettingsFit x
+pub settings-sound :
+    (s : List ℕ) (at f : ℕ) (x : Settings) → settingsAt s at ≡ SettingsAt.Line x f → Spells s at (settingsText x) f × SettingsFit x
 unfolding settingsAt stretches
 settings-sound s at f x q =
     let z = SettingsAt.Malformed in
@@ -83,7 +84,9 @@ settings-sound s at f x q =
     )
 
 -- what the text spells is read
-pub settings-complete : (s r : List ℕ) (at : ℕ) (x : Settings) → SettingsFit x → drop at s ≡ settingsText x ++ r → settingsAt s at ≡ SettingsAt.Line x (at + length (settingsText x))
+pub settings-complete :
+    (s r : List ℕ) (at : ℕ) (x : Settings) → SettingsFit x → drop at s ≡ settingsText x ++ r →
+    settingsAt s at ≡ SettingsAt.Line x (at + length (settingsText x))
 unfolding settingsAt stretches withNumber withInteger isDigit
 settings-complete s r at x fit p =
     let most : 2 ^ 32 - 1 < 2 ^ 64 = omega arith in

@@ -1,4 +1,4 @@
--- The limits of the settings (document 01, section 'Clocks, lines and readings'). Assumes nothing.
+-- The limits of the settings (document 01, section 'Clocks, lines and readings').
 use Prim.Native.Nat.{ℕ, _<_, _^_}
 use mathlib.Core.Bool.{Bool, _&&_}
 use lib.Dec.{leb}

@@ -1,10 +1,10 @@
 -- The settings line: its text, and that a text is read exactly (document 01, sections 'Clocks, lines and readings' and 'Refusal by whom').
--- Assumes nothing.
 use mathlib.Core.Path.{_≡_}
 use Prim.Native.Nat.{ℕ}
 use mathlib.Core.Bool.{cond}
 use mathlib.Core.List.{List, [], _∷_}
 use lib.IntN.{pos}
+use Rattle.answer.specs.Numbers as Answer
 use Rattle.decimal.specs.Decimal.{decimal}
 use Rattle.fields.specs.Line.{field, lineOf}
 use Rattle.fields.specs.Keys.{linesKey, bucketKey, windowKey, holdKey, lowKey, highKey, displaysKey}
@@ -31,11 +31,11 @@ limited s = cond (withinLimits s) (SettingsRead.Accepted s) SettingsRead.Outside
 
 -- document 01's number of the answer
 unfoldable pub settingsAnswer : SettingsRead → ℕ
-settingsAnswer (SettingsRead.Accepted s) = 0
-settingsAnswer SettingsRead.Malformed = 1
-settingsAnswer SettingsRead.OutsideLimits = 2
+settingsAnswer (SettingsRead.Accepted s) = Answer.accepted
+settingsAnswer SettingsRead.Malformed = Answer.malformedSettings
+settingsAnswer SettingsRead.OutsideLimits = Answer.outsideLimits
 
 -- an answer is exact: a text that is the line of settings gets what their limits say, and every other text gets 1
 pub record ExactSettings (text : List ℕ) (answer : SettingsRead) : Type 0 where
   pub line : (s : Settings) → SettingsFit s → text ≡ settingsText s → answer ≡ limited s
-  pub only : (settingsAnswer answer ≡ 1 → ⊥) → (s : Settings) × SettingsFit s × (text ≡ settingsText s)
+  pub only : (settingsAnswer answer ≡ Answer.malformedSettings → ⊥) → (s : Settings) × SettingsFit s × (text ≡ settingsText s)

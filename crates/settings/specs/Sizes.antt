@@ -1,4 +1,4 @@
--- The longest settings line of the form. Assumes nothing.
+-- The longest settings line of the form.
 use Prim.Native.Nat.{ℕ}
 
 abbrev pub longestSettingsLine : ℕ

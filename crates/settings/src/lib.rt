@@ -20,7 +20,7 @@ pub const MAX_HOLD: u32 = 864_000;
 pub const MAX_DISPLAYS: u32 = 4;
 
 // The widest unsigned number that a setting may spell.
-const WIDTH: u32 = 4_294_967_295;
+const WIDTH: u32 = u32::MAX;
 
 // The settings, each as wide as its text may spell it.
 pub struct Settings {

@@ -1,4 +1,4 @@
--- Two numbers compared. Assumes nothing.
+-- Two numbers compared.
 use mathlib.Core.Path.{_≡_, refl}
 use mathlib.Core.Bool.{true, false}
 use mathlib.Core.Logic.{_⊎_, inl, inr}

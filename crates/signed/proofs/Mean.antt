@@ -1,5 +1,5 @@
 -- The mean has the sum's sign and is the whole number nearest to the quotient, of two equally near the even one. That of a sum in range is
--- no larger than the values' bound, so it fits 32 bits; of no value it is 0. By cases on the sign. Assumes nothing.
+-- no larger than the values' bound, so it fits 32 bits; of no value it is 0. By cases on the sign.
 use mathlib.Core.Path.{_≡_, refl, ap}
 use mathlib.Core.Bool.{true, false}
 use Prim.Native.Nat.{ℕ, suc, _-_, _*_, _<_, _≤_, _^_}
@@ -17,7 +17,7 @@ use Rattle.signed.proofs.Nearest.{nearest-none, nearest-nearest, neares
 
 -- ---- the mean
 
--- of a sum that is not below zero, and of one below
+-- claims of their own, which say what the mean is: of a sum that is not below zero, of one below, and of no value
 pub mean-nearest : (a n : ℕ) → 0 < n → (q : ℕ) × (mean (pos a) n ≡ pos q) × IsNearest a n q
 unfolding mean
 mean-nearest a n p = (nearest a n, refl, nearest-nearest a n p)

@@ -1,6 +1,5 @@
 -- `nearest` is the one number that lies at most half away from the quotient and, where it lies exactly half away, is even. Twice the rest
--- against the divisor tells which number that is; of two such numbers one would follow the other, both half away and both even. Assumes
--- nothing.
+-- against the divisor tells which number that is; of two such numbers one would follow the other, both half away and both even.
 use mathlib.Core.Path.{_≡_, refl, sym}
 use mathlib.Core.Logic.{inl, inr, ⊎-elim}
 use Prim.Native.Nat.{ℕ, zero, suc, _+_, _*_, _/_, _%_, _<_, _≤_}

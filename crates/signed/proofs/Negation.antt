@@ -1,5 +1,5 @@
 -- What the code's negations give, at any width: 0 - (z + 1) of a number below zero is its magnitude less one and always fits,
--- and 0 - k, less 1, of a small k is -(k + 1). By cases on the sign. Assumes nothing.
+-- and 0 - k, less 1, of a small k is -(k + 1). By cases on the sign.
 use mathlib.Core.Path.{_≡_, refl, sym, ap, subst, _∙_}
 use mathlib.Core.Bool.{true, false}
 use Prim.Native.Nat.{ℕ, zero, suc, _+_, _<_, _≤_, _^_}

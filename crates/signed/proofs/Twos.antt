@@ -1,5 +1,5 @@
 -- Two's complement at any number of bits: the word fits, and word and number are each other's inverse. Below, the same for what the
--- code computes. By cases on the sign; what is needed of powers is that one more bit doubles. Assumes nothing.
+-- code computes. By cases on the sign; what is needed of powers is that one more bit doubles.
 use mathlib.Core.Path.{_≡_, refl, sym, ap, _∙_}
 use mathlib.Core.Bool.{true}
 use Prim.Native.Nat.{ℕ, zero, suc, _-_, _*_, _<_, _≤_, _^_}
@@ -12,7 +12,7 @@ use borrow.Author.Tests.{ltb-true, lt-ltb, le-ltb}
 use lib.IntN.{ℤ, pos, negsuc, natAbs, _-ℤ_}
 use lib.Signed.{mag, ltZ, nonNeg}
 use mir.Syntax.{Width, w8, w16, w32, w64, w128}
-use mir.Val.{SFits, Fits, bits, hbits, toZ, ofZ}
+use mir.Val.{Fits, bits, hbits, toZ, ofZ}
 use mir.Facts.{toZ-pos}
 use Rattle.signed.specs.Twos.{twos, signedOf}
 use Rattle.signed.proofs.Comparing.{lt-or-le}
@@ -66,7 +66,7 @@ twos-signedOf b word l =
     (λ (h : 2 ^ (b - 1) ≤ word). rw (signedOf-high b word h l) (omega arith))
     (lt-or-le word (2 ^ (b - 1)))
 
--- ---- the same at a width of the machine
+-- ---- what the code computes, at a width of the machine
 
 hbits-less-one : (w : Width) → hbits w ≡ bits w - 1
 hbits-less-one w8 = refl
@@ -81,20 +81,6 @@ some-bits w16 = omega arith
 some-bits w32 = omega arith
 some-bits w64 = omega arith
 some-bits w128 = omega arith
-
-pub twos-word : {w : Width} {z : ℤ} → SFits w z → Fits w (twos (bits w) z)
-twos-word {w} {z} f = record { fits = twos-fits (bits w) z (rw (hbits-less-one w) at (f .sfits)) }
-
-pub signedOf-word : {w : Width} {word : ℕ} → Fits w word → SFits w (signedOf (bits w) word)
-signedOf-word {w} {word} f = record { sfits = rw (hbits-less-one w) (signedOf-fits (bits w) word (f .fits)) }
-
-pub signedOf-twos-word : {w : Width} {z : ℤ} → SFits w z → signedOf (bits w) (twos (bits w) z) ≡ z
-signedOf-twos-word {w} {z} f = signedOf-twos (bits w) z (some-bits w) (rw (hbits-less-one w) at (f .sfits))
-
-pub twos-signedOf-word : {w : Width} {word : ℕ} → Fits w word → twos (bits w) (signedOf (bits w) word) ≡ word
-twos-signedOf-word {w} {word} f = twos-signedOf (bits w) word (f .fits)
-
--- ---- what the code computes
 
 pub twos-below-zero : (b : ℕ) (z : ℤ) → ltZ z (pos 0) ≡ true → 2 ^ b - 1 - mag z ≡ twos b z
 unfolding twos

@@ -1,4 +1,4 @@
--- The mean of a sum over a count (document 01, section 'Buckets and the operator'; document 02, W1, for the half). Assumes nothing.
+-- The mean of a sum over a count (document 01, section 'Buckets and the operator'; document 02, W1, for the half).
 use mathlib.Core.Path.{_≡_}
 use mathlib.Core.Logic.{_⊎_}
 use Prim.Native.Nat.{ℕ, suc, _+_, _*_, _%_, _≤_}

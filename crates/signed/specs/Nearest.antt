@@ -1,4 +1,4 @@
--- How a quotient is rounded. That this is the one number that `IsNearest` means, and 0 of no values, are laws. Assumes nothing.
+-- How a quotient is rounded. That this is the one number that `IsNearest` means, and 0 of no values, are laws.
 use Prim.Native.Nat.{ℕ, _+_, _*_, _/_, _%_}
 use mathlib.Core.Bool.{cond}
 use lib.Dec.{ltb, eqb}

@@ -1,4 +1,4 @@
--- The range of a sum, which its mean needs to fit its width. Assumes nothing.
+-- The range of a sum, which its mean needs to fit its width.
 use Prim.Native.Nat.{ℕ, suc, _-_, _*_, _^_, _≤_}
 use lib.IntN.{ℤ, pos, negsuc}
 

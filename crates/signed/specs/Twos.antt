@@ -1,4 +1,4 @@
--- Two's complement at any number of bits. Assumes nothing.
+-- Two's complement at any number of bits.
 use Prim.Native.Nat.{ℕ, suc, _-_, _^_}
 use mathlib.Core.Bool.{cond}
 use lib.Dec.{ltb}

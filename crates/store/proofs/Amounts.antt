@@ -1,5 +1,5 @@
 -- Amounts that add up, and what the elements of a list bring together: it adds up along the list and does not mind the order. Which
--- amounts, and what an element brings, is left open. Assumes nothing.
+-- amounts, and what an element brings, is left open.
 use mathlib.Core.Path.{_≡_, refl, sym, _∙_, ap}
 use mathlib.Core.Bool.{Bool}
 use mathlib.Core.List.{List, [], _∷_, _++_, foldr}

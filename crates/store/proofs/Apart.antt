@@ -1,5 +1,5 @@
--- Gathered readings in pairs: the lines stand in order, and where the ids rise in each line, the order tells the readings apart and keeps
--- those of equal time as gathered: two of one line by their ids, two of different lines by the lines. Assumes nothing.
+-- Gathered readings in pairs: where the ids rise in each line, the order tells the readings apart and keeps those of equal time as
+-- gathered: two of one line by their ids, two of different lines by the lines.
 use Prim.Native.Nat.{ℕ, suc, _≤_, _<_}
 use mathlib.Core.Path.{_≡_, refl}
 use mathlib.Core.Bool.{true, false}
@@ -11,11 +11,14 @@ use Rattle.store.specs.Sorted.{Pairwise, isLevel, Distinct, TiesInOrder,
 use Rattle.store.specs.Order.{Placed, before, isIn, gather}
 use Rattle.store.proofs.Choices.{false-unless}
 use Rattle.store.proofs.Order.{by-line, by-id, earlier-before, level-equal}
-use Rattle.store.proofs.Pairs.{every-to, every-any, pairwise-append, pairwise-to, pairwise-any, pairwise-keep, pairwise-map}
+use Rattle.store.proofs.Pairs.{every-to, pairwise-append, pairwise-to, pairwise-keep, pairwise-map}
 use Rattle.store.proofs.Gathering.{place, every-placed, gather-lines}
 
 -- a relation that holds in each line, and from a lower line to a higher one, holds among all that is gathered
-gather-pairwise : (R : Placed → Placed → Type 0) → ((a b : Placed) → a .line < b .line → R a b) → (length j n : ℕ) (lines : List (List Reading)) → Every (λ (kept : List Reading). (m : ℕ) → Pairwise (λ (r s : Reading). R (place m r) (place m s)) kept) lines → Pairwise R (gather length j n lines)
+gather-pairwise :
+    (R : Placed → Placed → Type 0) → ((a b : Placed) → a .line < b .line → R a b) → (length j n : ℕ) (lines : List (List Reading)) →
+    Every (λ (kept : List Reading). (m : ℕ) → Pairwise (λ (r s : Reading). R (place m r) (place m s)) kept) lines →
+    Pairwise R (gather length j n lines)
 unfolding gather
 gather-pairwise R up length j n [] h = tt
 gather-pairwise R up length j n (kept ∷ lines) h =
@@ -26,12 +29,6 @@ gather-pairwise R up length j n (kept ∷ lines) h =
     (gather-pairwise R up length j (suc n) lines (h .1))
     (every-placed (λ (a : Placed). Every (R a) others) n own
     (λ r. every-to others (λ (b : Placed) (l : suc n ≤ b .line). up (place n r) b l) (gather-lines length j (suc n) lines)))
-
--- the lines stand in order
-pub gather-line-order : (length j n : ℕ) (lines : List (List Reading)) → Pairwise (λ (a b : Placed). a .line ≤ b .line) (gather length j n lines)
-gather-line-order length j n lines =
-    gather-pairwise (λ (a b : Placed). a .line ≤ b .line) (λ a b h. omega arith) length j n lines
-    (every-any _ lines (λ kept m. pairwise-any (λ (r s : Reading). m ≤ m) kept (λ r s. omega arith)))
 
 other-line : (a b : Placed) → a .line < b .line → isLevel a b ≡ false
 other-line a b h = false-unless (isLevel a b) (λ e. omega (arith, level-equal a b .0 e))

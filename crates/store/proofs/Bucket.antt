@@ -1,5 +1,5 @@
--- `inBucket` is the sorted list of the bucket's readings: it is sorted, it holds exactly the gathered readings, and where the ids rise in
--- each line there is no other such list. From the laws of `gather` and `sort`. Assumes nothing.
+-- A claim of its own: `inBucket` is the one sorted list of the bucket's readings. It is sorted, it holds exactly the gathered readings, and
+-- where the ids rise in each line there is no other such list. From the laws of `gather` and `sort`.
 use Prim.Native.Nat.{ℕ}
 use mathlib.Core.Path.{_≡_}
 use mathlib.Core.Logic.{_↔_}
@@ -31,6 +31,7 @@ module _ (length j : ℕ) (lines : List (List Reading)) where
   )
 
   -- the only sorted list of these readings
-  pub inBucket-only : Every Rising lines → (ys : List Placed) → Permutation (gather length j 1 lines) ys → Sorted ys → ys ≡ inBucket length j lines
+  pub inBucket-only :
+      Every Rising lines → (ys : List Placed) → Permutation (gather length j 1 lines) ys → Sorted ys → ys ≡ inBucket length j lines
   unfolding inBucket
   inBucket-only h ys p s = sort-only (gather length j 1 lines) ys (gather-distinct length j 1 lines h) p s

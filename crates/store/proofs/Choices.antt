@@ -1,4 +1,4 @@
--- Laws of tests and of `cond`, by the test's two values. Assumes nothing.
+-- Laws of tests and of `cond`, by the test's two values.
 use mathlib.Core.Path.{_≡_, refl, sym, _∙_}
 use mathlib.Core.Bool.{Bool, true, false, cond, _&&_, true≢false, and-eq-true-iff}
 
@@ -6,6 +6,11 @@ use mathlib.Core.Bool.{Bool, true, false, cond, _&&_, true≢false, and-eq-true-
 pub false-unless : (b : Bool) → (b ≡ true → ⊥) → b ≡ false
 false-unless true f = absurd (f refl)
 false-unless false f = refl
+
+-- a test that cannot fail
+pub true-unless : (b : Bool) → (b ≡ false → ⊥) → b ≡ true
+true-unless true f = refl
+true-unless false f = absurd (f refl)
 
 -- a test does not both hold and fail
 pub not-both : {X : Type 0} {b : Bool} → b ≡ true → b ≡ false → X

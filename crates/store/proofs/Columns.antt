@@ -1,5 +1,5 @@
 -- The columns and their rows: rows laid into the store are read back from it, and the store's length stays. Each column is one instance of
--- a law over the field. Assumes nothing.
+-- a law over the field.
 use Prim.Native.Nat.{ℕ, zero, suc, _+_, _-_, _≤_, _<_}
 use mathlib.Core.Path.{_≡_, refl, sym, _∙_, ap, ap₂}
 use mathlib.Core.List.{List, [], _∷_, _++_, map}
@@ -36,10 +36,6 @@ room n x h =
       meters = omega arith;
     }
 
-pub room-back : (n : ℕ) (x : Columns) → Room n x → n ≤ storeLength x
-unfolding storeLength
-room-back n x r = omega arith
-
 pub length-rowsFrom : (x : Columns) (i n : ℕ) → length (rowsFrom x i n) ≡ n
 unfolding rowsFrom
 length-rowsFrom x i zero = refl
@@ -50,7 +46,9 @@ unfolding rows
 length-rows x n = length-rowsFrom x 0 n
 
 -- a column with a field of these readings laid in front
-length-column : {A : Type 0} (f : Reading → A) (rs : List Reading) (l : List A) → length rs ≤ length l → length (map f rs ++ drop (length rs) l) ≡ length l
+length-column :
+    {A : Type 0} (f : Reading → A) (rs : List Reading) (l : List A) → length rs ≤ length l →
+    length (map f rs ++ drop (length rs) l) ≡ length l
 length-column f rs l h = simp (length-append, length-map, length-drop) (omega arith)
 
 pub storeLength-withRows : (x : Columns) (rs : List Reading) → length rs ≤ storeLength x → storeLength (withRows x rs) ≡ storeLength x
@@ -106,7 +104,9 @@ pub row-at : (x : Columns) (n i : ℕ) → i < n → getD (rows x n) i zeroed �
 unfolding rows
 row-at x n i h = rowFrom-at x 0 n i h ∙ ap (rowAt x) (zero-add i)
 
-field-at : {A : Type 0} (f : Reading → A) (rs : List Reading) (l : List A) (i : ℕ) (d : A) → i < length rs → getD (map f rs ++ l) i d ≡ f (getD rs i zeroed)
+field-at :
+    {A : Type 0} (f : Reading → A) (rs : List Reading) (l : List A) (i : ℕ) (d : A) → i < length rs →
+    getD (map f rs ++ l) i d ≡ f (getD rs i zeroed)
 field-at f [] l i d h = absurd (omega arith)
 field-at f (r ∷ rs) l zero d h = refl
 field-at f (r ∷ rs) l (suc i) d h = field-at f rs l i d (omega arith)
@@ -125,7 +125,9 @@ row-laid x rs i h =
       meter = field-at (λ (r : Reading). r .meter) rs (drop (length rs) (x .meters)) i 0 h t;
     }
 
-field-behind : {A : Type 0} (f : Reading → A) (rs : List Reading) (l : List A) (i : ℕ) (d : A) → getD (map f rs ++ drop (length rs) l) (length rs + i) d ≡ getD l (length rs + i) d
+field-behind :
+    {A : Type 0} (f : Reading → A) (rs : List Reading) (l : List A) (i : ℕ) (d : A) →
+    getD (map f rs ++ drop (length rs) l) (length rs + i) d ≡ getD l (length rs + i) d
 field-behind f rs l i d =
     let e : length rs + i ≡ length (map f rs) + i = rw (length-map rs f) in
     ap (λ (k : ℕ). getD (map f rs ++ drop (length rs) l) k d) e ∙ getD-append-add (map f rs) (drop (length rs) l) i d ∙
@@ -154,7 +156,9 @@ pub record Behind (n : ℕ) (x y : Columns) : Type 0 where
   pub kinds : drop n (x .kinds) ≡ drop n (y .kinds)
   pub meters : drop n (x .meters) ≡ drop n (y .meters)
 
-column-behind : {A : Type 0} (f : Reading → A) (rs : List Reading) (l : List A) → drop (length rs) (map f rs ++ drop (length rs) l) ≡ drop (length rs) l
+column-behind :
+    {A : Type 0} (f : Reading → A) (rs : List Reading) (l : List A) →
+    drop (length rs) (map f rs ++ drop (length rs) l) ≡ drop (length rs) l
 column-behind f rs l = drop-at (map f rs) (drop (length rs) l) (length rs) (length-map rs f)
 
 pub withRows-behind : (x : Columns) (rs : List Reading) → Behind (length rs) (withRows x rs) x
@@ -179,14 +183,18 @@ rows-withRows x rs =
     let g : i < length rs = omega (arith, length-rows (withRows x rs) (length rs)) in
     row-at (withRows x rs) (length rs) i g ∙ row-laid x rs i g)
 
-field-rows : {A : Type 0} (f : Reading → A) (d : A) (l : List A) (x : Columns) → ((i : ℕ) → f (rowAt x i) ≡ getD l i d) → (j n : ℕ) → j + n ≤ length l → map f (rowsFrom x j n) ++ drop (j + n) l ≡ drop j l
+field-rows :
+    {A : Type 0} (f : Reading → A) (d : A) (l : List A) (x : Columns) → ((i : ℕ) → f (rowAt x i) ≡ getD l i d) → (j n : ℕ) →
+    j + n ≤ length l → map f (rowsFrom x j n) ++ drop (j + n) l ≡ drop j l
 unfolding rowsFrom
 field-rows f d l x e j zero h = ap (λ (k : ℕ). drop k l) (add-zero j)
 field-rows f d l x e j (suc n) h =
     let a : suc j + n ≡ j + suc n = omega arith in
     rw (e j, ← a, field-rows f d l x e (suc j) n (omega arith)) (sym (drop-cons l j d (omega arith)))
 
-pub column-back : {A : Type 0} (f : Reading → A) (d : A) (l : List A) (x : Columns) (n : ℕ) → ((i : ℕ) → f (rowAt x i) ≡ getD l i d) → n ≤ length l → map f (rows x n) ++ drop (length (rows x n)) l ≡ l
+pub column-back :
+    {A : Type 0} (f : Reading → A) (d : A) (l : List A) (x : Columns) (n : ℕ) → ((i : ℕ) → f (rowAt x i) ≡ getD l i d) → n ≤ length l →
+    map f (rows x n) ++ drop (length (rows x n)) l ≡ l
 unfolding rows
 column-back f d l x n e h =
     ap (λ (k : ℕ). map f (rowsFrom x 0 n) ++ drop k l) (length-rowsFrom x 0 n ∙ sym (zero-add n)) ∙
@@ -209,7 +217,9 @@ withRows-rows x n h =
 
 -- ---- rows from the first place on
 
-column-front : {A : Type 0} (f : Reading → A) (rs : List Reading) (l : List A) → length rs ≤ length l → sets l 0 (map f rs) ≡ map f rs ++ drop (length rs) l
+column-front :
+    {A : Type 0} (f : Reading → A) (rs : List Reading) (l : List A) → length rs ≤ length l →
+    sets l 0 (map f rs) ≡ map f rs ++ drop (length rs) l
 column-front f rs l h =
     let n : 0 + length (map f rs) ≡ length rs = zero-add (length (map f rs)) ∙ length-map rs f in
     sets-eq (map f rs) l 0 (omega arith) ∙ rw n

@@ -1,5 +1,5 @@
 -- What `gather` holds: of each line the readings of the bucket, in the line's order, with the line's number, and no others. Every number
--- behind a line is above the line's own, so that to keep one line's readings is to cut that line out. Assumes nothing.
+-- behind a line is above the line's own, so that to keep one line's readings is to cut that line out.
 use Prim.Native.Nat.{ℕ, zero, suc, _+_, _-_, _≤_}
 use mathlib.Core.Path.{_≡_, refl, sym, _∙_, ap, ap₂, subst}
 use mathlib.Core.Bool.{Bool, true, false}
@@ -36,7 +36,9 @@ gather-lines length j n (kept ∷ lines) =
     (every-to others (λ (a : Placed) (h : suc n ≤ a .line). omega arith) (gather-lines length j (suc n) lines))
 
 -- of each line the gathered readings are those of the bucket, in the line's order, with the line's number
-pub gather-of-line : (length j n i : ℕ) (lines : List (List Reading)) → keep (λ (a : Placed). eqb (a .line) (n + i)) (gather length j n lines) ≡ map (place (n + i)) (keep (isIn length j) (getD lines i []))
+pub gather-of-line :
+    (length j n i : ℕ) (lines : List (List Reading)) → keep (λ (a : Placed). eqb (a .line) (n + i)) (gather length j n lines) ≡
+    map (place (n + i)) (keep (isIn length j) (getD lines i []))
 unfolding gather keep
 gather-of-line length j n i [] = refl
 gather-of-line length j n zero (kept ∷ lines) =

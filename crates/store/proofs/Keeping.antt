@@ -1,5 +1,5 @@
 -- Laws of `keep`: what it holds and how many, and how it goes through append and map, as `someOf` does. Each goes by the list and the
--- test of its first element. Assumes nothing.
+-- test of its first element.
 use Prim.Native.Nat.{ℕ, suc, _≤_}
 use native.Mathlib.Omega.{arith}
 use mathlib.Core.Path.{_≡_, refl, sym, _∙_, ap}
@@ -82,5 +82,7 @@ module _ {A B : Type 0} (f : A → B) (test : B → Bool) where
   some-map (x ∷ xs) = rw (some-map xs)
 
 -- a map after which a test finds what another found before it
-pub keep-through : {A B : Type 0} (f : A → B) (old : A → Bool) (new : B → Bool) (xs : List A) → Every (λ x. new (f x) ≡ old x) xs → keep new (map f xs) ≡ map f (keep old xs)
+pub keep-through :
+    {A B : Type 0} (f : A → B) (old : A → Bool) (new : B → Bool) (xs : List A) → Every (λ x. new (f x) ≡ old x) xs →
+    keep new (map f xs) ≡ map f (keep old xs)
 keep-through f old new xs h = keep-map f new xs ∙ ap (map f) (keep-same (λ x. new (f x)) old xs h)

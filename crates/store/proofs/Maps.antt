@@ -1,5 +1,5 @@
 -- `gather` and `sort` look only at time, line and id: a map of the readings that keeps time and id, as one that erases arrivals does, goes
--- through both. The tests that they make have the same values before and after the map. Assumes nothing.
+-- through both. The tests that they make have the same values before and after the map.
 use Prim.Native.Nat.{ℕ, suc}
 use mathlib.Core.Path.{_≡_, refl, _∙_, ap}
 use mathlib.Core.List.{List, [], _∷_, map, map-map, map-append}
@@ -33,7 +33,9 @@ module _ (f : Reading → Reading) (same-time : (r : Reading) → f r .time ≡ 
   unfolding isIn
   isIn-map length j r = rw (same-time r)
 
-  pub gather-map : (length j n : ℕ) (lines : List (List Reading)) → gather length j n (map (map f) lines) ≡ map (onReading f) (gather length j n lines)
+  pub gather-map :
+      (length j n : ℕ) (lines : List (List Reading)) →
+      gather length j n (map (map f) lines) ≡ map (onReading f) (gather length j n lines)
   unfolding gather
   gather-map length j n [] = refl
   gather-map length j n (kept ∷ lines) =
@@ -42,6 +44,7 @@ module _ (f : Reading → Reading) (same-time : (r : Reading) → f r .time ≡ 
         gather-map length j (suc n) lines,
       ) (simp (map-map, map-append))
 
-  pub inBucket-map : (length j : ℕ) (lines : List (List Reading)) → inBucket length j (map (map f) lines) ≡ map (onReading f) (inBucket length j lines)
+  pub inBucket-map :
+      (length j : ℕ) (lines : List (List Reading)) → inBucket length j (map (map f) lines) ≡ map (onReading f) (inBucket length j lines)
   unfolding inBucket
   inBucket-map length j lines = ap sort (gather-map length j 1 lines) ∙ sort-map (gather length j 1 lines)

@@ -1,5 +1,5 @@
 -- The order inside a bucket: `before` is `Earlier`, and so a strict total order on time, line and id. The definition's tests are taken
--- apart in the laws between `before` and `Earlier` alone; the rest is arithmetic by cases. Assumes nothing.
+-- apart in the laws between `before` and `Earlier` alone; the rest is arithmetic by cases.
 use Prim.Native.Nat.{ℕ, _≤_, _<_}
 use mathlib.Core.Path.{_≡_, refl, sym, _∙_}
 use mathlib.Core.Bool.{true, false, not, true≢false}
@@ -83,7 +83,9 @@ pub not-before-earlier : (a b c : Placed) → before a b ≡ true → before c b
 not-before-earlier a b c h k = false-unless (before c a) (λ e. true≢false (sym (before-transitive c a b e h) ∙ k))
 
 -- level readings are those with equal time, line and id
-pub level-equal : (a b : Placed) → (isLevel a b ≡ true) ↔ ((a .reading .time .0 ≡ b .reading .time .0) × (a .line ≡ b .line) × (a .reading .id ≡ b .reading .id))
+pub level-equal :
+    (a b : Placed) →
+    (isLevel a b ≡ true) ↔ ((a .reading .time .0 ≡ b .reading .time .0) × (a .line ≡ b .line) × (a .reading .id ≡ b .reading .id))
 unfolding isLevel
 level-equal a b = (
   λ e.
@@ -104,15 +106,6 @@ level-turned a b h =
     (λ e.
     let (t, l, i) = level-equal b a .0 e in
     true≢false (sym (level-equal a b .1 (sym t, sym l, sym i)) ∙ h))
-
--- of two level readings neither goes before the other
-pub level-not-before : (a b : Placed) → isLevel a b ≡ true → before a b ≡ false
-level-not-before a b e = false-unless (before a b) (λ h. equal-not-earlier (level-equal a b .0 e) (before-earlier a b h))
-  where
-    equal-not-earlier : (a .reading .time .0 ≡ b .reading .time .0) × (a .line ≡ b .line) × (a .reading .id ≡ b .reading .id) → Earlier a b → ⊥
-    equal-not-earlier q (by-time h) = omega arith
-    equal-not-earlier q (by-line e h) = omega arith
-    equal-not-earlier q (by-id e f h) = omega arith
 
 pub data Compared (m n : ℕ) : Type 0 where
   below : m < n → Compared m n
@@ -137,7 +130,9 @@ one-earlier : (a b : Placed) → isLevel a b ≡ false → Earlier a b ⊎ Earli
 one-earlier a b h =
     go (compare (a .reading .time .0) (b .reading .time .0)) (compare (a .line) (b .line)) (compare (a .reading .id) (b .reading .id))
   where
-    go : Compared (a .reading .time .0) (b .reading .time .0) → Compared (a .line) (b .line) → Compared (a .reading .id) (b .reading .id) → Earlier a b ⊎ Earlier b a
+    go :
+        Compared (a .reading .time .0) (b .reading .time .0) → Compared (a .line) (b .line) →
+        Compared (a .reading .id) (b .reading .id) → Earlier a b ⊎ Earlier b a
     go (below t) l i = inl (by-time t)
     go (above t) l i = inr (by-time t)
     go (same t) (below l) i = inl (by-line t l)

@@ -1,4 +1,4 @@
--- Laws of `Every` and `Pairwise` under append, map and keep, and of `Every` where all pass a test. Each goes by the list. Assumes nothing.
+-- Laws of `Every` and `Pairwise` under append, map and keep, and of `Every` where all pass a test. Each goes by the list.
 use Prim.Native.Nat.{ℕ, zero, suc, _<_}
 use native.Mathlib.Omega.{arith}
 use mathlib.Core.Path.{_≡_, refl, subst⁻¹}
@@ -72,11 +72,8 @@ module _ {A : Type 0} where
   pairwise-to [] f h = tt
   pairwise-to (x ∷ xs) f h = (every-to xs (f x) (h .0), pairwise-to xs f (h .1))
 
-  pub pairwise-any : (R : A → A → Type 0) (xs : List A) → ((x y : A) → R x y) → Pairwise R xs
-  pairwise-any R [] f = tt
-  pairwise-any R (x ∷ xs) f = (every-any (R x) xs (f x), pairwise-any R xs f)
-
-  pub pairwise-append : (R : A → A → Type 0) (xs ys : List A) → Pairwise R xs → Pairwise R ys → Every (λ x. Every (R x) ys) xs → Pairwise R (xs ++ ys)
+  pub pairwise-append :
+      (R : A → A → Type 0) (xs ys : List A) → Pairwise R xs → Pairwise R ys → Every (λ x. Every (R x) ys) xs → Pairwise R (xs ++ ys)
   pairwise-append R [] ys h k c = k
   pairwise-append R (x ∷ xs) ys h k c = (every-append (R x) xs ys (h .0) (c .0), pairwise-append R xs ys (h .1) k (c .1))
 
@@ -88,7 +85,8 @@ module _ {A : Type 0} where
       (λ e. pairwise-keep R test xs (h .1))
 
   -- a relation that two others bring about
-  pub pairwise-both : (R S U : A → A → Type 0) → ((x y : A) → R x y → S x y → U x y) → (xs : List A) → Pairwise R xs → Pairwise S xs → Pairwise U xs
+  pub pairwise-both :
+      (R S U : A → A → Type 0) → ((x y : A) → R x y → S x y → U x y) → (xs : List A) → Pairwise R xs → Pairwise S xs → Pairwise U xs
   pairwise-both R S U f [] h k = tt
   pairwise-both R S U f (x ∷ xs) h k = (both xs (h .0) (k .0), pairwise-both R S U f xs (h .1) (k .1))
     where

@@ -1,5 +1,5 @@
 -- Laws of permutations: they go back, they keep the length, and what holds of every element, or of every two whichever comes first, holds
--- after them too; a map, and what a test keeps, is permuted with the list. Each goes by the permutation or the list. Assumes nothing.
+-- after them too; a map, and what a test keeps, is permuted with the list. Each goes by the permutation or the list.
 use Prim.Native.Nat.{suc}
 use mathlib.Core.Path.{_≡_, refl, _∙_, ap}
 use mathlib.Core.Bool.{Bool, true, false, cond}
@@ -33,7 +33,8 @@ module _ {A : Type 0} where
   every-permuted P (chain p q) h = every-permuted P q (every-permuted P p h)
 
   -- a relation that goes both ways does not mind the order
-  pub pairwise-permuted : (R : A → A → Type 0) → ((x y : A) → R x y → R y x) → {xs ys : List A} → Permutation xs ys → Pairwise R xs → Pairwise R ys
+  pub pairwise-permuted :
+      (R : A → A → Type 0) → ((x y : A) → R x y → R y x) → {xs ys : List A} → Permutation xs ys → Pairwise R xs → Pairwise R ys
   pairwise-permuted R s empty h = tt
   pairwise-permuted R s (behind x p) h = (every-permuted (R x) p (h .0), pairwise-permuted R s p (h .1))
   pairwise-permuted R s (exchange x y xs) h = ((s x y (h .0 .0), h .1 .0), (h .0 .1, h .1 .1))

@@ -1,4 +1,4 @@
--- Runs of stores: one run behind another is one run, and what stands behind a run is untouched. By cases on the run. Assumes nothing.
+-- Runs of stores: one run behind another is one run, and what stands behind a run is untouched. By cases on the run.
 use Prim.Native.Nat.{ℕ, suc, _+_, _≤_}
 use mathlib.Core.Path.{_≡_, refl, ap, _∙_}
 use mathlib.Core.List.{List, [], _∷_, _++_}

@@ -1,4 +1,4 @@
--- A share read place by place: its first number, and the share behind it. Assumes nothing.
+-- A share read place by place: its first number, and the share behind it.
 use mathlib.Core.Path.{_≡_, refl}
 use mathlib.Core.List.{List, [], _∷_}
 use Prim.Native.Nat.{ℕ, suc, _+_, _-_, _<_, _≤_}
@@ -21,7 +21,9 @@ module _ {A : Type 0} where
   unfolding share
   share-none base xs = refl
 
-  pub share-cons : (blank : A) (base n : ℕ) (xs : List A) → base + suc n ≤ length xs → share base (suc n) xs ≡ getD xs base blank ∷ share (suc base) n xs
+  pub share-cons :
+      (blank : A) (base n : ℕ) (xs : List A) → base + suc n ≤ length xs →
+      share base (suc n) xs ≡ getD xs base blank ∷ share (suc base) n xs
   unfolding share
   share-cons blank base n xs h = rw (drop-cons xs base blank (omega arith))
 
@@ -32,7 +34,9 @@ module _ {A : Type 0} where
   pub left-all : (base n : ℕ) (xs : List A) → left base n xs 0 ≡ share base n xs
   left-all base n xs = rw (add-zero base, sub-zero n)
 
-  pub left-cons : (blank : A) (base n : ℕ) (xs : List A) (i : ℕ) → base + n ≤ length xs → i < n → left base n xs i ≡ getD xs (base + i) blank ∷ left base n xs (i + 1)
+  pub left-cons :
+      (blank : A) (base n : ℕ) (xs : List A) (i : ℕ) → base + n ≤ length xs → i < n →
+      left base n xs i ≡ getD xs (base + i) blank ∷ left base n xs (i + 1)
   left-cons blank base n xs i h g =
       let e : n - i ≡ suc (n - (i + 1)) = omega arith in
       let f : base + (i + 1) ≡ suc (base + i) = omega arith in

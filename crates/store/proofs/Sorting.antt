@@ -1,5 +1,5 @@
 -- `sort` gives a sorted permutation, by laws of `insert`: the readings that it passes do not come after the new one, and those that it
--- leaves behind the new one go before none that the new one goes before. Assumes nothing.
+-- leaves behind the new one go before none that the new one goes before.
 use mathlib.Core.Path.{_≡_}
 use mathlib.Core.Bool.{false}
 use mathlib.Core.List.{List, [], _∷_}

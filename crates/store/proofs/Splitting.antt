@@ -1,5 +1,5 @@
 -- A list taken apart by tests: what one test keeps is, but for the order, what two others keep, where each element that passes the one
--- passes just one of the others. By the list and the three tests of its first element. Assumes nothing.
+-- passes just one of the others. By the list and the three tests of its first element.
 use mathlib.Core.Bool.{Bool, true, false, cond}
 use mathlib.Core.List.{List, [], _∷_, _++_}
 use Rattle.store.specs.Lists.{keep}

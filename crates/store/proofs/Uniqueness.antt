@@ -1,5 +1,5 @@
 -- A list of readings that the order tells apart has one sorted permutation only. In a sorted permutation each reading goes before every
--- later one, so two of them that hold the same readings have the same first one, and so on. Assumes nothing.
+-- later one, so two of them that hold the same readings have the same first one, and so on.
 use mathlib.Core.Path.{_≡_, refl, sym, _∙_, subst}
 use mathlib.Core.Bool.{true, false, true≢false}
 use mathlib.Core.Logic.{_⊎_, inl, inr}
@@ -30,7 +30,9 @@ not-first a z xs h m e = true≢false (sym e ∙ before-asymmetric a z (every-of
 not-itself : (a : Placed) (xs : List Placed) → Ascending (a ∷ xs) → List·Memᴰ a xs → ⊥
 not-itself a xs h m = not-first a a xs h m (every-of (λ (b : Placed). before a b ≡ true) m (h .0))
 
-first-same : (a b : Placed) (xs ys : List Placed) → Ascending (a ∷ xs) → Ascending (b ∷ ys) → Within (a ∷ xs) (b ∷ ys) → Within (b ∷ ys) (a ∷ xs) → a ≡ b
+first-same :
+    (a b : Placed) (xs ys : List Placed) → Ascending (a ∷ xs) → Ascending (b ∷ ys) → Within (a ∷ xs) (b ∷ ys) →
+    Within (b ∷ ys) (a ∷ xs) → a ≡ b
 first-same a b xs ys h k f g = go (List·Memᴰ·cases-cons (f a (List·Memᴰ·head refl))) (List·Memᴰ·cases-cons (g b (List·Memᴰ·head refl)))
   where
     go : (a ≡ b) ⊎ List·Memᴰ a ys → (b ≡ a) ⊎ List·Memᴰ b xs → a ≡ b

@@ -1,5 +1,5 @@
 -- The lent store: one column for each field of a reading (document 01, section 'Store and output area'). Its length is the shortest
--- column's. Assumes nothing.
+-- column's.
 use Prim.Native.Nat.{ℕ, zero, suc, min}
 use mathlib.Core.List.{List, [], _∷_, _++_, map}
 use lib.IntN.{ℤ, pos}
@@ -46,7 +46,7 @@ rowsFrom x i (suc n) = rowAt x i ∷ rowsFrom x (suc i) n
 unfoldable pub rows : Columns → ℕ → List Reading
 rows x n = rowsFrom x 0 n
 
--- the store with these readings in its first places, and everything behind them as it was
+-- the store with these readings in its first places, and everything after them as it was
 unfoldable pub withRows : Columns → List Reading → Columns
 withRows x rs =
     record {

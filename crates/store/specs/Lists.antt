@@ -1,4 +1,4 @@
--- Lists by tests and properties of their elements. Assumes nothing.
+-- Lists by tests and properties of their elements.
 use Prim.Native.Nat.{ℕ, zero, suc}
 use mathlib.Core.Bool.{Bool, true, false, cond, _&&_, _||_}
 use mathlib.Core.List.{List, [], _∷_}

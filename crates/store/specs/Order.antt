@@ -1,4 +1,4 @@
--- The readings of a bucket, in the order inside it (document 01, section 'Buckets and the operator'). Assumes nothing.
+-- The readings of a bucket, in the order inside it (document 01, section 'Buckets and the operator').
 use Prim.Native.Nat.{ℕ, suc}
 use mathlib.Core.Bool.{Bool, cond}
 use mathlib.Core.List.{List, [], _∷_, _++_, map}

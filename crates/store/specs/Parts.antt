@@ -1,4 +1,4 @@
--- Parts of the store as its functions are lent them and leave them. The contracts of the crates above pin them down. Assumes nothing.
+-- Parts of the store as its functions are lent them and leave them. The contracts of the crates above pin them down.
 use Prim.Native.Nat.{ℕ, _-_}
 use mathlib.Core.List.{List, _++_, map}
 use lib.ListN.{length, take, drop, replicate}

@@ -1,4 +1,4 @@
--- The size of a line's share. Assumes nothing.
+-- The size of a line's share.
 use Prim.Native.Nat.{ℕ}
 
 -- places for kept readings in a line's share of the store

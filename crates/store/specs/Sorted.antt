@@ -1,5 +1,4 @@
 -- A sorted list, a permutation, and readings that the order tells apart (document 01, section 'Buckets and the operator').
--- Assumes nothing.
 use Prim.Native.Nat.{_<_}
 use mathlib.Core.Path.{_≡_}
 use mathlib.Core.Bool.{Bool, true, false, _&&_}

@@ -1,4 +1,4 @@
--- `area::put_bytes` meets its contract: in the loop the first i bytes are laid down. Assumes nothing.
+-- `area::put_bytes` meets its contract: in the loop the first i bytes are laid down.
 use mathlib.Core.Path.{_≡_, sym, ap, _∙_}
 use Prim.Native.Nat.{_-_, _≤_}
 use native.Mathlib.Omega.{arith}

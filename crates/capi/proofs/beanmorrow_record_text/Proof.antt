@@ -1,12 +1,30 @@
--- `capi::beanmorrow_record_text` meets its contract: each answer of the writer is handed on as its number. Assumes nothing.
+-- `capi::beanmorrow_record_text` meets its contract: each answer of the writer is handed on as its number.
+use mathlib.Core.Path.{_≡_}
 use borrow.Author.Needs.{needs}
+use lib.ListN.{length}
+use Rattle.area.specs.Laid.{inFront}
 use Rattle.fields.specs.Written.{writtenAnswer, writtenLength}
+use Rattle.fields.specs.declared.Written.{Written}
 use Rattle.fields.specs.declared.Written.the-variants as Written
 use Rattle.record.specs.Decoded.{decoded}
 use Rattle.record_text.specs.RecordText.{textAnswer, textWritten}
 use Rattle.capi.proofs.Answers.{handed-on}
 use Rattle.capi.proofs.beanmorrow_record_text.Statement.{statement}
 use Rattle.capi.proofs.beanmorrow_record_text.Tie as tie
+
+-- the place where the writer has answered, and what that answer is once it is told
+abbrev start : tie.After-write-text → tie.Start
+start c = c .before .before .before .before
+
+answered : (c : tie.After-write-text) (v : Written) → c .write-text .result ≡ v → let a = start c .args in
+    (writtenAnswer v ≡ textAnswer (decoded (a .bytes .now)) (a .text .now)) ×
+    ((writtenLength v ≡ length (textWritten (decoded (a .bytes .now)) (a .text .now))) ×
+    (c .write-text .last .1 .0 ≡ inFront (textWritten (decoded (a .bytes .now)) (a .text .now)) (a .text .now)))
+answered c v e =
+    let a = start c .args in
+    let d = decoded (a .bytes .now) in
+    handed-on {A = c .write-text .last .1 .0 ≡ inFront (textWritten d (a .text .now)) (a .text .now)} (textAnswer d (a .text .now))
+    (textWritten d (a .text .now)) (c .write-text .result) v (c .write-text .ensures) e
 
 write-text-requires : tie.Need-write-text-requires
 write-text-requires c κs = tt
@@ -26,29 +44,22 @@ same-length c = search needs
 returns : tie.Need-returns
 unfolding writtenAnswer writtenLength
 returns c =
-    let a = c .before .before .before .before .before .before .before .before .before .args in
-    let w = c .before .before .before .before .before .write-text in
-    handed-on (textAnswer (decoded (a .bytes .now)) (a .text .now)) (textWritten (decoded (a .bytes .now)) (a .text .now)) (w .result) (Written.Text (c .before .n .given .0 .0)) (w .ensures) (c .before .n .given .1)
+    let w = c .before .before .before .before .before in
+    answered w (Written.Text (c .before .n .given .0 .0)) (c .before .n .given .1)
 
 same-length-2 : tie.Need-same-length-2
 same-length-2 c = search needs
 
 returns-2 : tie.Need-returns-2
 unfolding writtenAnswer writtenLength
-returns-2 c =
-    let a = c .before .before .before .before .before .before .before .before .args in
-    let w = c .before .before .before .before .write-text in
-    handed-on (textAnswer (decoded (a .bytes .now)) (a .text .now)) (textWritten (decoded (a .bytes .now)) (a .text .now)) (w .result) Written.ShortArea (w .ensures) (c .enum-told .given .1)
+returns-2 c = answered (c .before .before .before .before) Written.ShortArea (c .enum-told .given .1)
 
 same-length-3 : tie.Need-same-length-3
 same-length-3 c = search needs
 
 returns-3 : tie.Need-returns-3
 unfolding writtenAnswer writtenLength
-returns-3 c =
-    let a = c .before .before .before .before .before .before .before .before .args in
-    let w = c .before .before .before .before .write-text in
-    handed-on (textAnswer (decoded (a .bytes .now)) (a .text .now)) (textWritten (decoded (a .bytes .now)) (a .text .now)) (w .result) Written.Malformed (w .ensures) (c .enum-told2 .given .1)
+returns-3 c = answered (c .before .before .before .before) Written.Malformed (c .enum-told2 .given .1)
 
 pub beanmorrow-record-text-spec : {M : Type 1} → statement M
 beanmorrow-record-text-spec =

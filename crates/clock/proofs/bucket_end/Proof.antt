@@ -1,4 +1,4 @@
--- `clock::bucket_end` meets its contract: a product of two numbers of 32 bits, and one more, fit 64. Assumes nothing.
+-- `clock::bucket_end` meets its contract: a product of two numbers of 32 bits, and one more, fit 64.
 use mathlib.Core.Path.{refl}
 use Prim.Native.Nat.{_+_}
 use native.Mathlib.Omega.{arith}
@@ -8,10 +8,10 @@ use Rattle.clock.proofs.bucket_end.Statement.{statement}
 use Rattle.clock.proofs.bucket_end.Tie as tie
 
 mul-result : tie.Need-mul-result
-mul-result c = omega (arith, product-le (c .args .j) (c .args .length) (omega arith) (omega arith))
+mul-result c = omega (arith, product-le (c .args .j) (c .args .bucket) (omega arith) (omega arith))
 
 add-result : tie.Need-add-result
-add-result c = omega (arith, product-le (c .args .j + 1) (c .args .length) (omega arith) (omega arith))
+add-result c = omega (arith, product-le (c .args .j + 1) (c .args .bucket) (omega arith) (omega arith))
 
 returns : tie.Need-returns
 unfolding bucketEnd

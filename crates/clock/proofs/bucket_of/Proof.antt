@@ -1,4 +1,4 @@
--- `clock::bucket_of` meets its contract: the code divides as the definition does. Assumes nothing.
+-- `clock::bucket_of` meets its contract: the code divides as the definition does.
 use mathlib.Core.Path.{refl}
 use borrow.Author.Needs.{needs}
 use Rattle.clock.specs.Buckets.{bucketOf}

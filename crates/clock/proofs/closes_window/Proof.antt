@@ -1,4 +1,4 @@
--- `clock::closes_window` meets its contract: the code takes the remainder as the definition does. Assumes nothing.
+-- `clock::closes_window` meets its contract: the code takes the remainder as the definition does.
 use mathlib.Core.Path.{refl}
 use borrow.Author.Needs.{needs}
 use Rattle.clock.specs.Windows.{closesWindow}

@@ -1,4 +1,4 @@
--- `clock::is_due` meets its contract: in 64 bits the sum of two ticks does not wrap. Assumes nothing.
+-- `clock::is_due` meets its contract: in 64 bits the sum of two ticks does not wrap.
 use mathlib.Core.Path.{refl}
 use borrow.Author.Needs.{needs}
 use Rattle.clock.specs.Hold.{isDue}

@@ -1,4 +1,4 @@
--- `clock::is_finished` meets its contract: the bucket's end is compared with the boundary. Assumes nothing.
+-- `clock::is_finished` meets its contract: the bucket's end is compared with the boundary.
 use mathlib.Core.Path.{ap}
 use Prim.Native.Nat.{ℕ}
 use borrow.Author.Needs.{needs}

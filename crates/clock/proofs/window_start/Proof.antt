@@ -1,4 +1,4 @@
--- `clock::window_start` meets its contract: a difference that would fall below 0 is 0 in the definition too. Assumes nothing.
+-- `clock::window_start` meets its contract: a difference that would fall below 0 is 0 in the definition too.
 use mathlib.Core.Path.{refl, sym}
 use Prim.Native.Nat.{_+_, _-_}
 use native.Mathlib.Omega.{arith}
@@ -15,7 +15,7 @@ add-next c = search needs
 returns : tie.Need-returns
 returns c =
     let a = c .before .args in
-    sym (windowStart-early (a .length) (a .window) (a .j) (omega arith))
+    sym (windowStart-early (a .bucket) (a .window) (a .j) (omega arith))
 
 sub-result : tie.Need-sub-result
 sub-result c = search needs
@@ -23,7 +23,7 @@ sub-result c = search needs
 mul-result : tie.Need-mul-result
 mul-result c =
     let a = c .before .args in
-    omega (arith, product-le (a .j + 1 - a .window) (a .length) (omega arith) (omega arith))
+    omega (arith, product-le (a .j + 1 - a .window) (a .bucket) (omega arith) (omega arith))
 
 returns-2 : tie.Need-returns-2
 unfolding windowStart

@@ -30,7 +30,9 @@ returns c = rw (sym (c .before .before .number-field .ensures) ∙ c .enum-told 
 abbrev start : tie.After-display → tie.Start
 start c = c .before .before .before .before .before
 
-display-read : (c : tie.After-display) → numberField (start c .args .start .now) (2 ^ 32 - 1) (start c .args .text .now) 0 ≡ Number.Value (c .display .given .0 .0) (c .display .given .0 .1 .0)
+display-read :
+    (c : tie.After-display) →
+    numberField (start c .args .start .now) (2 ^ 32 - 1) (start c .args .text .now) 0 ≡ Number.Value (c .display .given .0 .0) (c .display .given .0 .1 .0)
 display-read c = sym (c .before .before .number-field .ensures) ∙ c .display .given .1
 
 slice-aggregate-wide-field : tie.Need-slice-aggregate-wide-field
@@ -55,7 +57,9 @@ returns-2 c =
 abbrev display : tie.After-id → tie.After-display
 display c = c .before .before .before .before .before
 
-id-read : (c : tie.After-id) → numberField (later idKey) widestId (start (display c) .args .text .now) (display c .display .given .0 .1 .0) ≡ Number.Value (c .id .given .0 .0) (c .id .given .0 .1 .0)
+id-read :
+    (c : tie.After-id) →
+    numberField (later idKey) widestId (start (display c) .args .text .now) (display c .display .given .0 .1 .0) ≡ Number.Value (c .id .given .0 .0) (c .id .given .0 .1 .0)
 id-read c = widened-value _ _ _ (sym (c .before .before .wide-field .ensures) ∙ c .id .given .1)
 
 ends-line-requires : tie.Need-ends-line-requires

@@ -1,4 +1,4 @@
--- `decimal::count_digits` meets its contract: each turn takes the last digit away and counts it. Assumes nothing.
+-- `decimal::count_digits` meets its contract: each turn takes the last digit away and counts it.
 use mathlib.Core.Path.{_≡_, ap}
 use Prim.Native.Nat.{_+_, _<_, _^_}
 use native.Mathlib.Omega.{arith}

@@ -1,4 +1,4 @@
--- `decimal::fill_digits` meets its contract: laying down the digits that are left makes the whole number's text. Assumes nothing.
+-- `decimal::fill_digits` meets its contract: laying down the digits that are left makes the whole number's text.
 use mathlib.Core.Path.{_≡_, refl, _∙_}
 use Prim.Native.Nat.{_+_, _<_, _≤_, _^_}
 use native.Mathlib.Omega.{arith}

@@ -1,4 +1,4 @@
--- `decimal::negative` meets its contract: 0 less a magnitude of at most 2^31 fits 32 bits. Assumes nothing.
+-- `decimal::negative` meets its contract: 0 less a magnitude of at most 2^31 fits 32 bits.
 use Prim.Native.Nat.{_<_, _^_}
 use native.Mathlib.Omega.{arith}
 use borrow.Author.Needs.{needs}

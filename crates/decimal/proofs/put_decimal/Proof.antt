@@ -1,4 +1,4 @@
--- `decimal::put_decimal` meets its contract: a minus where the number is below zero, and the digits of its magnitude. Assumes nothing.
+-- `decimal::put_decimal` meets its contract: a minus where the number is below zero, and the digits of its magnitude.
 use mathlib.Core.Path.{_≡_, ap, _∙_}
 use mathlib.Core.List.{_∷_}
 use native.Mathlib.Omega.{arith}
@@ -22,8 +22,8 @@ minus-text c =
     decimal-below-zero (b .args .z) (below-zero (b .fits .z) (c .if1 .taken))
     ∙ rw (c .before .magnitude .ensures, toZ-ofZ (b .fits .z))
 
-plain-text : (c : tie.Else1) → decimal (c .before .before .before .args .z) ≡ digits (c .before .magnitude .result)
-plain-text c =
+asInteger-text : (c : tie.Else1) → decimal (c .before .before .before .args .z) ≡ digits (c .before .magnitude .result)
+asInteger-text c =
     let b = c .before .before .before in
     decimal-from-zero (b .args .z) (rw (toZ-ofZ (b .fits .z)) at (c .if1 .left))
     ∙ rw (c .before .magnitude .ensures, toZ-ofZ (b .fits .z))
@@ -48,13 +48,13 @@ returns c =
     rw (minus-text t) (omega arith, r .1 ∙ laid-minus (b .args .out .now) (b .args .at) (digits (t .before .magnitude .result)))
 
 put-digits-requires-2 : tie.Need-put-digits-requires-2
-put-digits-requires-2 c κs = omega (arith, ap length (plain-text (c .before)))
+put-digits-requires-2 c κs = omega (arith, ap length (asInteger-text (c .before)))
 
 same-length-2 : tie.Need-same-length-2
 same-length-2 c = c .before .before .put-digits2 .kept .0
 
 returns-2 : tie.Need-returns-2
-returns-2 c = rw (plain-text (c .before .before .before .before)) (c .before .before .put-digits2 .ensures)
+returns-2 c = rw (asInteger-text (c .before .before .before .before)) (c .before .before .put-digits2 .ensures)
 
 pub put-decimal-spec : {M : Type 1} → statement M
 put-decimal-spec =

@@ -1,4 +1,4 @@
--- `decimal::read_integer` meets its contract: it follows the definition, and each magnitude that was read fits. Assumes nothing.
+-- `decimal::read_integer` meets its contract: it follows the definition, and each magnitude that was read fits.
 use mathlib.Core.Path.{_≡_, sym, ap, _∙_}
 use mathlib.Core.Logic.{⊎-elim}
 use Prim.Native.Nat.{_+_, _-_, _^_}
@@ -7,10 +7,10 @@ use lib.IntN.{ℤ}
 use lib.ListN.{getD, List·getD-eq-default}
 use mir.Syntax.{w32}
 use mir.Facts.{toZ-pos}
-use Rattle.decimal.specs.Spelled.{negated, plain}
+use Rattle.decimal.specs.Spelled.{negated, asInteger}
 use Rattle.decimal.specs.declared.Integer.the-variants as Integer
 use Rattle.decimal.proofs.Numbers.{number-most}
-use Rattle.decimal.proofs.Integers.{integer-minus, integer-plain}
+use Rattle.decimal.proofs.Integers.{integer-minus, integer-asInteger}
 use Rattle.decimal.proofs.read_integer.Statement.{statement}
 use Rattle.decimal.proofs.read_integer.Tie as tie
 
@@ -65,11 +65,11 @@ no-minus c e =
     (c .if1 .came)
 
 returns-3 : tie.Need-returns-3
-unfolding plain
+unfolding asInteger
 returns-3 c =
     let a = c .before .before .before .before .before .args in
     let n = sym (c .before .before .read-number2 .ensures) ∙ c .enum-told2 .given .1 in
-    sym (integer-plain (a .s .now) (a .at) (no-minus (c .before .before .before)) ∙ ap plain n)
+    sym (integer-asInteger (a .s .now) (a .at) (no-minus (c .before .before .before)) ∙ ap asInteger n)
 
 cast-t15 : tie.Need-cast-t15
 cast-t15 c =
@@ -79,13 +79,13 @@ cast-t15 c =
     record { sfits = omega arith }
 
 returns-4 : tie.Need-returns-4
-unfolding plain
+unfolding asInteger
 returns-4 c =
     let a = c .before .before .before .before .before .before .args in
     let n = sym (c .before .before .before .read-number2 .ensures) ∙ c .before .m2 .given .1 in
     let m = number-most (2 ^ 31 - 1) (a .s .now) (a .at) _ _ n in
     ap (λ (z : ℤ). Integer.Value z (c .before .m2 .given .0 .1 .0)) (toZ-pos w32 (omega arith))
-    ∙ sym (integer-plain (a .s .now) (a .at) (no-minus (c .before .before .before .before)) ∙ ap plain n)
+    ∙ sym (integer-asInteger (a .s .now) (a .at) (no-minus (c .before .before .before .before)) ∙ ap asInteger n)
 
 pub read-integer-spec : {M : Type 1} → statement M
 read-integer-spec =

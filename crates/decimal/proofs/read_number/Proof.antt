@@ -1,4 +1,4 @@
--- `decimal::read_number` meets its contract: it is what is read with 64 bits, which 32 bits hold. Assumes nothing.
+-- `decimal::read_number` meets its contract: it is what is read with 64 bits, which 32 bits hold.
 use mathlib.Core.Path.{_≡_, sym, _∙_}
 use native.Mathlib.Omega.{arith}
 use Rattle.decimal.specs.Spelled.{numberAt}

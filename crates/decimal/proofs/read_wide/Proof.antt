@@ -1,4 +1,4 @@
--- `decimal::read_wide` meets its contract: its tests are those of the definition, on the run that was scanned. Assumes nothing.
+-- `decimal::read_wide` meets its contract: its tests are those of the definition, on the run that was scanned.
 use mathlib.Core.Path.{_≡_, sym, ap, ap₂, _∙_}
 use mathlib.Core.Logic.{⊎-elim}
 use Prim.Native.Nat.{_+_, _≤_}

@@ -1,4 +1,4 @@
--- `decimal::scan` meets its contract: in the loop what is left of the run makes the whole. Assumes nothing.
+-- `decimal::scan` meets its contract: in the loop what is left of the run makes the whole.
 use mathlib.Core.Logic.{⊎-elim}
 use Prim.Native.Nat.{ℕ, _+_, _-_, _*_, _<_, _≤_, _^_}
 use native.Mathlib.Numerals.{add-one}

@@ -1,4 +1,4 @@
--- `endian::get4` meets its contract: the four bytes from the place on, one after the other. Assumes nothing.
+-- `endian::get4` meets its contract: the four bytes from the place on, one after the other.
 use Prim.Native.Nat.{_+_}
 use native.Mathlib.Omega.{arith}
 use Rattle.endian.specs.LittleEndian.{numberOf}

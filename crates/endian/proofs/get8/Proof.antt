@@ -1,4 +1,4 @@
--- `endian::get8` meets its contract: the number of the low four bytes, and of the four behind them. Assumes nothing.
+-- `endian::get8` meets its contract: the number of the low four bytes, and of the four behind them.
 use native.Mathlib.Omega.{arith}
 use Rattle.endian.proofs.LittleEndian.{numberOf-add}
 use Rattle.endian.proofs.get8.Statement.{statement}

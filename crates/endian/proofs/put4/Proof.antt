@@ -1,4 +1,4 @@
--- `endian::put4` meets its contract: four stores, one behind the other, of the word's four bytes. Assumes nothing.
+-- `endian::put4` meets its contract: four stores, one behind the other, of the word's four bytes.
 use mathlib.Core.Path.{_≡_}
 use Prim.Native.Nat.{suc, _+_}
 use native.Mathlib.Omega.{arith}

@@ -1,4 +1,4 @@
--- `endian::put8` meets its contract: the low word laid down, and the high one behind it. Assumes nothing.
+-- `endian::put8` meets its contract: the low word laid down, and the high one behind it.
 use mathlib.Core.Path.{_∙_}
 use Prim.Native.Nat.{_+_, _/_, _%_}
 use native.Mathlib.Omega.{arith}

@@ -1,4 +1,4 @@
--- `fields::ends_line` meets its contract; past the end of a text no byte is 0A. Assumes nothing.
+-- `fields::ends_line` meets its contract; past the end of a text no byte is 0A.
 use mathlib.Core.Path.{refl, sym}
 use Rattle.fields.specs.Field.{endsLine}
 use Rattle.fields.proofs.Fields.{no-end-past}

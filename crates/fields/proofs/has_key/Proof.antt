@@ -1,4 +1,4 @@
--- `fields::has_key` meets its contract: in the loop the first i bytes agree, so that the rest decides. Assumes nothing.
+-- `fields::has_key` meets its contract: in the loop the first i bytes agree, so that the rest decides.
 use mathlib.Core.Path.{_≡_, sym, _∙_}
 use Prim.Native.Nat.{_≤_, _-_, _+_}
 use native.Mathlib.Omega.{arith}

@@ -1,4 +1,4 @@
--- `fields::next_line` meets its contract: in the loop the first i bytes hold no 0A. Assumes nothing.
+-- `fields::next_line` meets its contract: in the loop the first i bytes hold no 0A.
 use mathlib.Core.Path.{_≡_, refl, sym}
 use mathlib.Core.List.{_++_}
 use Prim.Native.Nat.{_≤_, _-_}
@@ -34,7 +34,7 @@ returns : tie.Need-returns Inv-loop μ-loop
 returns c =
     let l = c .before .before .before .before .loop in
     let s = c .before .before .before .before .before .args .s .now in
-    rw add-one (next-found s (l .i) (omega arith) (c .before .if1 .taken) (l .inv .1))
+    (rw add-one (next-found s (l .i) (omega arith) (c .before .if1 .taken) (l .inv .1)), refl)
 
 add-i : tie.Need-add-i Inv-loop μ-loop
 add-i c = omega arith
@@ -50,7 +50,7 @@ loop-again c =
 
 returns-2 : tie.Need-returns-2 Inv-loop μ-loop
 returns-2 c =
-    next-ended (c .before .before .args .s .now) (c .before .loop .i) (omega arith) (c .before .loop .inv .1)
+    (next-ended (c .before .before .args .s .now) (c .before .loop .i) (omega arith) (c .before .loop .inv .1), refl)
 
 pub next-line-spec : {M : Type 1} → statement M
 next-line-spec =

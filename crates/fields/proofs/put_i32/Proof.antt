@@ -1,4 +1,4 @@
--- `fields::put_i32` meets its contract: a number keeps its value as it is widened. Assumes nothing.
+-- `fields::put_i32` meets its contract: a number keeps its value as it is widened.
 use mathlib.Core.Path.{_≡_}
 use lib.IntN.{ℤ}
 use mir.Syntax.{w32, w64}

@@ -1,4 +1,4 @@
--- `fields::put_last` meets its contract: the field and behind it the 0A are one run of bytes. Assumes nothing.
+-- `fields::put_last` meets its contract: the field and behind it the 0A are one run of bytes.
 use native.Mathlib.Omega.{arith}
 use mathlib.Core.List.{[], _∷_, _++_, append-assoc}
 use lib.ListN.{length-append, length-set}

@@ -1,4 +1,4 @@
--- `fields::put_letter` meets its contract: the key and behind it the letter are one run of bytes. Assumes nothing.
+-- `fields::put_letter` meets its contract: the key and behind it the letter are one run of bytes.
 use native.Mathlib.Omega.{arith}
 use mathlib.Core.List.{[], _∷_}
 use lib.ListN.{length-append, length-set}

@@ -1,4 +1,4 @@
--- `fields::put_u32` meets its contract: a number keeps its value as it is widened. Assumes nothing.
+-- `fields::put_u32` meets its contract: a number keeps its value as it is widened.
 use native.Mathlib.Omega.{arith}
 use mathlib.Core.Path.{_≡_}
 use Prim.Native.Nat.{ℕ, _<_, _^_}

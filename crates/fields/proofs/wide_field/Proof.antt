@@ -1,4 +1,4 @@
--- `fields::wide_field` meets its contract: the key is there and the number is read behind it, or nothing is read. Assumes nothing.
+-- `fields::wide_field` meets its contract: the key is there and the number is read behind it, or nothing is read.
 use native.Mathlib.Omega.{arith}
 use mathlib.Core.Path.{_≡_, sym, _∙_}
 use mathlib.Core.Bool.{true, false}

@@ -1,5 +1,5 @@
 -- `journal::call_at` meets its contract: at each return the fields read so far, and the one that was not, are those of the
--- definition. Assumes nothing.
+-- definition.
 use mathlib.Core.Path.{_≡_, refl, sym, _∙_}
 use Prim.Native.Nat.{_-_, _^_}
 use native.Mathlib.Omega.{arith}
@@ -34,7 +34,9 @@ returns c = rw (sym (c .before .before .number-field .ensures) ∙ c .enum-told 
 abbrev start : tie.After-now → tie.Start
 start c = c .before .before .before .before .before
 
-now-read : (c : tie.After-now) → numberField (first nowKey) (2 ^ 32 - 1) (start c .args .s .now) (start c .args .at) ≡ Number.Value (c .now .given .0 .0) (c .now .given .0 .1 .0)
+now-read :
+    (c : tie.After-now) →
+    numberField (first nowKey) (2 ^ 32 - 1) (start c .args .s .now) (start c .args .at) ≡ Number.Value (c .now .given .0 .0) (c .now .given .0 .1 .0)
 now-read c = sym (c .before .before .number-field .ensures) ∙ c .now .given .1
 
 slice-aggregate-number-field-2 : tie.Need-slice-aggregate-number-field-2
@@ -59,7 +61,9 @@ returns-2 c =
 abbrev now : tie.After-line → tie.After-now
 now c = c .before .before .before .before .before
 
-line-read : (c : tie.After-line) → numberField (later lineKey) 255 (start (now c) .args .s .now) (now c .now .given .0 .1 .0) ≡ Number.Value (c .line .given .0 .0) (c .line .given .0 .1 .0)
+line-read :
+    (c : tie.After-line) →
+    numberField (later lineKey) 255 (start (now c) .args .s .now) (now c .now .given .0 .1 .0) ≡ Number.Value (c .line .given .0 .0) (c .line .given .0 .1 .0)
 line-read c = sym (c .before .before .number-field2 .ensures) ∙ c .line .given .1
 
 slice-aggregate-letter-field : tie.Need-slice-aggregate-letter-field
@@ -85,7 +89,9 @@ returns-3 c =
 abbrev line : tie.After-kind → tie.After-line
 line c = c .before .before .before .before .before
 
-kind-read : (c : tie.After-kind) → letterField (later kindKey) (start (now (line c)) .args .s .now) (line c .line .given .0 .1 .0) ≡ Number.Value (c .kind .given .0 .0) (c .kind .given .0 .1 .0)
+kind-read :
+    (c : tie.After-kind) →
+    letterField (later kindKey) (start (now (line c)) .args .s .now) (line c .line .given .0 .1 .0) ≡ Number.Value (c .kind .given .0 .0) (c .kind .given .0 .1 .0)
 kind-read c = sym (c .before .before .letter-field .ensures) ∙ c .kind .given .1
 
 slice-aggregate-number-field-3 : tie.Need-slice-aggregate-number-field-3
@@ -112,7 +118,9 @@ returns-4 c =
 abbrev kind : tie.After-id → tie.After-kind
 kind c = c .before .before .before .before .before
 
-id-read : (c : tie.After-id) → numberField (later idKey) (2 ^ 32 - 1) (start (now (line (kind c))) .args .s .now) (kind c .kind .given .0 .1 .0) ≡ Number.Value (c .id .given .0 .0) (c .id .given .0 .1 .0)
+id-read :
+    (c : tie.After-id) →
+    numberField (later idKey) (2 ^ 32 - 1) (start (now (line (kind c))) .args .s .now) (kind c .kind .given .0 .1 .0) ≡ Number.Value (c .id .given .0 .0) (c .id .given .0 .1 .0)
 id-read c = sym (c .before .before .number-field3 .ensures) ∙ c .id .given .1
 
 slice-aggregate-number-field-4 : tie.Need-slice-aggregate-number-field-4
@@ -140,7 +148,9 @@ returns-5 c =
 abbrev id : tie.After-time → tie.After-id
 id c = c .before .before .before .before .before
 
-time-read : (c : tie.After-time) → numberField (later timeKey) (2 ^ 32 - 1) (start (now (line (kind (id c)))) .args .s .now) (id c .id .given .0 .1 .0) ≡ Number.Value (c .time .given .0 .0) (c .time .given .0 .1 .0)
+time-read :
+    (c : tie.After-time) →
+    numberField (later timeKey) (2 ^ 32 - 1) (start (now (line (kind (id c)))) .args .s .now) (id c .id .given .0 .1 .0) ≡ Number.Value (c .time .given .0 .0) (c .time .given .0 .1 .0)
 time-read c = sym (c .before .before .number-field4 .ensures) ∙ c .time .given .1
 
 slice-aggregate-number-field-5 : tie.Need-slice-aggregate-number-field-5
@@ -169,7 +179,9 @@ returns-6 c =
 abbrev time : tie.After-meter → tie.After-time
 time c = c .before .before .before .before .before
 
-meter-read : (c : tie.After-meter) → numberField (later meterKey) 255 (start (now (line (kind (id (time c))))) .args .s .now) (time c .time .given .0 .1 .0) ≡ Number.Value (c .meter .given .0 .0) (c .meter .given .0 .1 .0)
+meter-read :
+    (c : tie.After-meter) →
+    numberField (later meterKey) 255 (start (now (line (kind (id (time c))))) .args .s .now) (time c .time .given .0 .1 .0) ≡ Number.Value (c .meter .given .0 .0) (c .meter .given .0 .1 .0)
 meter-read c = sym (c .before .before .number-field5 .ensures) ∙ c .meter .given .1
 
 slice-aggregate-integer-field : tie.Need-slice-aggregate-integer-field
@@ -199,7 +211,9 @@ returns-7 c =
 abbrev meter : tie.After-value → tie.After-meter
 meter c = c .before .before .before .before .before
 
-value-read : (c : tie.After-value) → integerField (later valueKey) (start (now (line (kind (id (time (meter c)))))) .args .s .now) (meter c .meter .given .0 .1 .0) ≡ Integer.Value (c .value .given .0 .0) (c .value .given .0 .1 .0)
+value-read :
+    (c : tie.After-value) →
+    integerField (later valueKey) (start (now (line (kind (id (time (meter c)))))) .args .s .now) (meter c .meter .given .0 .1 .0) ≡ Integer.Value (c .value .given .0 .0) (c .value .given .0 .1 .0)
 value-read c = sym (c .before .before .integer-field .ensures) ∙ c .value .given .1
 
 ends-line-requires : tie.Need-ends-line-requires

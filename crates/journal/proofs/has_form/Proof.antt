@@ -1,4 +1,4 @@
--- `journal::has_form` meets its contract, by the answer's case. Assumes nothing.
+-- `journal::has_form` meets its contract, by the answer's case.
 use mathlib.Core.Path.{sym, _∙_}
 use Rattle.journal.specs.JournalLine.{callAnswer, hasForm}
 use Rattle.journal.proofs.has_form.Statement.{statement}

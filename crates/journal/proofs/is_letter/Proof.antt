@@ -1,4 +1,4 @@
--- `journal::is_letter` meets its contract: the code is the definition. Assumes nothing.
+-- `journal::is_letter` meets its contract: the code is the definition.
 use mathlib.Core.Path.{refl}
 use Rattle.journal.specs.Kinds.{isLetter}
 use Rattle.journal.proofs.is_letter.Statement.{statement}

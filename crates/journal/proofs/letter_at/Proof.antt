@@ -1,4 +1,4 @@
--- `journal::letter_at` meets its contract; past the end of a text stands no letter. Assumes nothing.
+-- `journal::letter_at` meets its contract; past the end of a text stands no letter.
 use native.Mathlib.Omega.{arith}
 use borrow.Author.Needs.{needs}
 use mathlib.Core.Path.{sym, _∙_}

@@ -1,4 +1,4 @@
--- `journal::read_call` meets its contract: the answer is the definition's, which is exact. Assumes nothing.
+-- `journal::read_call` meets its contract: the answer is the definition's, which is exact.
 use mathlib.Core.Path.{_≡_, sym, subst, _∙_}
 use mathlib.Core.List.{List}
 use Prim.Native.Nat.{ℕ}

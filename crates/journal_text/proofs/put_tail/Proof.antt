@@ -1,4 +1,4 @@
--- `journal_text::put_tail` meets its contract: four stretches, each behind the one before. Assumes nothing.
+-- `journal_text::put_tail` meets its contract: four stretches, each behind the one before.
 use borrow.Author.Needs.{needs}
 use mathlib.Core.Path.{refl, _∙_}
 use mir.Syntax.{w32}

@@ -1,5 +1,4 @@
 -- `journal_text::write_call` meets its contract: the longest line has room, and its two parts behind each other are the line.
--- Assumes nothing.
 use native.Mathlib.Omega.{arith}
 use borrow.Author.Needs.{needs}
 use mathlib.Core.Path.{_≡_, sym, ap, _∙_}
@@ -26,10 +25,24 @@ returns c =
     let letter = sym (c .before .before .is-letter .ensures) ∙ c .before .if1 .taken in
     short-area (b .args .c) (b .args .out .now) letter (omega (arith, c .if2 .taken))
 
+-- ---- the places on the way, each from the one behind it, and what is known there
+
+abbrev start : tie.Then1 → tie.Start
+start c = c .before .before .before
+
+abbrev lettered : tie.Else2 → tie.Then1
+lettered c = c .before
+
+abbrev roomy : tie.After-put-head → tie.Else2
+roomy c = c .before .before
+
+abbrev headed : tie.After-put-tail → tie.After-put-head
+headed c = c .before .before .before .before
+
 -- a call with a letter fits, so that its line is no longer than the longest
-parts-short : (c : tie.Then1) → length (callHead (c .before .before .before .args .c)) + length (callTail (c .before .before .before .args .c)) ≤ longestJournalLine
+parts-short : (c : tie.Then1) → let k = start c .args .c in length (callHead k) + length (callTail k) ≤ longestJournalLine
 parts-short c =
-    let k = c .before .before .before .args .c in
+    let k = start c .args .c in
     let letter = sym (c .before .is-letter .ensures) ∙ c .if1 .taken in
     let fits : CallFits k =
     record {
@@ -48,30 +61,32 @@ put-head-requires c κs = omega (arith, parts-short (c .before .before))
 
 put-tail-requires : tie.Need-put-tail-requires
 put-tail-requires c κs =
-    let t = c .before .before .before .before .before .before in
-    let p = c .before .before .before .put-head in
-    omega (arith, parts-short t, c .before .before .before .before .before .if2 .left, p .ensures .0, p .kept .0)
+    let p = c .before .before .before in
+    let e = roomy p in
+    omega (arith, parts-short (lettered e), e .if2 .left, p .put-head .ensures .0, p .put-head .kept .0)
 
 same-length : tie.Need-same-length
-same-length c = c .before .before .put-tail .kept .0 ∙ c .before .before .before .before .before .before .put-head .kept .0
+same-length c = let q = c .before .before in q .put-tail .kept .0 ∙ headed q .put-head .kept .0
 
 returns-2 : tie.Need-returns-2
 returns-2 c =
-    let t = c .before .before .before .before .before .before .before .before .before in
-    let b = t .before .before .before in
-    let k = b .args .c in
-    let out = b .args .out .now in
-    let letter = sym (t .before .is-letter .ensures) ∙ t .if1 .taken in
-    let room = c .before .before .before .before .before .before .before .before .if2 .left in
-    let p = c .before .before .before .before .before .before .put-head in
     let q = c .before .before .put-tail in
-    let size : q .result ≡ length (lineText k) = omega (arith, p .ensures .0, q .ensures .0, ap length (text-parts k), length-append (callHead k) (callTail k)) in
+    let p = headed (c .before .before) .put-head in
+    let e = roomy (headed (c .before .before)) in
+    let t = lettered e in
+    let k = start t .args .c in
+    let out = start t .args .out .now in
+    let letter = sym (t .before .is-letter .ensures) ∙ t .if1 .taken in
+    let room = e .if2 .left in
+    let size : q .result ≡ length (lineText k) =
+    omega (arith, p .ensures .0, q .ensures .0, ap length (text-parts k), length-append (callHead k) (callTail k)) in
     let whole : q .last .0 ≡ laid out 0 (lineText k) =
     q .ensures .1
     ∙ ap (λ (l : List ℕ). laid l (p .result) (callTail k)) (p .ensures .1)
     ∙ laid-laid out 0 (p .result) (callHead k) (callTail k) (omega (arith, p .ensures .0))
     ∙ ap (laid out 0) (sym (text-parts k)) in
-    let fits : length (lineText k) ≤ length out = omega (arith, parts-short t, room, ap length (text-parts k), length-append (callHead k) (callTail k)) in
+    let fits : length (lineText k) ≤ length out =
+    omega (arith, parts-short t, room, ap length (text-parts k), length-append (callHead k) (callTail k)) in
     line-written k out (q .last .0) (q .result) letter (omega (arith, room)) size (whole ∙ laid-front out (lineText k) fits)
 
 returns-3 : tie.Need-returns-3

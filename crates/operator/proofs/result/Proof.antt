@@ -1,4 +1,4 @@
--- `operator::result` meets its contract: each field is the definition's, and the mean is what `mean_of` ensures. Assumes nothing.
+-- `operator::result` meets its contract: each field is the definition's, and the mean is what `mean_of` ensures.
 use mathlib.Core.Path.{_≡_}
 use borrow.Author.Needs.{needs}
 use mir.Syntax.{w32, w64}

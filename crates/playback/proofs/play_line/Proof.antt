@@ -8,11 +8,11 @@ use Rattle.operator.specs.Meters.{meterCount}
 use Rattle.operator.proofs.FromPlace.{length-mapped}
 use Rattle.store.specs.Columns.{columnsOf}
 use Rattle.node.specs.View.{Lent, lentOf}
-use Rattle.node.specs.Calls.{Called}
+use Rattle.node.specs.Calls.{Called, calledOf}
 use Rattle.node.proofs.Few.{Fewest}
-use Rattle.dispatch.specs.Dispatch.{calledOf, dispatched}
-use Rattle.dispatch.proofs.Few.{dispatched-few}
-use Rattle.reply.specs.Reply.{replyText}
+use Rattle.playback_dispatch.specs.Dispatch.{dispatched}
+use Rattle.playback_dispatch.proofs.Few.{dispatched-few}
+use Rattle.playback_reply.specs.Reply.{replyText}
 use Rattle.playback.proofs.play_line.Statement.{statement}
 use Rattle.playback.proofs.play_line.Tie as tie
 
@@ -39,6 +39,12 @@ few s = dispatched-few (s .args .state) (lent s) (s .args .area .now) (s .args .
 abbrev entered : tie.After-make-call → tie.Start
 entered d = d .before .before .before .before .before .before .before .before .before .before .before .before .before .before .before .before .before .before
 
+abbrev called : tie.After-put-reply-arg2 → tie.After-make-call
+called a = a .before .before .before .before .before .before .before .before .before .before .before .before .before .before .before .before .before .before .before
+
+abbrev replied : tie.After-slice-known16 → tie.After-put-reply
+replied c = c .before .before
+
 abbrev made : tie.After-make-call → Called
 made d =
     let l = d .make-call .last .1 .1 .1 in
@@ -55,54 +61,51 @@ make-call-requires c κs = search needs
 
 put-reply-requires : tie.Need-put-reply-requires
 put-reply-requires c κs =
-    let d = c .before .before .before .before .before .before .before .before .before .before .before .before .before .before .before .before .before .before .before in
+    let d = called c in
     let s = entered d in
     let few = few s in
     let same = ap (λ (q : Called). q .records) (left d) in
     (s .pre, omega (arith, same, few .0), omega (arith, same, few .1, d .make-call .kept .1 .1 .1 .1 .1 .1 .1 .1 .1 .1 .1 .0))
 
-abbrev called : tie.After-slice-known16 → tie.After-make-call
-called c = c .before .before .before .before .before .before .before .before .before .before .before .before .before .before .before .before .before .before .before .before .before .before
-
 same-length : tie.Need-same-length
-same-length c = called c .make-call .kept .1 .1 .1 .0
+same-length c = called (replied c .before) .make-call .kept .1 .1 .1 .0
 
 same-length-2 : tie.Need-same-length-2
-same-length-2 c = called c .make-call .kept .1 .1 .1 .1 .0
+same-length-2 c = called (replied c .before) .make-call .kept .1 .1 .1 .1 .0
 
 same-length-3 : tie.Need-same-length-3
-same-length-3 c = called c .make-call .kept .1 .1 .1 .1 .1 .0
+same-length-3 c = called (replied c .before) .make-call .kept .1 .1 .1 .1 .1 .0
 
 same-length-4 : tie.Need-same-length-4
-same-length-4 c = called c .make-call .kept .1 .1 .1 .1 .1 .1 .0
+same-length-4 c = called (replied c .before) .make-call .kept .1 .1 .1 .1 .1 .1 .0
 
 same-length-5 : tie.Need-same-length-5
-same-length-5 c = called c .make-call .kept .1 .1 .1 .1 .1 .1 .1 .0
+same-length-5 c = called (replied c .before) .make-call .kept .1 .1 .1 .1 .1 .1 .1 .0
 
 same-length-6 : tie.Need-same-length-6
-same-length-6 c = called c .make-call .kept .1 .1 .1 .1 .1 .1 .1 .1 .0
+same-length-6 c = called (replied c .before) .make-call .kept .1 .1 .1 .1 .1 .1 .1 .1 .0
 
 same-length-7 : tie.Need-same-length-7
-same-length-7 c = called c .make-call .kept .1 .1 .1 .1 .1 .1 .1 .1 .1 .0
+same-length-7 c = called (replied c .before) .make-call .kept .1 .1 .1 .1 .1 .1 .1 .1 .1 .0
 
 same-length-8 : tie.Need-same-length-8
-same-length-8 c = called c .make-call .kept .1 .1 .1 .1 .1 .1 .1 .1 .1 .1 .1 .0
+same-length-8 c = called (replied c .before) .make-call .kept .1 .1 .1 .1 .1 .1 .1 .1 .1 .1 .1 .0
 
 same-length-9 : tie.Need-same-length-9
-same-length-9 c = c .before .before .put-reply .kept .0
+same-length-9 c = replied c .put-reply .kept .0
 
 returns : tie.Need-returns
 unfolding replyText
 returns c =
-    let d = called c in
+    let r = replied c in
+    let d = called (r .before) in
     let s = entered d in
-    let r = c .before .before .put-reply in
     record {
       state = ap (λ (q : Called). q .state) (left d);
       lent = ap (λ (q : Called). q .lent) (left d);
       area = ap (λ (q : Called). q .area) (left d);
-      used = r .ensures .0 ∙ ap (λ (q : Called). length (replyText q)) (left d);
-      text = r .ensures .1 ∙ ap (λ (q : Called). inFront (replyText q) (s .args .out .now)) (left d);
+      used = r .put-reply .ensures .0 ∙ ap (λ (q : Called). length (replyText q)) (left d);
+      text = r .put-reply .ensures .1 ∙ ap (λ (q : Called). inFront (replyText q) (s .args .out .now)) (left d);
     }
 
 pub play-line-spec : {M : Type 1} → statement M

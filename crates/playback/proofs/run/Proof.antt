@@ -1,14 +1,26 @@
--- `playback::run` meets its contract: the playback begins, and what it leaves is where the first journal line is played from.
-use native.Mathlib.Omega.{arith}
+-- `playback::run` meets its contract: the playback begins on stores of zeros, and what it leaves is where the first journal line is played
+-- from.
 use borrow.Author.Needs.{needs}
+use mathlib.Core.Path.{refl, sym, subst}
+use Prim.Native.Nat.{ℕ}
+use Rattle.playback_cursor.specs.Cut.{Lies}
+use Rattle.playback.specs.Run.{zeroedStores}
+use Rattle.playback.proofs.Reached.{finished}
 use Rattle.playback.proofs.run.Statement.{statement}
 use Rattle.playback.proofs.run.Tie as tie
 
+-- each place names the one that it goes back to
+abbrev started : tie.After-out3 → tie.After-start
+started o = o .before .before .before .before .before .before .before .before .before .before .before .before .before .before .before .before .before .before .before
+
+abbrev played : tie.After-out4 → tie.After-play-lines
+played o = o .before .before .before .before .before .before .before .before .before .before
+
 large-buffer-requires : tie.Need-large-buffer-requires
-large-buffer-requires c κs = search needs
+large-buffer-requires c κs = tt
 
 large-buffer-requires-2 : tie.Need-large-buffer-requires-2
-large-buffer-requires-2 c κs = search needs
+large-buffer-requires-2 c κs = tt
 
 slice-aggregate-start : tie.Need-slice-aggregate-start
 slice-aggregate-start c = search needs
@@ -72,14 +84,15 @@ slice-aggregate-play-lines-10 c = search needs
 
 play-lines-requires : tie.Need-play-lines-requires
 play-lines-requires c κs =
-    let s = c .before .before .before .before .before .before .before .before .before .before .before .before .before .before .before .before .before .before .before .start in
-    let lies = s .ensures .0 in
-    let buf = s .kept .1 .1 .1 .1 .1 .1 .1 .0 in
-    let out = s .kept .1 .1 .1 .1 .1 .1 .1 .1 .0 in
-    (lies .0, omega (arith, lies .1, buf), lies .2, omega (arith, lies .3, buf), omega (arith, lies .4, out))
+    let s = started c .start in
+    subst (λ (n : ℕ). Lies (s .last .1 .1 .1 .1 .1 .1 .1 .0) n (s .result .cursor)) (sym (s .kept .1 .1 .1 .1 .1 .1 .1 .1 .0))
+    (s .ensures .onward .lies)
 
 returns : tie.Need-returns
-returns c = search needs
+unfolding zeroedStores
+returns c =
+    let p = played c in
+    finished (started (p .before) .start .ensures) (p .play-lines .ensures)
 
 pub run-spec : {M : Type 1} → statement M
 run-spec =

@@ -1,4 +1,4 @@
--- `record::is_record` meets its contract: the test for a result, or one of the other three letters. Assumes nothing.
+-- `record::is_record` meets its contract: the test for a result, or one of the other three letters.
 use Rattle.record.specs.Kinds.{isRecord}
 use borrow.Author.Needs.{needs}
 use Rattle.record.proofs.is_record.Statement.{statement}

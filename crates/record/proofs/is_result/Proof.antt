@@ -1,4 +1,4 @@
--- `record::is_result` meets its contract: either of the two tests that it calls. Assumes nothing.
+-- `record::is_result` meets its contract: either of the two tests that it calls.
 use Rattle.record.specs.Kinds.{isResult}
 use borrow.Author.Needs.{needs}
 use Rattle.record.proofs.is_result.Statement.{statement}

@@ -1,4 +1,4 @@
--- `record::is_stable` meets its contract: the kind's byte is that of S. Assumes nothing.
+-- `record::is_stable` meets its contract: the kind's byte is that of S.
 use mathlib.Core.Path.{refl}
 use Rattle.record.specs.Kinds.{isStable}
 use Rattle.record.proofs.is_stable.Statement.{statement}

@@ -1,4 +1,4 @@
--- `record::is_tentative` meets its contract: the kind's byte is that of T. Assumes nothing.
+-- `record::is_tentative` meets its contract: the kind's byte is that of T.
 use mathlib.Core.Path.{refl}
 use Rattle.record.specs.Kinds.{isTentative}
 use Rattle.record.proofs.is_tentative.Statement.{statement}

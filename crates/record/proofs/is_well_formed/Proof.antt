@@ -1,4 +1,4 @@
--- `record::is_well_formed` meets its contract: bytes of another number fail the first test, and of 32 bytes the other three are asked. Assumes nothing.
+-- `record::is_well_formed` meets its contract: bytes of another number fail the first test, and of 32 bytes the other three are asked.
 use lib.ListN.{length}
 use borrow.Author.Tests.{eq-eqb, ne-eqb}
 use Rattle.record.specs.Decoded.{isWellFormed}
@@ -25,7 +25,8 @@ shared-slice-read-result-2 c = search needs
 returns-2 : tie.Need-returns-2
 unfolding isWellFormed
 returns-2 c =
-    simp (eq-eqb (length (c .before .before .before .before .before .before .args .bytes .now)) 32 (c .before .before .before .before .if1 .left), c .before .before .is-record .ensures)
+    let whole = c .before .before .before .before in
+    simp (eq-eqb (length (whole .before .before .args .bytes .now)) 32 (whole .if1 .left), c .before .before .is-record .ensures)
 
 pub is-well-formed-spec : {M : Type 1} → statement M
 is-well-formed-spec =

@@ -1,4 +1,4 @@
--- `record::put_tag` meets its contract: four stores, one behind the other. Assumes nothing.
+-- `record::put_tag` meets its contract: four stores, one behind the other.
 use mathlib.Core.Path.{refl}
 use native.Mathlib.Omega.{arith}
 use lib.ListN.{length-set}

@@ -1,4 +1,4 @@
--- `record_text::put_head` meets its contract: four fields, each laid behind the one before, are the first part of the text. Assumes nothing.
+-- `record_text::put_head` meets its contract: four fields, each laid behind the one before, are the first part of the text.
 use borrow.Author.Needs.{needs}
 use mathlib.Core.Path.{refl, _∙_}
 use mathlib.Core.List.{List, [], _∷_, _++_}
@@ -32,6 +32,19 @@ meter r = later meterKey ++ decimal (pos (r .meter))
 room : (s : tie.Start) → 0 + length (textHead (s .args .r)) ≤ length (s .args .out .now)
 room s = rw zero-add (s .pre)
 
+-- the places on the way, each from the one behind it
+abbrev first-field : tie.After-put-letter → tie.Start
+first-field c = c .before .before .before .before
+
+abbrev second-field : tie.After-put-u32 → tie.After-put-letter
+second-field c = c .before .before .before .before .before
+
+abbrev third-field : tie.After-put-u322 → tie.After-put-u32
+third-field c = c .before .before .before .before .before
+
+abbrev fourth-field : tie.After-put-u323 → tie.After-put-u322
+fourth-field c = c .before .before .before .before .before .before
+
 slice-aggregate-put-letter : tie.Need-slice-aggregate-put-letter
 slice-aggregate-put-letter c = refl
 
@@ -48,10 +61,10 @@ slice-aggregate-put-u32 c = refl
 put-u32-requires : tie.Need-put-u32-requires
 unfolding textHead
 put-u32-requires c κs =
-    let s = c .before .before .before .before .before .before .before .before in
+    let p = c .before .before .before .before in
+    let s = first-field p in
     let r = s .args .r in
-    room-second (s .args .out .now) 0 (kind r) (id r) (time r) (meter r) (room s)
-    (c .before .before .before .before .put-letter .ensures)
+    room-second (s .args .out .now) 0 (kind r) (id r) (time r) (meter r) (room s) (p .put-letter .ensures)
 
 slice-aggregate-put-u32-2 : tie.Need-slice-aggregate-put-u32-2
 slice-aggregate-put-u32-2 c = refl
@@ -59,11 +72,11 @@ slice-aggregate-put-u32-2 c = refl
 put-u32-requires-2 : tie.Need-put-u32-requires-2
 unfolding textHead
 put-u32-requires-2 c κs =
-    let s = c .before .before .before .before .before .before .before .before .before .before .before .before .before in
+    let q = c .before .before .before .before in
+    let p = second-field q in
+    let s = first-field p in
     let r = s .args .r in
-    room-third (s .args .out .now) 0 (kind r) (id r) (time r) (meter r) (room s)
-    (c .before .before .before .before .before .before .before .before .before .put-letter .ensures)
-    (c .before .before .before .before .put-u32 .ensures)
+    room-third (s .args .out .now) 0 (kind r) (id r) (time r) (meter r) (room s) (p .put-letter .ensures) (q .put-u32 .ensures)
 
 slice-aggregate-put-u32-3 : tie.Need-slice-aggregate-put-u32-3
 slice-aggregate-put-u32-3 c = refl
@@ -74,29 +87,32 @@ cast-put-u32 c = search needs
 put-u32-requires-3 : tie.Need-put-u32-requires-3
 unfolding textHead
 put-u32-requires-3 c κs =
-    let s = c .before .before .before .before .before .before .before .before .before .before .before .before .before .before .before .before .before .before .before in
+    let o = c .before .before .before .before .before in
+    let q = third-field o in
+    let p = second-field q in
+    let s = first-field p in
     let r = s .args .r in
-    room-fourth (s .args .out .now) 0 (kind r) (id r) (time r) (meter r) (room s)
-    (c .before .before .before .before .before .before .before .before .before .before .before .before .before .before .before .put-letter .ensures)
-    (c .before .before .before .before .before .before .before .before .before .before .put-u32 .ensures)
-    (c .before .before .before .before .before .put-u322 .ensures)
+    room-fourth (s .args .out .now) 0 (kind r) (id r) (time r) (meter r) (room s) (p .put-letter .ensures) (q .put-u32 .ensures)
+    (o .put-u322 .ensures)
 
 same-length : tie.Need-same-length
 same-length c =
-    c .before .before .put-u323 .kept .0 ∙ c .before .before .before .before .before .before .before .before .put-u322 .kept .0 ∙ c .before .before .before .before .before .before .before .before .before .before .before .before .before .put-u32 .kept .0 ∙ c .before .before .before .before .before .before .before .before .before .before .before .before .before .before .before .before .before .before .put-letter .kept .0
+    let o = fourth-field (c .before .before) in
+    let q = third-field o in
+    c .before .before .put-u323 .kept .0 ∙ o .put-u322 .kept .0 ∙ q .put-u32 .kept .0 ∙ second-field q .put-letter .kept .0
 
 returns : tie.Need-returns
 unfolding textHead
 returns c =
-    let s = c .before .before .before .before .before .before .before .before .before .before .before .before .before .before .before .before .before .before .before .before .before .before in
-    let r = s .args .r in
     let u = c .before .before .put-u323 in
+    let o = fourth-field (c .before .before) in
+    let q = third-field o in
+    let p = second-field q in
+    let s = first-field p in
+    let r = s .args .r in
     laidTo-front (s .args .out .now) (textHead r) (u .last .0) (u .result)
-    (runs-four (s .args .out .now) 0 (kind r) (id r) (time r) (meter r)
-    (c .before .before .before .before .before .before .before .before .before .before .before .before .before .before .before .before .before .before .put-letter .ensures)
-    (c .before .before .before .before .before .before .before .before .before .before .before .before .before .put-u32 .ensures)
-    (c .before .before .before .before .before .before .before .before .put-u322 .ensures)
-    (u .ensures))
+    (runs-four (s .args .out .now) 0 (kind r) (id r) (time r) (meter r) (p .put-letter .ensures) (q .put-u32 .ensures)
+    (o .put-u322 .ensures) (u .ensures))
 
 pub put-head-spec : {M : Type 1} → statement M
 put-head-spec =

@@ -1,5 +1,5 @@
 -- `record_text::write_record` meets its contract: the text is made in front of an array that holds the longest, and copied from there where
--- the area has room for it. Assumes nothing.
+-- the area has room for it.
 use native.Mathlib.Omega.{arith}
 use borrow.Author.Needs.{needs}
 use mathlib.Core.Path.{refl}
@@ -15,7 +15,26 @@ use Rattle.record_text.proofs.write_record.Tie as tie
 room : (s : tie.Start) → length (recordText (s .args .r)) ≤ 123
 room s =
     text-short (s .args .r)
-    (record { kind = search needs; meter = search needs; id = search needs; time = search needs; count = search needs; sum = search needs; mean = search needs; last = search needs })
+    (record {
+      kind = search needs;
+      meter = search needs;
+      id = search needs;
+      time = search needs;
+      count = search needs;
+      sum = search needs;
+      mean = search needs;
+      last = search needs;
+    })
+
+-- the places on the way, each from the one behind it: the text is made, the area has room, and the text is copied
+abbrev start : tie.After-put-text → tie.Start
+start c = c .before .before .before
+
+abbrev made : tie.Else1 → tie.After-put-text
+made c = c .before .before
+
+abbrev copying : tie.After-put-bytes → tie.Else1
+copying c = c .before .before .before .before
 
 slice-aggregate-put-text : tie.Need-slice-aggregate-put-text
 slice-aggregate-put-text c = refl
@@ -25,9 +44,9 @@ put-text-requires c κs = room (c .before .before)
 
 returns : tie.Need-returns
 returns c =
-    let s = c .before .before .before .before .before in
-    let p = c .before .before .put-text in
-    short-area (s .args .r) (s .args .out .now) (omega (arith, p .ensures .0, c .if1 .taken))
+    let p = c .before .before in
+    let s = start p in
+    short-area (s .args .r) (s .args .out .now) (omega (arith, p .put-text .ensures .0, c .if1 .taken))
 
 sub-put-bytes : tie.Need-sub-put-bytes
 sub-put-bytes c = search needs
@@ -37,8 +56,8 @@ part-put-bytes-start c = search needs
 
 part-put-bytes-end : tie.Need-part-put-bytes-end
 part-put-bytes-end c =
-    let p = c .before .before .before .before .put-text in
-    omega (arith, room (c .before .before .before .before .before .before .before), p .ensures .0, p .kept .0)
+    let p = made (c .before .before) in
+    omega (arith, room (start p), p .put-text .ensures .0, p .put-text .kept .0)
 
 put-bytes-requires : tie.Need-put-bytes-requires
 put-bytes-requires c κs = search needs
@@ -48,12 +67,16 @@ same-length c = c .before .before .put-bytes .kept .0
 
 returns-2 : tie.Need-returns-2
 returns-2 c =
-    let s = c .before .before .before .before .before .before .before .before .before .before .before in
-    let p = c .before .before .before .before .before .before .before .before .put-text in
     let q = c .before .before .put-bytes in
-    let fits : length (recordText (s .args .r)) ≤ length (s .args .out .now) = rw (p .ensures .0) at (c .before .before .before .before .before .before .if1 .left) in
-    text-written (s .args .r) (s .args .out .now) (q .last .0) (p .result) fits (p .ensures .0)
-    (copied (s .args .out .now) (replicate 123 0) (p .last .0) (q .last .0) (recordText (s .args .r)) (p .result) (p .ensures .0) (room s) fits (p .ensures .1) (q .ensures .1))
+    let long = copying (c .before .before) in
+    let p = made long .put-text in
+    let s = start (made long) in
+    let r = s .args .r in
+    let out = s .args .out .now in
+    let fits : length (recordText r) ≤ length out = omega (arith, p .ensures .0, long .if1 .left) in
+    text-written r out (q .last .0) (p .result) fits (p .ensures .0)
+    (copied out (replicate 123 0) (p .last .0) (q .last .0) (recordText r) (p .result) (p .ensures .0) (room s) fits (p .ensures .1)
+    (q .ensures .1))
 
 pub write-record-spec : {M : Type 1} → statement M
 write-record-spec =

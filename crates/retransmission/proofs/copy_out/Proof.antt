@@ -13,10 +13,20 @@ Inv-loop sent from n area₀ i₀ area i = Fetching sent from n area₀ area i
 abbrev μ-loop : tie.MeasureT-loop
 μ-loop sent from n area₀ i₀ area i = n - i
 
+-- the start, seen from the loop's head; the head, seen from the call's argument; the call, seen from the turn's end
+abbrev entered : tie.At-loop Inv-loop μ-loop → tie.Start Inv-loop μ-loop
+entered l = l .before .before .before
+
+abbrev looped : tie.After-lay-record-arg Inv-loop μ-loop → tie.At-loop Inv-loop μ-loop
+looped c = c .before .before
+
+abbrev laid : tie.After-slice-known2 Inv-loop μ-loop → tie.After-lay-record Inv-loop μ-loop
+laid c = c .before .before
+
 -- the area keeps its length
-kept : (c : tie.At-loop Inv-loop μ-loop) → length (c .loop .area) ≡ length (c .before .before .before .args .area .now)
+kept : (c : tie.At-loop Inv-loop μ-loop) → length (c .loop .area) ≡ length (entered c .args .area .now)
 kept c =
-    let a = c .before .before .before .args in
+    let a = entered c .args in
     fetching-size (a .sent .now) (a .from) (a .n) (a .area .now) (c .loop .area) (c .loop .i) (c .loop .inv)
 
 loop-holds : tie.Need-loop-holds Inv-loop μ-loop
@@ -32,7 +42,7 @@ mul-lay-record : tie.Need-mul-lay-record Inv-loop μ-loop
 mul-lay-record c = omega arith
 
 lay-record-requires : tie.Need-lay-record-requires Inv-loop μ-loop
-lay-record-requires c κs = omega (arith, kept (c .before .before), c .before .before .before .before .before .pre)
+lay-record-requires c κs = omega (arith, kept (looped c), entered (looped c) .pre)
 
 add-i : tie.Need-add-i Inv-loop μ-loop
 add-i c = omega arith
@@ -42,17 +52,18 @@ loop-less c = omega arith
 
 loop-again : tie.Need-loop-again Inv-loop μ-loop
 loop-again c =
-    let a = c .before .before .before .before .before .before .before .before .args in
-    let l = c .before .before .before .before .before .loop in
+    let head = looped (laid c .before) in
+    let a = entered head .args in
+    let l = head .loop in
     fetching-turn (a .sent .now) (a .from) (a .n) (a .area .now) (l .area) (l .i) (l .inv) _ (omega arith)
-    (c .before .before .lay-record .ensures)
+    (laid c .lay-record .ensures)
 
 same-length : tie.Need-same-length Inv-loop μ-loop
 same-length c = kept (c .before)
 
 returns : tie.Need-returns Inv-loop μ-loop
 returns c =
-    let start = c .before .before .before .before in
+    let start = entered (c .before) in
     let a = start .args in
     let l = c .before .loop in
     fetching-end (a .sent .now) (a .from) (a .n) (a .area .now) (l .area) (l .i) (l .inv) (start .pre .1) (omega arith)

@@ -1,4 +1,4 @@
--- `retransmission::copy_record` meets its contract: the part that is copied is the record's bytes. Assumes nothing.
+-- `retransmission::copy_record` meets its contract: the part that is copied is the record's bytes.
 use mathlib.Core.Path.{_≡_, _∙_, ap}
 use Prim.Native.Nat.{ℕ, _+_, _-_}
 use native.Mathlib.Omega.{arith}

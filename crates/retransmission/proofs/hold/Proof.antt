@@ -1,4 +1,4 @@
--- `retransmission::hold` meets its contract: what is left to hold, over the store as it is, stays the same. Assumes nothing.
+-- `retransmission::hold` meets its contract: what is left to hold, over the store as it is, stays the same.
 use Prim.Native.Nat.{_-_}
 use native.Mathlib.Omega.{arith}
 use Rattle.retransmission.proofs.Holding.{Holding, holding-start, holding-turn, holding-end}
@@ -10,6 +10,16 @@ Inv-loop sent₀ newest area n i₀ sent i = Holding sent₀ newest area n sent 
 
 abbrev μ-loop : tie.MeasureT-loop
 μ-loop sent₀ newest area n i₀ sent i = n - i
+
+-- the start, seen from the loop's head; the head, seen from the call's argument; the call, seen from the turn's end
+abbrev entered : tie.At-loop Inv-loop μ-loop → tie.Start Inv-loop μ-loop
+entered l = l .before .before .before
+
+abbrev looped : tie.After-copy-record-arg Inv-loop μ-loop → tie.At-loop Inv-loop μ-loop
+looped c = c .before .before
+
+abbrev copied : tie.After-slice-known2 Inv-loop μ-loop → tie.After-copy-record Inv-loop μ-loop
+copied c = c .before .before
 
 loop-holds : tie.Need-loop-holds Inv-loop μ-loop
 loop-holds c = let a = c .before .before .args in holding-start (a .sent .now) (a .newest) (a .area .now) (a .n)
@@ -24,7 +34,7 @@ mul-copy-record : tie.Need-mul-copy-record Inv-loop μ-loop
 mul-copy-record c = omega arith
 
 copy-record-requires : tie.Need-copy-record-requires Inv-loop μ-loop
-copy-record-requires c κs = omega (arith, c .before .before .loop .inv .size, c .before .before .before .before .before .pre)
+copy-record-requires c κs = omega (arith, looped c .loop .inv .size, entered (looped c) .pre)
 
 add-i : tie.Need-add-i Inv-loop μ-loop
 add-i c = omega arith
@@ -34,18 +44,19 @@ loop-less c = omega arith
 
 loop-again : tie.Need-loop-again Inv-loop μ-loop
 loop-again c =
-    let start = c .before .before .before .before .before .before .before .before in
+    let head = looped (copied c .before) in
+    let start = entered head in
     let a = start .args in
-    let l = c .before .before .before .before .before .loop in
+    let l = head .loop in
     holding-turn (a .sent .now) (a .newest) (a .area .now) (a .n) (l .sent) (l .i) _ (start .pre .0) (start .pre .1) (l .inv) (omega arith)
-    (c .before .before .copy-record .ensures)
+    (copied c .copy-record .ensures)
 
 same-length : tie.Need-same-length Inv-loop μ-loop
 same-length c = c .before .loop .inv .size
 
 returns : tie.Need-returns Inv-loop μ-loop
 returns c =
-    let start = c .before .before .before .before in
+    let start = entered (c .before) in
     let a = start .args in
     let l = c .before .loop in
     holding-end (a .sent .now) (a .newest) (a .area .now) (a .n) (l .sent) (l .i) (start .pre .0) (l .inv) (omega arith)

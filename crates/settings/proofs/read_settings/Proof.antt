@@ -1,4 +1,4 @@
--- `settings::read_settings` meets its contract: the answer is the definition's, which is exact. Assumes nothing.
+-- `settings::read_settings` meets its contract: the answer is the definition's, which is exact.
 use mathlib.Core.Path.{_≡_, sym, subst, _∙_}
 use mathlib.Core.List.{List}
 use Prim.Native.Nat.{ℕ}

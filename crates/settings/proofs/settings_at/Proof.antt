@@ -1,5 +1,5 @@
 -- `settings::settings_at` meets its contract: at each return the fields read so far, and the one that was not, are those of
--- the definition. Assumes nothing.
+-- the definition.
 use mathlib.Core.Path.{_≡_, refl, sym, _∙_}
 use Prim.Native.Nat.{ℕ, _+_, _-_, _<_, _^_}
 use native.Mathlib.Omega.{arith}
@@ -36,7 +36,9 @@ returns c = rw (sym (c .before .before .number-field .ensures) ∙ c .enum-told 
 abbrev start : tie.After-lines → tie.Start
 start c = c .before .before .before .before .before
 
-lines-read : (c : tie.After-lines) → numberField (first linesKey) (2 ^ 32 - 1) (start c .args .s .now) (start c .args .at) ≡ Number.Value (c .lines .given .0 .0) (c .lines .given .0 .1 .0)
+lines-read :
+    (c : tie.After-lines) →
+    numberField (first linesKey) (2 ^ 32 - 1) (start c .args .s .now) (start c .args .at) ≡ Number.Value (c .lines .given .0 .0) (c .lines .given .0 .1 .0)
 lines-read c = sym (c .before .before .number-field .ensures) ∙ c .lines .given .1
 
 slice-aggregate-number-field-2 : tie.Need-slice-aggregate-number-field-2
@@ -61,7 +63,9 @@ returns-2 c =
 abbrev lines : tie.After-bucket → tie.After-lines
 lines c = c .before .before .before .before .before
 
-bucket-read : (c : tie.After-bucket) → numberField (later bucketKey) (2 ^ 32 - 1) (start (lines c) .args .s .now) (lines c .lines .given .0 .1 .0) ≡ Number.Value (c .bucket .given .0 .0) (c .bucket .given .0 .1 .0)
+bucket-read :
+    (c : tie.After-bucket) →
+    numberField (later bucketKey) (2 ^ 32 - 1) (start (lines c) .args .s .now) (lines c .lines .given .0 .1 .0) ≡ Number.Value (c .bucket .given .0 .0) (c .bucket .given .0 .1 .0)
 bucket-read c = sym (c .before .before .number-field2 .ensures) ∙ c .bucket .given .1
 
 slice-aggregate-number-field-3 : tie.Need-slice-aggregate-number-field-3
@@ -86,7 +90,9 @@ returns-3 c =
 abbrev bucket : tie.After-window → tie.After-bucket
 bucket c = c .before .before .before .before .before
 
-window-read : (c : tie.After-window) → numberField (later windowKey) (2 ^ 32 - 1) (start (lines (bucket c)) .args .s .now) (bucket c .bucket .given .0 .1 .0) ≡ Number.Value (c .window .given .0 .0) (c .window .given .0 .1 .0)
+window-read :
+    (c : tie.After-window) →
+    numberField (later windowKey) (2 ^ 32 - 1) (start (lines (bucket c)) .args .s .now) (bucket c .bucket .given .0 .1 .0) ≡ Number.Value (c .window .given .0 .0) (c .window .given .0 .1 .0)
 window-read c = sym (c .before .before .number-field3 .ensures) ∙ c .window .given .1
 
 slice-aggregate-number-field-4 : tie.Need-slice-aggregate-number-field-4
@@ -111,7 +117,9 @@ returns-4 c =
 abbrev window : tie.After-hold → tie.After-window
 window c = c .before .before .before .before .before
 
-hold-read : (c : tie.After-hold) → numberField (later holdKey) (2 ^ 32 - 1) (start (lines (bucket (window c))) .args .s .now) (window c .window .given .0 .1 .0) ≡ Number.Value (c .hold .given .0 .0) (c .hold .given .0 .1 .0)
+hold-read :
+    (c : tie.After-hold) →
+    numberField (later holdKey) (2 ^ 32 - 1) (start (lines (bucket (window c))) .args .s .now) (window c .window .given .0 .1 .0) ≡ Number.Value (c .hold .given .0 .0) (c .hold .given .0 .1 .0)
 hold-read c = sym (c .before .before .number-field4 .ensures) ∙ c .hold .given .1
 
 slice-aggregate-integer-field : tie.Need-slice-aggregate-integer-field
@@ -136,7 +144,9 @@ returns-5 c =
 abbrev hold : tie.After-low → tie.After-hold
 hold c = c .before .before .before .before .before
 
-low-read : (c : tie.After-low) → integerField (later lowKey) (start (lines (bucket (window (hold c)))) .args .s .now) (hold c .hold .given .0 .1 .0) ≡ Integer.Value (c .low .given .0 .0) (c .low .given .0 .1 .0)
+low-read :
+    (c : tie.After-low) →
+    integerField (later lowKey) (start (lines (bucket (window (hold c)))) .args .s .now) (hold c .hold .given .0 .1 .0) ≡ Integer.Value (c .low .given .0 .0) (c .low .given .0 .1 .0)
 low-read c = sym (c .before .before .integer-field .ensures) ∙ c .low .given .1
 
 slice-aggregate-integer-field-2 : tie.Need-slice-aggregate-integer-field-2
@@ -161,7 +171,9 @@ returns-6 c =
 abbrev low : tie.After-high → tie.After-low
 low c = c .before .before .before .before .before
 
-high-read : (c : tie.After-high) → integerField (later highKey) (start (lines (bucket (window (hold (low c))))) .args .s .now) (low c .low .given .0 .1 .0) ≡ Integer.Value (c .high .given .0 .0) (c .high .given .0 .1 .0)
+high-read :
+    (c : tie.After-high) →
+    integerField (later highKey) (start (lines (bucket (window (hold (low c))))) .args .s .now) (low c .low .given .0 .1 .0) ≡ Integer.Value (c .high .given .0 .0) (c .high .given .0 .1 .0)
 high-read c = sym (c .before .before .integer-field2 .ensures) ∙ c .high .given .1
 
 slice-aggregate-number-field-5 : tie.Need-slice-aggregate-number-field-5
@@ -187,7 +199,9 @@ returns-7 c =
 abbrev high : tie.After-displays → tie.After-high
 high c = c .before .before .before .before .before
 
-displays-read : (c : tie.After-displays) → numberField (later displaysKey) (2 ^ 32 - 1) (start (lines (bucket (window (hold (low (high c)))))) .args .s .now) (high c .high .given .0 .1 .0) ≡ Number.Value (c .displays .given .0 .0) (c .displays .given .0 .1 .0)
+displays-read :
+    (c : tie.After-displays) →
+    numberField (later displaysKey) (2 ^ 32 - 1) (start (lines (bucket (window (hold (low (high c)))))) .args .s .now) (high c .high .given .0 .1 .0) ≡ Number.Value (c .displays .given .0 .0) (c .displays .given .0 .1 .0)
 displays-read c = sym (c .before .before .number-field5 .ensures) ∙ c .displays .given .1
 
 ends-line-requires : tie.Need-ends-line-requires

@@ -1,4 +1,4 @@
--- `signed::bits64` meets its contract: below zero the code takes the magnitude less one from the largest word. Assumes nothing.
+-- `signed::bits64` meets its contract: below zero the code takes the magnitude less one from the largest word.
 use native.Mathlib.Omega.{arith}
 use mir.Facts.{toZ-ofZ, fits-natAbs}
 use Rattle.signed.proofs.Negation.{read-nonNeg, below-zero, plus-one-fits, minus-plus-one-fits, magnitude-less-one}

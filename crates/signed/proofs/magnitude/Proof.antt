@@ -1,4 +1,4 @@
--- `signed::magnitude` meets its contract: below zero the code makes the magnitude less one, and adds one. Assumes nothing.
+-- `signed::magnitude` meets its contract: below zero the code makes the magnitude less one, and adds one.
 use native.Mathlib.Omega.{arith}
 use borrow.Author.Needs.{needs}
 use mir.Facts.{toZ-ofZ, fits-natAbs}

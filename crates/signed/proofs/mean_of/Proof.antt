@@ -1,4 +1,4 @@
--- `signed::mean_of` meets its contract: what is rounded is the sum's magnitude, and the sign goes back on. Assumes nothing.
+-- `signed::mean_of` meets its contract: what is rounded is the sum's magnitude, and the sign goes back on.
 use mathlib.Core.Path.{_≡_, ap, _∙_}
 use Prim.Native.Nat.{ℕ, _<_, _^_}
 use native.Mathlib.Omega.{arith}
@@ -48,14 +48,18 @@ fits : (c : tie.After-rounded) → SFits w32 (mean (c .before .before .args .sum
 fits c = mean-fits (c .before .before .args .sum) (c .before .before .args .count) (c .before .before .pre)
 
 -- the mean of a sum below zero, and of another
-negated : (c : tie.Then1) → pos 0 -ℤ toZ w64 (c .before .rounded .result) ≡ mean (c .before .before .before .args .sum) (c .before .before .before .args .count)
+negated :
+    (c : tie.Then1) →
+    pos 0 -ℤ toZ w64 (c .before .rounded .result) ≡ mean (c .before .before .before .args .sum) (c .before .before .before .args .count)
 negated c =
     let s = c .before .before .before in
     minus w64 (small (c .before))
     ∙ ap (λ (k : ℕ). negℤ (pos k)) (rounded-is (c .before))
     ∙ mean-below-zero (s .args .sum) (s .args .count) (below-zero (s .fits .sum) (c .if1 .taken))
 
-kept : (c : tie.Else1) → pos (c .before .rounded .result) ≡ mean (c .before .before .before .args .sum) (c .before .before .before .args .count)
+kept :
+    (c : tie.Else1) →
+    pos (c .before .rounded .result) ≡ mean (c .before .before .before .args .sum) (c .before .before .before .args .count)
 kept c =
     let s = c .before .before .before in
     ap pos (rounded-is (c .before))

@@ -1,4 +1,4 @@
--- `signed::rounded` meets its contract: each way out returns a number that is nearest, and there is only one. Assumes nothing.
+-- `signed::rounded` meets its contract: each way out returns a number that is nearest, and there is only one.
 use mathlib.Core.Path.{_≡_, sym, ap, _∙_}
 use Prim.Native.Nat.{ℕ, _/_, _<_, _^_}
 use native.Mathlib.Omega.{arith}
@@ -17,7 +17,8 @@ some c = omega arith
 small : (c : tie.Else1) → c .before .args .a / c .before .args .n < 2 ^ 63
 small c = omega (arith, div-le-self (c .before .args .a) (c .before .args .n))
 
-due : (c : tie.Else1) {q : ℕ} → IsNearest (c .before .args .a) (c .before .args .n) q → q ≡ nearest (c .before .args .a) (c .before .args .n)
+due :
+    (c : tie.Else1) {q : ℕ} → IsNearest (c .before .args .a) (c .before .args .n) q → q ≡ nearest (c .before .args .a) (c .before .args .n)
 due c {q} = nearest-only (c .before .args .a) (c .before .args .n) q (some c)
 
 returns : tie.Need-returns

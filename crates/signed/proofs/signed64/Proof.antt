@@ -1,4 +1,4 @@
--- `signed::signed64` meets its contract: a word of the upper half is turned over, negated and lowered by one. Assumes nothing.
+-- `signed::signed64` meets its contract: a word of the upper half is turned over, negated and lowered by one.
 use borrow.Author.Needs.{needs}
 use mir.Syntax.{w64}
 use Rattle.signed.proofs.Negation.{minus-fits, minus-less-one-fits}

@@ -1,5 +1,4 @@
 -- `operator::Operator::add` meets its contract: the meter that takes the value is within its bounds, so there is room for one more.
--- Assumes nothing.
 use mathlib.Core.Path.{_≡_, sym, _∙_}
 use mathlib.Core.Bool.{true, false}
 use native.Mathlib.Omega.{arith}
@@ -9,10 +8,10 @@ use mir.Syntax.{w32}
 use mir.Val.{SFits}
 use mir.Facts.{toZ-ofZ}
 use Rattle.store.proofs.Pairs.{every-at}
-use Rattle.operator.specs.Bounds.{countLimit}
-use Rattle.operator.specs.Meters.{noMeter, withValue, isCounted, add}
-use Rattle.operator.proofs.Meters.{Counted, no-counted}
-use Rattle.operator.proofs.Bounds.{meters-ok}
+use Rattle.operator_meter.specs.Bounds.{countLimit}
+use Rattle.operator_meter.specs.Values.{noMeter, withValue, isCounted}
+use Rattle.operator.specs.Meters.{add}
+use Rattle.operator_meter.proofs.Bounds.{Counted, no-counted, meters-ok}
 use Rattle.operator.proofs.Operator.add.Statement.{statement}
 use Rattle.operator.proofs.Operator.add.Tie as tie
 

@@ -1,6 +1,7 @@
--- `operator::Operator::clear` meets its contract: the code is the definition. Assumes nothing.
+-- `operator::Operator::clear` meets its contract: the code is the definition.
 use mathlib.Core.Path.{refl}
-use Rattle.operator.specs.Meters.{noMeter, clear}
+use Rattle.operator_meter.specs.Values.{noMeter}
+use Rattle.operator.specs.Meters.{clear}
 use Rattle.operator.proofs.Operator.clear.Statement.{statement}
 use Rattle.operator.proofs.Operator.clear.Tie as tie
 

@@ -1,5 +1,5 @@
 -- `operator::Operator::close` meets its contract. The loop's invariant: what is laid down and what the meters from number `from` on still
--- give are together the window's results, in numbers, in places and in bytes. The measure is how many meters are left. Assumes nothing.
+-- give are together the window's results, in numbers, in places and in bytes. The measure is how many meters are left.
 use mathlib.Core.Path.{_≡_, sym, ap, _∙_}
 use Prim.Native.Nat.{ℕ, _-_}
 use native.Mathlib.Omega.{arith}
@@ -10,9 +10,10 @@ use Rattle.area.specs.Laid.{inFront}
 use Rattle.signed.specs.Range.{InRange}
 use Rattle.record.proofs.Stores.{record-lent}
 use Rattle.store.proofs.Pairs.{every-at}
-use Rattle.operator.specs.declared.Meter.{Meter}
+use Rattle.operator_meter.specs.declared.Meter.{Meter}
 use Rattle.operator.specs.declared.NextResult.the-variants as NextResult
-use Rattle.operator.specs.Meters.{meterCount, noMeter}
+use Rattle.operator_meter.specs.Values.{noMeter}
+use Rattle.operator.specs.Meters.{meterCount}
 use Rattle.operator.specs.Parts.{nextResult}
 use Rattle.operator.proofs.FromPlace.{length-mapped}
 use Rattle.operator.proofs.Laying.{Laying, RoomFor, laying-begins, room-next, laying-next, laying-ends, rest-of-window, close-cleared}

@@ -1,6 +1,7 @@
--- `operator::Operator::fresh` meets its contract: the code is the definition. Assumes nothing.
+-- `operator::Operator::fresh` meets its contract: the code is the definition.
 use mathlib.Core.Path.{refl}
-use Rattle.operator.specs.Meters.{noMeter, fresh}
+use Rattle.operator_meter.specs.Values.{noMeter}
+use Rattle.operator.specs.Meters.{fresh}
 use Rattle.operator.proofs.Operator.fresh.Statement.{statement}
 use Rattle.operator.proofs.Operator.fresh.Tie as tie
 

@@ -1,5 +1,4 @@
 -- `operator::Operator::is_within_bounds` meets its contract. The loop's invariant: that the meters from place i on pass is that all pass.
--- Assumes nothing.
 use mathlib.Core.Path.{_≡_, refl, sym, _∙_}
 use Prim.Native.Nat.{_-_, _<_, _≤_}
 use native.Mathlib.Numerals.{add-one}
@@ -8,8 +7,9 @@ use borrow.Author.Needs.{needs}
 use borrow.Author.Tests.{not-true, not-false}
 use lib.ListN.{length, drop}
 use Rattle.store.specs.Lists.{allOf}
-use Rattle.operator.specs.Meters.{meterCount, noMeter}
-use Rattle.operator.specs.Bounds.{meterOk}
+use Rattle.operator_meter.specs.Values.{noMeter}
+use Rattle.operator.specs.Meters.{meterCount}
+use Rattle.operator_meter.specs.Bounds.{meterOk}
 use Rattle.operator.proofs.FromPlace.{length-mapped, all-from-failed, all-from-passed, all-from-end}
 use Rattle.operator.proofs.Operator.is_within_bounds.Statement.{statement}
 use Rattle.operator.proofs.Operator.is_within_bounds.Tie as tie

@@ -1,12 +1,12 @@
 -- `operator::Operator::next_result` meets its contract. The loop's invariant: the next result from place i on is the one asked for.
--- Assumes nothing.
 use mathlib.Core.Path.{_≡_, refl, sym, _∙_}
 use Prim.Native.Nat.{_-_, _<_}
 use native.Mathlib.Numerals.{add-one}
 use native.Mathlib.Omega.{arith}
 use borrow.Author.Needs.{needs}
 use lib.ListN.{length}
-use Rattle.operator.specs.Meters.{meterCount, noMeter}
+use Rattle.operator_meter.specs.Values.{noMeter}
+use Rattle.operator.specs.Meters.{meterCount}
 use Rattle.operator.specs.Parts.{nextResult}
 use Rattle.operator.proofs.FromPlace.{length-mapped, next-from-giver, next-from-other, next-from-end}
 use Rattle.operator.proofs.Operator.next_result.Statement.{statement}

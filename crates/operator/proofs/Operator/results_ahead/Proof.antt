@@ -1,5 +1,5 @@
 -- `operator::Operator::results_ahead` meets its contract. The loop's invariant: the results counted, and those of the meters from place i
--- on, are as many as meters give one. Assumes nothing.
+-- on, are as many as meters give one.
 use mathlib.Core.Path.{_≡_, sym, _∙_}
 use mathlib.Core.Logic.{⊎-elim}
 use Prim.Native.Nat.{_+_, _-_, _<_, _≤_}
@@ -7,7 +7,8 @@ use native.Mathlib.Numerals.{add-one}
 use native.Mathlib.Omega.{arith}
 use borrow.Author.Needs.{needs}
 use lib.ListN.{length, drop}
-use Rattle.operator.specs.Meters.{meterCount, noMeter}
+use Rattle.operator_meter.specs.Values.{noMeter}
+use Rattle.operator.specs.Meters.{meterCount}
 use Rattle.operator.specs.Work.{close}
 use Rattle.operator.proofs.Results.{givers}
 use Rattle.operator.proofs.Closing.{window-results-length}

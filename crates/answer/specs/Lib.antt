@@ -1,0 +1,2 @@
+-- The numbers that calls answer with.
+pub mod Numbers

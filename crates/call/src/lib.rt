@@ -1,0 +1,64 @@
+// The box's entry point for a journal line. Whatever state, stores, text and area come, it answers.
+ghost use mathlib.Core.Path.{_≡_};
+ghost use Rattle.store.specs.Columns.{columnsOf};
+ghost use Rattle.node.specs.View.{Lent, lentOf};
+ghost use Rattle.node.specs.Calls.{calledOf, calledOn};
+use call_decision::Decision;
+use node::CallReply;
+use node::State;
+
+// Answers one call: it is refused, or it is done.
+pub fn call(
+    state: State,
+    ids: &mut [u32],
+    times: &mut [u32],
+    values: &mut [i32],
+    arrivals: &mut [u32],
+    kinds: &mut [u8],
+    meters: &mut [u8],
+    sent: &mut [u8],
+    text: &[u8],
+    area: &mut [u8],
+) -> CallReply
+    ensures { λ r.
+        let before : Lent =
+        lentOf
+        (columnsOf (now (ids .entry)) (now (times .entry)) (now (values .entry)) (now (arrivals .entry)) (now (kinds .entry))
+        (now (meters .entry)))
+        (now (sent .entry)) in
+        let after : Lent =
+        lentOf
+        (columnsOf (now (ids .exit)) (now (times .exit)) (now (values .exit)) (now (arrivals .exit)) (now (kinds .exit))
+        (now (meters .exit)))
+        (now (sent .exit)) in
+        ⌜ calledOf r after (now (area .exit)) ≡ calledOn state before (now (text .entry)) (now (area .entry)) ⌝ }
+{
+    let read = journal::read_call(text);
+    let decided = call_decision::decide(
+        state,
+        ids,
+        times,
+        values,
+        arrivals,
+        kinds,
+        meters,
+        sent,
+        read,
+        area.len(),
+    );
+    match decided {
+        Decision::Refused(answer) => node::refused(state, answer),
+        Decision::Accepted(k) => call_acceptance::accept(
+            state,
+            ids,
+            times,
+            values,
+            arrivals,
+            kinds,
+            meters,
+            sent,
+            area,
+            k,
+        ),
+    }
+}

@@ -1,0 +1,2 @@
+-- What is decided of a call.
+pub mod Deciding

@@ -1,0 +1,187 @@
+-- `call_displays::fetch` meets its contract: each way out is the law of what was refused first, or of what is laid down.
+use Prim.Native.Nat.{ℕ, _+_, _-_, _≤_, min}
+use mathlib.Core.Path.{_≡_, refl, sym, _∙_, ap}
+use mathlib.Core.Logic.{⊎-elim}
+use native.Mathlib.Omega.{arith}
+use borrow.Author.Needs.{needs}
+use Rattle.store.specs.Columns.{columnsOf}
+use Rattle.retransmission.specs.Sizes.{fetchLimit}
+use Rattle.protocol.specs.Tests.{firstFailed}
+use Rattle.protocol.specs.Displays.{givenUpTo, answerToFetch}
+use Rattle.protocol.proofs.Displays.{fetch-fits}
+use Rattle.node.specs.View.{Lent, lentOf, view}
+use Rattle.node.specs.declared.CallReply.{CallReply}
+use Rattle.node.specs.Calls.{calledOf, hostTests}
+use Rattle.node.proofs.Calls.{HostPassed, host-passed}
+use Rattle.call_displays.proofs.Calls.{Ready, ready, fetch-host-refused, fetch-refused, fetch-done}
+use Rattle.call_displays.proofs.fetch.Statement.{statement}
+use Rattle.call_displays.proofs.fetch.Tie as tie
+
+-- ---- what is known at the places on the way; each place names the one that it goes back to
+
+-- the stores as they are lent
+abbrev lent : tie.Start → Lent
+lent s =
+    let a = s .args in
+    lentOf (columnsOf (a .ids .now) (a .times .now) (a .values .now) (a .arrivals .now) (a .kinds .now) (a .meters .now)) (a .sent .now)
+
+-- the host's tests, once they are made
+abbrev asked : tie.After-host-refusal → tie.Start
+asked h = h .before .before .before .before .before .before .before .before
+
+host : (h : tie.After-host-refusal) →
+    let s = asked h in h .host-refusal .result ≡ firstFailed (hostTests (s .args .state) (lent s) (s .args .area .now))
+host h = h .host-refusal .ensures (asked h .args .area .now) (omega arith)
+
+abbrev entry : tie.Else1 → tie.Start
+entry e = asked (e .before)
+
+passed : (e : tie.Else1) → let s = entry e in HostPassed (s .args .state) (lent s) (s .args .area .now)
+passed e = let s = entry e in host-passed (s .args .state) (lent s) (s .args .area .now) (sym (host (e .before)) ∙ e .if1 .left)
+
+within : (e : tie.Else1) → Ready (entry e .args .state)
+within e = let s = entry e in ready (s .args .state) (lent s) (s .args .area .now) (passed e)
+
+-- the least id, once it is known
+abbrev seen : tie.After-struct-known → tie.Else1
+seen k = k .before .before .before .before
+
+abbrev counted : tie.After-least → tie.Else1
+counted l = seen (l .before)
+
+-- the call's own tests, once they are made
+abbrev past : tie.After-fetch-answer → tie.Else1
+past a = counted (a .before)
+
+abbrev own : tie.Start → ℕ
+own s = let a = s .args in answerToFetch (a .state .settings) (view (a .state) (lent s .readings)) (a .display) (a .from)
+
+answered : (a : tie.After-fetch-answer) → a .fetch-answer .result ≡ own (entry (past a))
+unfolding view givenUpTo
+answered a =
+    let s = entry (past a) in
+    a .fetch-answer .ensures (s .args .state .settings) (view (s .args .state) (lent s .readings)) refl
+    (sym (a .before .least .ensures)) refl
+
+-- an accepted one
+abbrev start : tie.Else2 → tie.Start
+start e = entry (past (e .before))
+
+accepted : (e : tie.Else2) → own (start e) ≡ 0
+accepted e = sym (answered (e .before)) ∙ e .if2 .left
+
+record Fetched (newest from : ℕ) : Type 0 where
+  pub some : 1 ≤ from
+  pub near : from ≤ newest + 1
+
+fits : (e : tie.Else2) → let a = start e .args in Fetched (a .state .checkpoint .number) (a .from)
+unfolding view
+fits e =
+    let s = start e in
+    let a = s .args in
+    let f = fetch-fits (a .state .settings) (view (a .state) (lent s .readings)) (a .display) (a .from) (accepted e) in
+    record { some = omega (arith, f .held); near = omega (arith, f .near) }
+
+-- how many results it gets
+abbrev whole : tie.Joined3 → tie.Start
+whole j = start (j .before)
+
+count : (j : tie.Joined3) → let a = whole j .args in j .if3 .n ≡ min fetchLimit (a .state .checkpoint .number + 1 - a .from)
+count j =
+    let a = whole j .args in
+    let left = a .state .checkpoint .number + 1 - a .from in
+    ⊎-elim
+    (λ w. w .1 ∙ (let z : fetchLimit ≡ min fetchLimit left = omega (arith, w .0 .taken) in z))
+    (λ w. w .1 ∙ (let z : left ≡ min fetchLimit left = omega (arith, w .0 .left) in z))
+    (j .if3 .came)
+
+-- the records that it lays down
+abbrev asking : tie.After-copy-out-arg → tie.Joined3
+asking a = a .before .before
+
+abbrev laid : tie.After-slice-known2 → tie.After-copy-out
+laid c = c .before .before
+
+-- ---- the needs
+
+host-refusal-requires : tie.Need-host-refusal-requires
+host-refusal-requires c κs = search needs
+
+refused-requires : tie.Need-refused-requires
+refused-requires c κs = search needs
+
+returns : tie.Need-returns
+returns c =
+    let t = c .before in
+    let s = asked (t .before) in
+    ap (λ (r : CallReply). calledOf r (lent s) (s .args .area .now)) (c .refused .ensures) ∙
+    fetch-host-refused (s .args .state) (lent s) (s .args .area .now) (s .args .display) (s .args .from) (host (t .before)) (t .if1 .taken)
+
+cast-displays : tie.Need-cast-displays
+cast-displays c = search needs
+
+least-requires : tie.Need-least-requires
+least-requires c κs = let r = within (seen c) in omega (arith, r .some, r .few)
+
+fetch-answer-requires : tie.Need-fetch-answer-requires
+fetch-answer-requires c κs = within (counted c) .newest
+
+refused-requires-2 : tie.Need-refused-requires-2
+refused-requires-2 c κs = search needs
+
+returns-2 : tie.Need-returns-2
+returns-2 c =
+    let t = c .before in
+    let e = past (t .before) in
+    let s = entry e in
+    ap (λ (r : CallReply). calledOf r (lent s) (s .args .area .now)) (c .refused2 .ensures) ∙
+    fetch-refused (s .args .state) (lent s) (s .args .area .now) (s .args .display) (s .args .from) (passed e) (answered (t .before))
+    (t .if2 .taken)
+
+add-n : tie.Need-add-n
+add-n c = omega (arith, within (past (c .before)) .newest)
+
+sub-n : tie.Need-sub-n
+sub-n c = fits c .near
+
+cast-records : tie.Need-cast-records
+cast-records c = omega (arith, count (c .before))
+
+sub-copy-out : tie.Need-sub-copy-out
+sub-copy-out c = fits (c .before .before) .some
+
+copy-out-requires : tie.Need-copy-out-requires
+copy-out-requires c κs =
+    let j = asking c in
+    let h = passed (past (j .before .before)) in
+    (h .sent, omega (arith, count j, h .bytes), omega (arith, count j, fits (j .before) .near, within (past (j .before .before)) .newest))
+
+same-length : tie.Need-same-length
+same-length c = laid c .copy-out .kept .1 .1 .1 .0
+
+returns-3 : tie.Need-returns-3
+returns-3 c =
+    let j = asking (laid c .before) in
+    let s = whole j in
+    fetch-done (s .args .state) (lent s) (s .args .area .now) (s .args .display) (s .args .from) (passed (past (j .before .before)))
+    (accepted (j .before)) (count j) (laid c .copy-out .ensures)
+
+pub fetch-spec : {M : Type 1} → statement M
+fetch-spec =
+    tie.close
+    (tie.spec
+    host-refusal-requires
+    refused-requires
+    returns
+    cast-displays
+    least-requires
+    fetch-answer-requires
+    refused-requires-2
+    returns-2
+    add-n
+    sub-n
+    cast-records
+    sub-copy-out
+    copy-out-requires
+    same-length
+    returns-3)

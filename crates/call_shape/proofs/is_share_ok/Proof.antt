@@ -1,0 +1,22 @@
+-- `call_shape::is_share_ok` meets its contract: the columns' tests, joined as the definition joins them.
+use borrow.Author.Needs.{needs}
+use Rattle.call_shape.specs.Lent.{shareOk}
+use Rattle.call_shape.proofs.is_share_ok.Statement.{statement}
+use Rattle.call_shape.proofs.is_share_ok.Tie as tie
+
+are-readings-requires : tie.Need-are-readings-requires
+are-readings-requires c κs = search needs
+
+are-below-requires : tie.Need-are-below-requires
+are-below-requires c κs = search needs
+
+ids-rise-requires : tie.Need-ids-rise-requires
+ids-rise-requires c κs = search needs
+
+returns : tie.Need-returns
+unfolding shareOk
+returns c = cc
+
+pub is-share-ok-spec : {M : Type 1} → statement M
+is-share-ok-spec =
+    tie.close (tie.spec are-readings-requires are-below-requires ids-rise-requires returns)

@@ -1,2 +1,0 @@
--- What it is that a rule is done on state, store and area.
-pub mod Acted

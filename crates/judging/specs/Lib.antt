@@ -1,2 +1,0 @@
--- What is decided of a call.
-pub mod Judging

@@ -1,0 +1,17 @@
+-- A state with one thing changed and the rest as it was.
+use Rattle.protocol.specs.declared.Phase.{Phase}
+use Rattle.node.specs.declared.State.{State}
+
+abbrev pub withPhase : Phase → State → State
+withPhase phase st =
+    record {
+      operator = st .operator;
+      checkpoint = st .checkpoint;
+      heads = st .heads;
+      settings = st .settings;
+      clock = st .clock;
+      c = st .c;
+      p = st .p;
+      phase = phase;
+      acknowledged = st .acknowledged;
+    }

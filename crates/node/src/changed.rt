@@ -1,0 +1,31 @@
+// A state with one thing changed and the rest as it was. Numbers, operators and heads are stored into a state where they change; a field
+// that is an enum cannot be, so that the state is made anew, here and nowhere else.
+ghost use mathlib.Core.Path.{_≡_};
+ghost use Rattle.node.specs.Changed.{withPhase};
+use crate::State;
+use protocol::Phase;
+
+impl State {
+    // The state with another word.
+    pub fn with_phase(self, phase: Phase) -> State
+        ensures { λ r. ⌜ r ≡ withPhase phase self ⌝ }
+    {
+        let operator = self.operator;
+        let checkpoint = self.checkpoint;
+        let heads = self.heads;
+        let settings = self.settings;
+        let clock = self.clock;
+        let acknowledged = self.acknowledged;
+        State {
+            operator: operator,
+            checkpoint: checkpoint,
+            heads: heads,
+            settings: settings,
+            clock: clock,
+            c: self.c,
+            p: self.p,
+            phase: phase,
+            acknowledged: acknowledged,
+        }
+    }
+}

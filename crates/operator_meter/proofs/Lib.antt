@@ -1,0 +1,4 @@
+-- Laws on a meter.
+pub mod Counted
+pub mod Sums
+pub mod Bounds

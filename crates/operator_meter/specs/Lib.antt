@@ -1,0 +1,3 @@
+-- Definitions on a meter.
+pub mod Values
+pub mod Bounds

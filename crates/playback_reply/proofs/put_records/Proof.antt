@@ -1,0 +1,91 @@
+-- `playback_reply::put_records` meets its contract: in the loop the texts of the first i records are laid down.
+use native.Mathlib.Omega.{arith}
+use native.Mathlib.Numerals.{add-one}
+use borrow.Author.Needs.{needs}
+use mathlib.Core.Path.{_≡_, refl, sym}
+use Prim.Native.Nat.{_+_, _*_, _-_, _≤_}
+use lib.ListN.{length}
+use Rattle.area.proofs.Laid.{laid-none}
+use Rattle.area.proofs.Runs.{LaidTo}
+use Rattle.record.specs.Sizes.{recordBytes}
+use Rattle.record_text.specs.Sizes.{longestRecordText}
+use Rattle.playback_reply.specs.Reply.{recordLines}
+use Rattle.playback_reply.proofs.Records.{recordLines-short, laid-more}
+use Rattle.playback_reply.proofs.put_records.Statement.{statement}
+use Rattle.playback_reply.proofs.put_records.Tie as tie
+
+abbrev Inv-loop : tie.InvT-loop
+Inv-loop out₀ at area n place₀ i₀ out place i =
+    (i ≤ n) × (n * recordBytes ≤ length area) × (at + n * longestRecordText ≤ length out) × (length out ≡ length out₀) × LaidTo out₀ at (recordLines i area) place out
+
+abbrev μ-loop : tie.MeasureT-loop
+μ-loop out₀ at area n place₀ i₀ out place i = n - i
+
+loop-holds : tie.Need-loop-holds Inv-loop μ-loop
+unfolding recordLines
+loop-holds c =
+    let s = c .before .before in
+    (omega arith, s .pre .0, s .pre .1, refl, (omega arith, sym (laid-none (s .args .out .now) (s .args .at))))
+
+mul-start : tie.Need-mul-start Inv-loop μ-loop
+mul-start c = omega arith
+
+add-end : tie.Need-add-end Inv-loop μ-loop
+add-end c = omega arith
+
+sub-put-text : tie.Need-sub-put-text Inv-loop μ-loop
+sub-put-text c = omega arith
+
+part-put-text-start : tie.Need-part-put-text-start Inv-loop μ-loop
+part-put-text-start c = search needs
+
+part-put-text-end : tie.Need-part-put-text-end Inv-loop μ-loop
+part-put-text-end c = omega arith
+
+put-text-requires : tie.Need-put-text-requires Inv-loop μ-loop
+put-text-requires c κs =
+    let l = c .before .before .before .loop in
+    let a = c .before .before .before .before .before .before .args in
+    omega (arith, recordLines-short (l .i) (a .area .now) (λ i. omega (arith, c .before .before .before .before .shared-slice-known .given i)))
+
+add-i : tie.Need-add-i Inv-loop μ-loop
+add-i c = omega arith
+
+loop-less : tie.Need-loop-less Inv-loop μ-loop
+loop-less c = omega arith
+
+loop-again : tie.Need-loop-again Inv-loop μ-loop
+loop-again c =
+    let a = c .before .before .before .before .before .before .before .before .before .args in
+    let l = c .before .before .before .before .before .before .loop in
+    let p = c .before .before .put-text in
+    let more = laid-more (a .out .now) (a .area .now) (a .at) (l .i) (l .inv .4) (p .ensures) in
+    rw add-one (omega arith, l .inv .1, omega (arith, p .kept .0), omega (arith, p .kept .0), more)
+
+same-length : tie.Need-same-length Inv-loop μ-loop
+same-length c = omega arith
+
+returns : tie.Need-returns Inv-loop μ-loop
+returns c =
+    let l = c .before .loop in
+    let end : l .i ≡ c .before .before .before .before .args .n = omega arith in
+    rw end at (l .inv .4)
+
+pub put-records-spec : {M : Type 1} → statement M
+put-records-spec =
+    tie.close
+    (tie.spec
+    Inv-loop
+    μ-loop
+    loop-holds
+    mul-start
+    add-end
+    sub-put-text
+    part-put-text-start
+    part-put-text-end
+    put-text-requires
+    add-i
+    loop-less
+    loop-again
+    same-length
+    returns)

@@ -1,0 +1,5 @@
+-- What a playback prints.
+pub mod Sizes
+pub mod Reply
+pub mod Parts
+pub mod Put

@@ -1,4 +1,0 @@
--- What a playback prints.
-pub mod Sizes
-pub mod Reply
-pub mod Parts

@@ -1,3 +1,0 @@
--- Laws on the settings played.
-pub mod Fronts
-pub mod Starts

@@ -1,2 +1,0 @@
--- How a playback begins.
-pub mod Start

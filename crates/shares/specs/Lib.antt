@@ -1,2 +1,0 @@
--- Definitions on the shares of all lines.
-pub mod Shares

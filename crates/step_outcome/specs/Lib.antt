@@ -1,0 +1,2 @@
+-- A rule done on state, store and area.
+pub mod Done

@@ -1,0 +1,10 @@
+-- Laws on the store's columns: places zeroed, tests over a share; rows and their columns, what is kept, rows written, and a bucket's places
+-- gathered.
+pub mod Zeroed
+pub mod Tests
+pub mod LateDue
+pub mod Rows
+pub mod Kept
+pub mod Written
+pub mod Stores
+pub mod BucketPlaces

@@ -1,0 +1,86 @@
+-- `store_columns::some_between` meets its contract: what is found so far, with the test of what is left, stays the same.
+use Prim.Native.Nat.{ℕ, _-_}
+use native.Mathlib.Omega.{arith}
+use mathlib.Core.Bool.{Bool, _&&_}
+use lib.Dec.{leb}
+use Rattle.clock.specs.declared.ArrivalTick.{ArrivalTick}
+use Rattle.clock.specs.declared.ReadingTime.{ReadingTime}
+use Rattle.store_columns.proofs.Tests.{SomePairSoFar, some-pair-start, some-pair-turn, some-pair-end}
+use Rattle.store_columns.proofs.some_between.Statement.{statement}
+use Rattle.store_columns.proofs.some_between.Tie as tie
+
+-- a time not before the first, and an arrival not behind the latest
+abbrev between : ReadingTime → ArrivalTick → ℕ → ℕ → Bool
+between first latest t a = leb (first .0) t && leb a (latest .0)
+
+abbrev Inv-loop : tie.InvT-loop
+Inv-loop times arrivals base n first latest found₀ i₀ found i = SomePairSoFar (between first latest) times arrivals base n found i
+
+abbrev μ-loop : tie.MeasureT-loop
+μ-loop times arrivals base n first latest found₀ i₀ found i = n - i
+
+-- the loop's head, seen from the turn's end
+abbrev looped : tie.After-struct-known2 Inv-loop μ-loop → tie.At-loop Inv-loop μ-loop
+looped c = c .before .before .before .before .before
+
+loop-holds : tie.Need-loop-holds Inv-loop μ-loop
+loop-holds c =
+    let a = c .args in
+    some-pair-start (between (a .first) (a .latest)) (a .times .now) (a .arrivals .now) (a .base) (a .n)
+
+add-found : tie.Need-add-found Inv-loop μ-loop
+add-found c = omega arith
+
+mul-found : tie.Need-mul-found Inv-loop μ-loop
+mul-found c = omega arith
+
+shared-slice-read-found : tie.Need-shared-slice-read-found Inv-loop μ-loop
+shared-slice-read-found c = omega arith
+
+add-found-2 : tie.Need-add-found-2 Inv-loop μ-loop
+add-found-2 c = omega arith
+
+mul-found-2 : tie.Need-mul-found-2 Inv-loop μ-loop
+mul-found-2 c = omega arith
+
+shared-slice-read-found-2 : tie.Need-shared-slice-read-found-2 Inv-loop μ-loop
+shared-slice-read-found-2 c = omega arith
+
+add-i : tie.Need-add-i Inv-loop μ-loop
+add-i c = omega arith
+
+loop-less : tie.Need-loop-less Inv-loop μ-loop
+loop-less c = omega arith
+
+loop-again : tie.Need-loop-again Inv-loop μ-loop
+loop-again c =
+    let a = looped c .before .args in
+    let l = looped c .loop in
+    some-pair-turn (between (a .first) (a .latest)) (a .times .now) (a .arrivals .now) (a .base) (a .n) (l .found) (l .i) (l .inv)
+    (omega arith) (omega arith) (omega arith)
+
+returns : tie.Need-returns Inv-loop μ-loop
+returns c =
+    let head = c .before in
+    let a = head .before .args in
+    let l = head .loop in
+    some-pair-end (between (a .first) (a .latest)) (a .times .now) (a .arrivals .now) (a .base) (a .n) (l .found) (l .i) (l .inv)
+    (omega arith)
+
+pub some-between-spec : {M : Type 1} → statement M
+some-between-spec =
+    tie.close
+    (tie.spec
+    Inv-loop
+    μ-loop
+    loop-holds
+    add-found
+    mul-found
+    shared-slice-read-found
+    add-found-2
+    mul-found-2
+    shared-slice-read-found-2
+    add-i
+    loop-less
+    loop-again
+    returns)

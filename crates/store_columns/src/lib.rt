@@ -1,0 +1,283 @@
+// The store in columns: places of one column zeroed, and tests over a share; then all six columns, a reading put into a place, places
+// zeroed, and a bucket's places in the shares of all lines.
+ghost use mathlib.Core.Path.{_≡_};
+ghost use mathlib.Core.Bool.{_&&_};
+ghost use mathlib.Core.List.{List, [], _∷_};
+ghost use Prim.Native.Nat.{ℕ, _+_, _-_, _<_, _≤_, _*_};
+ghost use lib.Dec.{leb, ltb, eqb};
+ghost use lib.IntN.{pos};
+ghost use lib.ListN.{length, replicate};
+ghost use lib.Seq.{sets};
+ghost use Rattle.settings.specs.Limits.{maxLines};
+ghost use Rattle.journal.specs.Kinds.{letterT};
+ghost use Rattle.store.specs.Lists.{someOf, allOf, Every};
+ghost use Rattle.store.specs.Parts.{share, withRowsAt};
+ghost use Rattle.store_columns.specs.Tests.{someOfBoth, isLateDue};
+ghost use Rattle.store_columns.specs.Shape.{rises, isReadingKind};
+ghost use Rattle.store.specs.Sizes.{readingsPerLine};
+ghost use Rattle.store.specs.Columns.{Columns, columnsOf, storeLength, zeroed};
+ghost use Rattle.store_columns.specs.Shares.{bucketPlaces};
+use clock::ArrivalTick;
+use clock::ReadingTime;
+use store::Reading;
+
+// The last reading time.
+const LAST_TIME: u64 = 4_294_967_295;
+
+// ---- places zeroed, one function for each type of element
+
+// Zeroes the places from `from` up to `to`.
+pub fn zero_u32(xs: &mut [u32], from: usize, to: usize)
+    requires { ⌜ (from ≤ to) × (to ≤ length (now xs)) ⌝ }
+    ensures { λ _. ⌜ now (xs .exit) ≡ sets (now (xs .entry)) from (replicate (to - from) 0) ⌝ }
+{
+    let mut i = from;
+    while i < to {
+        xs[i] = 0;
+        i += 1;
+    }
+}
+
+pub fn zero_i32(xs: &mut [i32], from: usize, to: usize)
+    requires { ⌜ (from ≤ to) × (to ≤ length (now xs)) ⌝ }
+    ensures { λ _. ⌜ now (xs .exit) ≡ sets (now (xs .entry)) from (replicate (to - from) (pos 0)) ⌝ }
+{
+    let mut i = from;
+    while i < to {
+        xs[i] = 0;
+        i += 1;
+    }
+}
+
+pub fn zero_u8(xs: &mut [u8], from: usize, to: usize)
+    requires { ⌜ (from ≤ to) × (to ≤ length (now xs)) ⌝ }
+    ensures { λ _. ⌜ now (xs .exit) ≡ sets (now (xs .entry)) from (replicate (to - from) 0) ⌝ }
+{
+    let mut i = from;
+    while i < to {
+        xs[i] = 0;
+        i += 1;
+    }
+}
+
+// ---- tests over a share that keeps n readings from `base` on: whole columns, without an early end, so that they go by the vector
+
+// Whether each id is above the one before it.
+pub fn ids_rise(ids: &[u32], base: usize, n: usize) -> bool
+    requires { ⌜ base + n ≤ length (now ids) ⌝ }
+    ensures { λ r. ⌜ r ≡ rises (share base n (now (ids .entry))) ⌝ }
+{
+    let mut ok = true;
+    let mut i = 1;
+    while i < n {
+        ok = ok & (ids[base + i - 1] < ids[base + i]);
+        i += 1;
+    }
+    ok
+}
+
+// Whether every kind is S or T.
+pub fn are_readings(kinds: &[u8], base: usize, n: usize) -> bool
+    requires { ⌜ base + n ≤ length (now kinds) ⌝ }
+    ensures { λ r. ⌜ r ≡ allOf isReadingKind (share base n (now (kinds .entry))) ⌝ }
+{
+    let mut ok = true;
+    let mut i = 0;
+    while i < n {
+        let kind = kinds[base + i];
+        ok = ok & ((kind == journal::STABLE) | (kind == journal::TENTATIVE));
+        i += 1;
+    }
+    ok
+}
+
+// Whether every meter is below a limit.
+pub fn are_below(meters: &[u8], base: usize, n: usize, limit: u8) -> bool
+    requires { ⌜ base + n ≤ length (now meters) ⌝ }
+    ensures { λ r. ⌜ r ≡ allOf (λ m. ltb m limit) (share base n (now (meters .entry))) ⌝ }
+{
+    let mut ok = true;
+    let mut i = 0;
+    while i < n {
+        ok = ok & (meters[base + i] < limit);
+        i += 1;
+    }
+    ok
+}
+
+// Whether some reading is tentative.
+pub fn keeps_tentative(kinds: &[u8], base: usize, n: usize) -> bool
+    requires { ⌜ base + n ≤ length (now kinds) ⌝ }
+    ensures { λ r. ⌜ r ≡ someOf (λ kind. eqb kind letterT) (share base n (now (kinds .entry))) ⌝ }
+{
+    let mut found = false;
+    let mut i = 0;
+    while i < n {
+        found = found | (kinds[base + i] == journal::TENTATIVE);
+        i += 1;
+    }
+    found
+}
+
+// Whether some time is not before `first` and its arrival not after `latest`.
+fn some_between(
+    times: &[u32],
+    arrivals: &[u32],
+    base: usize,
+    n: usize,
+    first: ReadingTime,
+    latest: ArrivalTick,
+) -> bool
+    requires { ⌜ (base + n ≤ length (now times)) × (base + n ≤ length (now arrivals)) ⌝ }
+    ensures { λ r. ⌜ r ≡ someOfBoth (λ t a. leb (first .0) t && leb a (latest .0))
+        (share base n (now (times .entry))) (share base n (now (arrivals .entry))) ⌝ }
+{
+    let mut found = false;
+    let mut i = 0;
+    while i < n {
+        found = found | ((first.0 <= times[base + i]) & (arrivals[base + i] <= latest.0));
+        i += 1;
+    }
+    found
+}
+
+// Whether some reading of bucket p or later has waited out the hold.
+pub fn some_due(
+    times: &[u32],
+    arrivals: &[u32],
+    base: usize,
+    n: usize,
+    bucket: u32,
+    p: u32,
+    hold: u32,
+    tick: ArrivalTick,
+) -> bool
+    requires { ⌜ (0 < bucket) × (base + n ≤ length (now times)) × (base + n ≤ length (now arrivals)) ⌝ }
+    ensures { λ r. ⌜ r ≡ someOfBoth (isLateDue bucket p hold tick)
+        (share base n (now (times .entry))) (share base n (now (arrivals .entry))) ⌝ }
+{
+    let start = (p as u64) * (bucket as u64);
+    if LAST_TIME < start {
+        return false;
+    }
+    if tick.0 < hold {
+        return false;
+    }
+    let first = start as u32;
+    let latest = tick.0 - hold;
+    some_between(
+        times,
+        arrivals,
+        base,
+        n,
+        ReadingTime(first),
+        ArrivalTick(latest),
+    )
+}
+
+// ---- all six columns
+
+// Puts a reading into a place.
+pub fn place(
+    ids: &mut [u32],
+    times: &mut [u32],
+    values: &mut [i32],
+    arrivals: &mut [u32],
+    kinds: &mut [u8],
+    meters: &mut [u8],
+    at: usize,
+    r: Reading,
+)
+    requires { let x : Columns = columnsOf (now ids) (now times) (now values) (now arrivals) (now kinds) (now meters) in
+        ⌜ at < storeLength x ⌝ }
+    ensures { λ _.
+        let x : Columns =
+        columnsOf (now (ids .entry)) (now (times .entry)) (now (values .entry)) (now (arrivals .entry)) (now (kinds .entry))
+        (now (meters .entry)) in
+        let x′ : Columns =
+        columnsOf (now (ids .exit)) (now (times .exit)) (now (values .exit)) (now (arrivals .exit)) (now (kinds .exit))
+        (now (meters .exit)) in
+        ⌜ x′ ≡ withRowsAt x at (r ∷ []) ⌝ }
+{
+    ids[at] = r.id;
+    times[at] = r.time.0;
+    let value = r.value;
+    values[at] = value;
+    arrivals[at] = r.arrival.0;
+    kinds[at] = r.kind;
+    meters[at] = r.meter;
+}
+
+// Zeroes the places from `from` up to `to`: three columns.
+fn zero_first(ids: &mut [u32], times: &mut [u32], arrivals: &mut [u32], from: usize, to: usize)
+    requires { ⌜ (from ≤ to) × (to ≤ length (now ids)) × (to ≤ length (now times)) × (to ≤ length (now arrivals)) ⌝ }
+    ensures { λ _.
+        let zeroes : List ℕ = replicate (to - from) 0 in
+        ⌜ (now (ids .exit) ≡ sets (now (ids .entry)) from zeroes)
+        × (now (times .exit) ≡ sets (now (times .entry)) from zeroes)
+        × (now (arrivals .exit) ≡ sets (now (arrivals .entry)) from zeroes) ⌝ }
+{
+    zero_u32(ids, from, to);
+    zero_u32(times, from, to);
+    zero_u32(arrivals, from, to);
+}
+
+// The other three.
+fn zero_others(values: &mut [i32], kinds: &mut [u8], meters: &mut [u8], from: usize, to: usize)
+    requires { ⌜ (from ≤ to) × (to ≤ length (now values)) × (to ≤ length (now kinds)) × (to ≤ length (now meters)) ⌝ }
+    ensures { λ _.
+        let zeroes : List ℕ = replicate (to - from) 0 in
+        ⌜ (now (values .exit) ≡ sets (now (values .entry)) from (replicate (to - from) (pos 0)))
+        × (now (kinds .exit) ≡ sets (now (kinds .entry)) from zeroes)
+        × (now (meters .exit) ≡ sets (now (meters .entry)) from zeroes) ⌝ }
+{
+    zero_i32(values, from, to);
+    zero_u8(kinds, from, to);
+    zero_u8(meters, from, to);
+}
+
+// Zeroes the places from `from` up to `to`.
+pub fn zero(
+    ids: &mut [u32],
+    times: &mut [u32],
+    values: &mut [i32],
+    arrivals: &mut [u32],
+    kinds: &mut [u8],
+    meters: &mut [u8],
+    from: usize,
+    to: usize,
+)
+    requires { let x : Columns = columnsOf (now ids) (now times) (now values) (now arrivals) (now kinds) (now meters) in
+        ⌜ (from ≤ to) × (to ≤ storeLength x) ⌝ }
+    ensures { λ _.
+        let x : Columns =
+        columnsOf (now (ids .entry)) (now (times .entry)) (now (values .entry)) (now (arrivals .entry)) (now (kinds .entry))
+        (now (meters .entry)) in
+        let x′ : Columns =
+        columnsOf (now (ids .exit)) (now (times .exit)) (now (values .exit)) (now (arrivals .exit)) (now (kinds .exit))
+        (now (meters .exit)) in
+        ⌜ x′ ≡ withRowsAt x from (replicate (to - from) zeroed) ⌝ }
+{
+    zero_first(ids, times, arrivals, from, to);
+    zero_others(values, kinds, meters, from, to);
+}
+
+// Puts the places of bucket j's readings in front of `places`, line by line, where line i + 1 keeps kept[i]; returns how many there are.
+pub fn bucket_places(times: &[u32], kept: &[u32], bucket: u32, j: u32, places: &mut [u16]) -> usize
+    requires { let all : ℕ = length (now kept) * readingsPerLine in
+        ⌜ (0 < bucket) × (length (now kept) ≤ maxLines) × Every (λ n. n ≤ readingsPerLine) (now kept)
+        × (all ≤ length (now times)) × (all ≤ length (now places)) ⌝ }
+    ensures { λ r.
+        let found : List ℕ = bucketPlaces bucket j (now (times .entry)) 0 (now (kept .entry)) in
+        ⌜ (r ≡ length found) × (now (places .exit) ≡ sets (now (places .entry)) 0 found) ⌝ }
+{
+    let mut i = 0;
+    let mut at = 0;
+    while i < kept.len() {
+        let n = kept[i] as usize;
+        let base = i * store::READINGS_PER_LINE;
+        at += store_places::select(times, base, n, bucket, j, true, &mut places[at..]);
+        i += 1;
+    }
+    at
+}

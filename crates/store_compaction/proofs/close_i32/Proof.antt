@@ -1,0 +1,142 @@
+-- `store_compaction::close_i32` meets its contract: with k places moved, closing up the rest gives the same column.
+use mathlib.Core.Path.{_∙_, ap}
+use Prim.Native.Nat.{_+_, _-_, _<_, _≤_}
+use native.Mathlib.Omega.{arith}
+use mir.Syntax.{w32}
+use mir.Val.{SFits}
+use mir.Facts.{toZ-ofZ}
+use borrow.Author.Needs.{needs}
+use lib.IntN.{pos}
+use lib.ListN.{length, getD}
+use lib.Seq.{length-sets}
+use Rattle.store_places.proofs.PlacesLaws.{place-within, places-fit}
+use Rattle.store_compaction.proofs.ClosedUp.{Closing, closing-start, closing-turn, closing-end}
+use Rattle.store_compaction.proofs.close_i32.Statement.{statement}
+use Rattle.store_compaction.proofs.close_i32.Tie as tie
+
+abbrev Inv-loop : tie.InvT-loop
+Inv-loop xs₀ base n stay k₀ xs k = Closing (pos 0) base n stay xs₀ xs k
+
+abbrev μ-loop : tie.MeasureT-loop
+μ-loop xs₀ base n stay k₀ xs k = length stay - k
+
+-- ---- what is known at the places on the way
+
+abbrev entered : tie.At-loop Inv-loop μ-loop → tie.Start Inv-loop μ-loop
+entered l = l .before .before
+
+-- the loop's head, seen from where a place is read and from behind the loop
+abbrev read : tie.After-shared-slice-known2 Inv-loop μ-loop → tie.At-loop Inv-loop μ-loop
+read c = c .before .before
+
+abbrev left : tie.After-zero-i32-arg Inv-loop μ-loop → tie.At-loop Inv-loop μ-loop
+left c = c .before .before
+
+abbrev zeroed : tie.After-xs2 Inv-loop μ-loop → tie.After-zero-i32 Inv-loop μ-loop
+zeroed c = c .before
+
+-- the places that stay have room, and each lies in the share, not behind the one it goes to
+room : (s : tie.Start Inv-loop μ-loop) → s .args .base + length (s .args .stay .now) ≤ s .args .base + s .args .n
+room s = places-fit (s .args .base) (s .args .base + s .args .n) (s .args .stay .now) (s .pre .1)
+
+place :
+    (l : tie.At-loop Inv-loop μ-loop) → let a = entered l .args in
+    let k = l .loop .k in
+    k < length (a .stay .now) → (a .base + k ≤ getD (a .stay .now) k 0) × (getD (a .stay .now) k 0 < a .base + a .n)
+place l h =
+    let s = entered l in
+    let a = s .args in
+    place-within (a .base) (a .base + a .n) (a .stay .now) (l .loop .k) (s .pre .1) h
+
+-- ---- the needs
+
+loop-holds : tie.Need-loop-holds Inv-loop μ-loop
+loop-holds c =
+    let a = c .before .args in
+    closing-start (pos 0) (a .base) (a .n) (a .stay .now) (a .xs .now)
+
+mul-xs : tie.Need-mul-xs Inv-loop μ-loop
+mul-xs c = omega arith
+
+shared-slice-read-xs : tie.Need-shared-slice-read-xs Inv-loop μ-loop
+shared-slice-read-xs c = omega arith
+
+cast-xs : tie.Need-cast-xs Inv-loop μ-loop
+cast-xs c = omega (arith, c .shared-slice-known2 .given (read c .loop .k))
+
+mul-xs-2 : tie.Need-mul-xs-2 Inv-loop μ-loop
+mul-xs-2 c = omega (arith, place (read c) (omega arith))
+
+slice-copy-out-xs : tie.Need-slice-copy-out-xs Inv-loop μ-loop
+slice-copy-out-xs c = omega (arith, place (read c) (omega arith))
+
+add-t14 : tie.Need-add-t14 Inv-loop μ-loop
+add-t14 c = omega (arith, room (entered (read (c .before))))
+
+mul-t15 : tie.Need-mul-t15 Inv-loop μ-loop
+mul-t15 c = omega (arith, room (entered (read (c .before))))
+
+slice-set-from-xs : tie.Need-slice-set-from-xs Inv-loop μ-loop
+slice-set-from-xs c = omega (arith, room (entered (read (c .before))))
+
+add-k : tie.Need-add-k Inv-loop μ-loop
+add-k c = omega arith
+
+loop-less : tie.Need-loop-less Inv-loop μ-loop
+loop-less c = omega arith
+
+loop-again : tie.Need-loop-again Inv-loop μ-loop
+loop-again c =
+    let head = read (c .before) in
+    let s = entered head in
+    let a = s .args in
+    let l = head .loop in
+    let fits : SFits w32 (getD (l .xs) (getD (a .stay .now) (l .k) 0) (pos 0)) = search needs in
+    rw (toZ-ofZ fits)
+    (closing-turn (pos 0) (a .base) (a .n) (a .stay .now) (a .xs .now) (l .xs) (l .k) (l .inv) (s .pre .1) (omega arith))
+
+add-zero-i32 : tie.Need-add-zero-i32 Inv-loop μ-loop
+add-zero-i32 c = omega (arith, room (entered (left c)))
+
+add-zero-i32-2 : tie.Need-add-zero-i32-2 Inv-loop μ-loop
+add-zero-i32-2 c = omega arith
+
+zero-i32-requires : tie.Need-zero-i32-requires Inv-loop μ-loop
+zero-i32-requires c κs = omega (arith, room (entered (left c)))
+
+same-length : tie.Need-same-length Inv-loop μ-loop
+same-length c =
+    let z = zeroed c in
+    ap length (z .zero-i32 .ensures) ∙ simp length-sets (left (z .before) .loop .inv .1)
+
+returns : tie.Need-returns Inv-loop μ-loop
+returns c =
+    let z = zeroed c in
+    let head = left (z .before) in
+    let a = entered head .args in
+    let l = head .loop in
+    closing-end (pos 0) (a .base) (a .n) (a .stay .now) (a .xs .now) (l .xs) (l .k) (l .inv) _ (omega arith) (z .zero-i32 .ensures)
+
+pub close-i32-spec : {M : Type 1} → statement M
+close-i32-spec =
+    tie.close
+    (tie.spec
+    Inv-loop
+    μ-loop
+    loop-holds
+    mul-xs
+    shared-slice-read-xs
+    cast-xs
+    mul-xs-2
+    slice-copy-out-xs
+    add-t14
+    mul-t15
+    slice-set-from-xs
+    add-k
+    loop-less
+    loop-again
+    add-zero-i32
+    add-zero-i32-2
+    zero-i32-requires
+    same-length
+    returns)
