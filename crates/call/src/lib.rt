@@ -1,15 +1,23 @@
-// The box's entry point for a journal line. Whatever state, stores, text and area come, it answers.
+// The box's entry point for a journal line. Whatever state, arrays, stores, text and area come, it answers.
 ghost use mathlib.Core.Path.{_≡_};
 ghost use Rattle.store.specs.Columns.{columnsOf};
+ghost use Rattle.node.specs.Held.{Arrays, arraysOf, held};
 ghost use Rattle.node.specs.View.{Lent, lentOf};
 ghost use Rattle.node.specs.Calls.{calledOf, calledOn};
 use call_decision::Decision;
+use node::ALL_HEADS;
 use node::CallReply;
 use node::State;
+use operator::METERS;
+use operator_rows::ROWS;
 
-// Answers one call: it is refused, or it is done.
+// Answers one call: it is refused, and every array is left as it was, or it is done.
 pub fn call(
     state: State,
+    counts: &mut [[u32; METERS]; ROWS],
+    sums: &mut [[i64; METERS]; ROWS],
+    lasts: &mut [[i32; METERS]; ROWS],
+    heads: &mut [u32; ALL_HEADS],
     ids: &mut [u32],
     times: &mut [u32],
     values: &mut [i32],
@@ -21,6 +29,8 @@ pub fn call(
     area: &mut [u8],
 ) -> CallReply
     ensures { λ r.
+        let arrays : Arrays = arraysOf (now (counts .entry)) (now (sums .entry)) (now (lasts .entry)) (now (heads .entry)) in
+        let arrays′ : Arrays = arraysOf (now (counts .exit)) (now (sums .exit)) (now (lasts .exit)) (now (heads .exit)) in
         let before : Lent =
         lentOf
         (columnsOf (now (ids .entry)) (now (times .entry)) (now (values .entry)) (now (arrivals .entry)) (now (kinds .entry))
@@ -31,11 +41,17 @@ pub fn call(
         (columnsOf (now (ids .exit)) (now (times .exit)) (now (values .exit)) (now (arrivals .exit)) (now (kinds .exit))
         (now (meters .exit)))
         (now (sent .exit)) in
-        ⌜ calledOf r after (now (area .exit)) ≡ calledOn state before (now (text .entry)) (now (area .entry)) ⌝ }
+        ⌜ (calledOf r arrays′ after (now (area .exit)) ≡
+        calledOn (held state arrays) before (now (text .entry)) (now (area .entry))) ×
+        ((r .answer ≡ 0 → ⊥) → arrays′ ≡ arrays) ⌝ }
 {
     let read = journal::read_call(text);
     let decided = call_decision::decide(
         state,
+        counts,
+        sums,
+        lasts,
+        heads,
         ids,
         times,
         values,
@@ -50,6 +66,10 @@ pub fn call(
         Decision::Refused(answer) => node::refused(state, answer),
         Decision::Accepted(k) => call_acceptance::accept(
             state,
+            counts,
+            sums,
+            lasts,
+            heads,
             ids,
             times,
             values,

@@ -35,7 +35,7 @@ use Rattle.protocol.proofs.Passed as passes
 use Rattle.protocol.proofs.Faults.{line-iff}
 use Rattle.protocol.proofs.Acceptance.{accepted-is-done}
 use Rattle.node.specs.declared.LineHead.{LineHead}
-use Rattle.node.specs.declared.State.{State}
+use Rattle.node.specs.Held.{Held}
 use Rattle.node.specs.View.{Lent, lentOf, viewLine, places, view, headOf, putState, putColumns}
 use Rattle.node.specs.Calls.{Called, hostTests, putLent, laidOutcome, calledWith}
 use Rattle.node.proofs.Limits.{limits-hold}
@@ -83,7 +83,7 @@ module _ (s : Settings) (n : Node) (k : Call) where
 -- ---- laid down
 
 -- the state with its clock set
-abbrev pub atTick : State → ArrivalTick → State
+abbrev pub atTick : Held → ArrivalTick → Held
 atTick st now =
     record {
       operator = st .operator;
@@ -98,7 +98,7 @@ atTick st now =
     }
 
 -- the state with this head at place i
-abbrev pub withHead : State → ℕ → LineHead → State
+abbrev pub withHead : Held → ℕ → LineHead → Held
 withHead st i head =
     record {
       operator = st .operator;
@@ -117,7 +117,7 @@ abbrev setClock : ArrivalTick → Called → Called
 setClock now r =
     record { answer = r .answer; records = r .records; state = atTick (r .state) now; lent = r .lent; area = r .area }
 
-module _ (st : State) (x : Lent) (area : List ℕ) (k : Call) (ok : answerTo (st .settings) (view st (x .readings)) k ≡ 0) where
+module _ (st : Held) (x : Lent) (area : List ℕ) (k : Call) (ok : answerTo (st .settings) (view st (x .readings)) k ≡ 0) where
   abbrev node : Node
   node = view st (x .readings)
 
@@ -154,7 +154,7 @@ InputReady head x base k =
     (rises (share base (head .kept) (x .ids)) ≡ true)
 
 module _
-    (st : State) (lent : Lent) (area : List ℕ) (k : Call) (ok : answerTo (st .settings) (view st (lent .readings)) k ≡ 0)
+    (st : Held) (lent : Lent) (area : List ℕ) (k : Call) (ok : answerTo (st .settings) (view st (lent .readings)) k ≡ 0)
     (host : firstFailed (hostTests st lent area) ≡ 0) (named : k .line ≡ 0 → ⊥) where
   abbrev x : Columns
   x = lent .readings
@@ -211,10 +211,12 @@ module _
         rw kept at (rising-ids (namedLine (view st x) k .kept) (line .rising)) in
         (wide, small, free, rw (ids-share x base (head .kept) (omega arith)) at ids)
 
-    -- what the function of an input ensures of line and share is what the call leaves; it gives no record, so the send-back store stays
+    -- what the function of an input ensures of line and share, with the head that was read, is what the call leaves; it gives no record,
+    -- so the send-back store stays
     pub input-laid :
-        {after : LineHead} {y : Columns} → after ≡ headOf (onLine k (kindOf (k .kind)) (lineFrom head x base)) →
-        y ≡ withKept x base (head .kept) (onLine k (kindOf (k .kind)) (lineFrom head x base) .kept) →
+        (found : LineHead) → found ≡ head → {after : LineHead} {y : Columns} →
+        after ≡ headOf (onLine k (kindOf (k .kind)) (lineFrom found x base)) →
+        y ≡ withKept x base (found .kept) (onLine k (kindOf (k .kind)) (lineFrom found x base) .kept) →
         record {
           answer = 0;
           records = 0;
@@ -224,14 +226,14 @@ module _
         } ≡
         calledWith st lent area (CallRead.Accepted k)
     unfolding input putState putLent allBytes inFront view viewLine holding
-    input-laid e f =
+    input-laid found told e f =
         let kind : Kind = kindOf (k .kind) in
         let small : SmallLine (onLine k kind (lineFrom head x base)) =
         onLine-small k kind (lineFrom head x base) free
         (omega (arith, length-take (head .kept) (rowsFrom x base readingsPerLine), length-rowsFrom x base readingsPerLine)) in
         rw (
-          e,
-          f,
+          e ∙ ap (λ (h : LineHead). headOf (onLine k kind (lineFrom h x base))) told,
+          f ∙ ap (λ (h : LineHead). withKept x base (h .kept) (onLine k kind (lineFrom h x base) .kept)) told,
           ← heads-line st x fitted (k .line - 1) line-last (onLine k kind),
           ← putColumns-line st x fitted (k .line - 1) line-last (onLine k kind) (input (view st x) k kind .node) refl small,
         )

@@ -19,14 +19,14 @@ use Rattle.protocol.specs.Rules.{Outcome, ruleOf, act}
 use Rattle.protocol.specs.Undos.{stableRecords}
 use Rattle.protocol.specs.Demand.{itself}
 use Rattle.protocol.proofs.StepResults.{Gives, step-gives}
-use Rattle.node.specs.declared.State.{State}
+use Rattle.node.specs.Held.{Held}
 use Rattle.node.specs.Sizes.{areaBytes}
 use Rattle.node.specs.View.{view, putState}
 use Rattle.node.proofs.Shape.{StateShape}
 use Rattle.node.proofs.Few.{act-few}
 use Rattle.node.proofs.Sent.{holding-held}
 
-module _ (st : State) (x : Columns) (shape : StateShape st x) (tick : ArrivalTick) where
+module _ (st : Held) (x : Columns) (shape : StateShape st x) (tick : ArrivalTick) where
   abbrev pub done : Outcome
   done = act (st .settings) (view st x) (ruleOf (st .settings) (view st x) tick)
 
@@ -38,9 +38,9 @@ module _ (st : State) (x : Columns) (shape : StateShape st x) (tick : ArrivalTic
   gives = step-gives (st .settings) (view st x) (shape .buckets .order) (shape .numbers .level) tick
 
   -- the numbering of stable results moves on by as many
-  pub number-moves : (next : State) → next ≡ putState st (done .node) → next .checkpoint .number ≡ st .checkpoint .number + length stables
+  pub number-moves : (next : Held) → next ≡ putState st (done .node) → next .checkpoint .number ≡ st .checkpoint .number + length stables
   unfolding putState view
-  number-moves next e = ap (λ (q : State). q .checkpoint .number) e ∙ gives .newest
+  number-moves next e = ap (λ (q : Held). q .checkpoint .number) e ∙ gives .newest
 
   -- they lie in the area, and their numbers fit
   pub results-fit :

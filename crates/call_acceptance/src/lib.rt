@@ -5,17 +5,25 @@ ghost use Rattle.store.specs.Columns.{columnsOf};
 ghost use Rattle.protocol.specs.Node.{Node};
 ghost use Rattle.protocol.specs.Rules.{ruleOf, act};
 ghost use Rattle.protocol.specs.Refusals.{firstFailed, answerTo};
+ghost use Rattle.node.specs.Held.{Held, Arrays, arraysOf, held};
 ghost use Rattle.node.specs.View.{Lent, lentOf, view};
 ghost use Rattle.node.specs.Calls.{calledOf, hostTests, laidOutcome, calledWith};
 use clock::ArrivalTick;
 use journal::Call;
+use node::ALL_HEADS;
 use node::CallReply;
 use node::State;
+use operator::METERS;
+use operator_rows::ROWS;
 use step_outcome::StepOutcome;
 
 // Does a step, and lays the stable results that it gives at their places in the send-back store.
 fn step_and_hold(
     state: State,
+    counts: &mut [[u32; METERS]; ROWS],
+    sums: &mut [[i64; METERS]; ROWS],
+    lasts: &mut [[i32; METERS]; ROWS],
+    heads: &mut [u32; ALL_HEADS],
     ids: &mut [u32],
     times: &mut [u32],
     values: &mut [i32],
@@ -26,10 +34,13 @@ fn step_and_hold(
     tick: ArrivalTick,
     area: &mut [u8],
 ) -> StepOutcome
-    requires { let x : Lent =
+    requires { let h : Held = held state (arraysOf (now counts) (now sums) (now lasts) (now heads)) in
+        let x : Lent =
         lentOf (columnsOf (now ids) (now times) (now values) (now arrivals) (now kinds) (now meters)) (now sent) in
-        ⌜ firstFailed (hostTests state x (now area)) ≡ 0 ⌝ }
+        ⌜ firstFailed (hostTests h x (now area)) ≡ 0 ⌝ }
     ensures { λ r.
+        let arrays : Arrays = arraysOf (now (counts .entry)) (now (sums .entry)) (now (lasts .entry)) (now (heads .entry)) in
+        let arrays′ : Arrays = arraysOf (now (counts .exit)) (now (sums .exit)) (now (lasts .exit)) (now (heads .exit)) in
         let before : Lent =
         lentOf
         (columnsOf (now (ids .entry)) (now (times .entry)) (now (values .entry)) (now (arrivals .entry)) (now (kinds .entry))
@@ -40,13 +51,16 @@ fn step_and_hold(
         (columnsOf (now (ids .exit)) (now (times .exit)) (now (values .exit)) (now (arrivals .exit)) (now (kinds .exit))
         (now (meters .exit)))
         (now (sent .exit)) in
-        let n : Node = view state (before .readings) in
-        ⌜ record { answer = 0; records = r .records; state = r .state; lent = after; area = now (area .exit) } ≡
-        laidOutcome state before (now (area .entry)) (act (state .settings) n (ruleOf (state .settings) n tick)) ⌝ }
+        let n : Node = view (held state arrays) (before .readings) in
+        ⌜ record { answer = 0; records = r .records; state = held (r .state) arrays′; lent = after; area = now (area .exit) } ≡
+        laidOutcome (held state arrays) before (now (area .entry)) (act (state .settings) n (ruleOf (state .settings) n tick)) ⌝ }
 {
-    let old = state.checkpoint;
     let done = step::step(
         state,
+        counts,
+        sums,
+        lasts,
+        heads,
         ids,
         times,
         values,
@@ -56,15 +70,18 @@ fn step_and_hold(
         tick,
         area,
     );
-    let new = done.state.checkpoint;
-    let results = (new.number - old.number) as usize;
-    retransmission::hold(sent, old.number, area, results);
+    let results = (done.state.last_stable - state.last_stable) as usize;
+    retransmission::hold(sent, state.last_stable, area, results);
     done
 }
 
 // Does what an accepted call asks, and sets the clock.
 pub fn accept(
     state: State,
+    counts: &mut [[u32; METERS]; ROWS],
+    sums: &mut [[i64; METERS]; ROWS],
+    lasts: &mut [[i32; METERS]; ROWS],
+    heads: &mut [u32; ALL_HEADS],
     ids: &mut [u32],
     times: &mut [u32],
     values: &mut [i32],
@@ -75,10 +92,13 @@ pub fn accept(
     area: &mut [u8],
     k: Call,
 ) -> CallReply
-    requires { let x : Lent =
+    requires { let h : Held = held state (arraysOf (now counts) (now sums) (now lasts) (now heads)) in
+        let x : Lent =
         lentOf (columnsOf (now ids) (now times) (now values) (now arrivals) (now kinds) (now meters)) (now sent) in
-        ⌜ (firstFailed (hostTests state x (now area)) ≡ 0) × (answerTo (state .settings) (view state (x .readings)) k ≡ 0) ⌝ }
+        ⌜ (firstFailed (hostTests h x (now area)) ≡ 0) × (answerTo (state .settings) (view h (x .readings)) k ≡ 0) ⌝ }
     ensures { λ r.
+        let arrays : Arrays = arraysOf (now (counts .entry)) (now (sums .entry)) (now (lasts .entry)) (now (heads .entry)) in
+        let arrays′ : Arrays = arraysOf (now (counts .exit)) (now (sums .exit)) (now (lasts .exit)) (now (heads .exit)) in
         let before : Lent =
         lentOf
         (columnsOf (now (ids .entry)) (now (times .entry)) (now (values .entry)) (now (arrivals .entry)) (now (kinds .entry))
@@ -89,12 +109,17 @@ pub fn accept(
         (columnsOf (now (ids .exit)) (now (times .exit)) (now (values .exit)) (now (arrivals .exit)) (now (kinds .exit))
         (now (meters .exit)))
         (now (sent .exit)) in
-        ⌜ calledOf r after (now (area .exit)) ≡ calledWith state before (now (area .entry)) (Read.Accepted k) ⌝ }
+        ⌜ calledOf r arrays′ after (now (area .exit)) ≡
+        calledWith (held state arrays) before (now (area .entry)) (Read.Accepted k) ⌝ }
 {
     let now = k.now;
     if k.line == 0 {
         let done = step_and_hold(
             state,
+            counts,
+            sums,
+            lasts,
+            heads,
             ids,
             times,
             values,
@@ -116,9 +141,9 @@ pub fn accept(
     let mut next = state;
     let i = k.line as usize - 1;
     let base = i * store::READINGS_PER_LINE;
-    let head = next.heads[i];
+    let head = node_heads::head_at(heads, i);
     let after = call_inputs::input(head, ids, times, values, arrivals, kinds, meters, base, k);
-    next.heads[i] = after;
+    node_heads::set_head(heads, i, after);
     next.clock = now;
     CallReply {
         state: next,

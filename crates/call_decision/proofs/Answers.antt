@@ -19,7 +19,7 @@ use Rattle.store.proofs.Pairs.{every-to}
 use Rattle.store.proofs.Columns.{room}
 use Rattle.protocol.specs.Refusals.{firstFailed, answerTo}
 use Rattle.node.specs.declared.LineHead.{LineHead}
-use Rattle.node.specs.declared.State.{State}
+use Rattle.node.specs.Held.{Held}
 use Rattle.node.specs.View.{Lent, places, view}
 use Rattle.node.specs.Shape.{stateInShape, displaysOk}
 use Rattle.node.specs.Calls.{hostTests, refusedWith, calledWith, calledOn}
@@ -31,7 +31,7 @@ use Rattle.call_decision.specs.declared.Decision.{Decision}
 use Rattle.call_decision.specs.declared.Decision.the-variants as Decision
 
 -- what the call's tests ask of state and stores
-pub record RefusalReady (st : State) (x : Lent) : Type 0 where
+pub record RefusalReady (st : Held) (x : Lent) : Type 0 where
   pub lines : st .settings .lines ≤ maxLines
   pub room : st .settings .lines * readingsPerLine ≤ storeLength (x .readings)
   pub kinds : st .settings .lines * readingsPerLine ≤ length (x .readings .kinds)
@@ -39,7 +39,7 @@ pub record RefusalReady (st : State) (x : Lent) : Type 0 where
   pub displays : displaysOk st ≡ true
   pub small : Every (λ (h : LineHead). h .kept ≤ readingsPerLine) (take (st .settings .lines) (st .heads))
 
-pub refusal-ready : (st : State) (x : Lent) (area : List ℕ) → firstFailed (hostTests st x area) ≡ 0 → RefusalReady st x
+pub refusal-ready : (st : Held) (x : Lent) (area : List ℕ) → firstFailed (hostTests st x area) ≡ 0 → RefusalReady st x
 unfolding places
 refusal-ready st x area e =
     let h : HostPassed st x area = host-passed st x area e in
@@ -55,7 +55,7 @@ refusal-ready st x area e =
 
 -- ---- each way out is what is decided
 
-module _ (st : State) (x : Lent) (read : CallRead) (area : List ℕ) where
+module _ (st : Held) (x : Lent) (read : CallRead) (area : List ℕ) where
   pub host-refused : {n : ℕ} → n ≡ firstFailed (hostTests st x area) → (n ≡ 0 → ⊥) → Decision.Refused n ≡ decidedOn st x read area
   unfolding decidedOn
   host-refused e h = rw (e, ne-eqb (firstFailed (hostTests st x area)) 0 (λ z. h (e ∙ z)))
@@ -83,16 +83,16 @@ module _ (st : State) (x : Lent) (read : CallRead) (area : List ℕ) where
 -- ---- what is decided is what a call answers
 
 -- no test fails, and the call is what the text asks for
-pub record Passed (st : State) (x : Lent) (text area : List ℕ) (k : Call) : Type 0 where
+pub record Passed (st : Held) (x : Lent) (text area : List ℕ) (k : Call) : Type 0 where
   pub host : firstFailed (hostTests st x area) ≡ 0
   pub call : answerTo (st .settings) (view st (x .readings)) k ≡ 0
   pub done : calledWith st x area (CallRead.Accepted k) ≡ calledOn st x text area
 
-unfoldable pub Answered : State → Lent → List ℕ → List ℕ → Decision → Type 0
+unfoldable pub Answered : Held → Lent → List ℕ → List ℕ → Decision → Type 0
 Answered st x text area (Decision.Refused n) = refusedWith n st x area ≡ calledOn st x text area
 Answered st x text area (Decision.Accepted k) = Passed st x text area k
 
-module _ (st : State) (x : Lent) (text area : List ℕ) where
+module _ (st : Held) (x : Lent) (text area : List ℕ) where
   module _ (host : firstFailed (hostTests st x area) ≡ 0) where
     left-to-text : {r : CallRead} → callOf text ≡ r → calledWith st x area r ≡ calledOn st x text area
     unfolding calledOn

@@ -21,15 +21,15 @@ use Rattle.protocol.specs.declared.Rule.the-variants as Rule
 use Rattle.protocol.specs.Rules.{ruleOf, worked}
 use Rattle.protocol.specs.Kinds.{Kind, isStep}
 use Rattle.protocol.specs.Displays.{leastOf, givenUpTo, freePlaces, lacksPlaces}
-use Rattle.node.specs.declared.State.{State}
+use Rattle.node.specs.Held.{Held}
 use Rattle.node.specs.View.{view}
 use Rattle.step_work.proofs.Given.{few-results}
 
 -- the free places, as the code counts them
-abbrev pub freeIn : State → ℕ
+abbrev pub freeIn : Held → ℕ
 freeIn st = heldResults - (st .checkpoint .number - leastOf (take (st .settings .displays) (st .acknowledged)))
 
-module _ (st : State) (x : Columns) where
+module _ (st : Held) (x : Columns) where
   free-places : freePlaces (view st x) ≡ freeIn st
   unfolding freePlaces givenUpTo view
   free-places = refl

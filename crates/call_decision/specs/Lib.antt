@@ -1,2 +1,3 @@
 -- What is decided of a call.
 pub mod Deciding
+pub mod Stores

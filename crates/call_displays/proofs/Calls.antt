@@ -13,7 +13,7 @@ use Rattle.retransmission.specs.Places.{placesOf, withPlaces, givenUp, heldBehi
 use Rattle.protocol.specs.Tests.{firstFailed}
 use Rattle.protocol.specs.Displays.{leastOf, givenUpTo, answerToAcknowledgement, answerToFetch, acknowledging, fetchCount}
 use Rattle.protocol.specs.Calls.{acknowledgedBy}
-use Rattle.node.specs.declared.State.{State}
+use Rattle.node.specs.Held.{Held}
 use Rattle.node.specs.View.{Lent, lentOf, view, withAcknowledged}
 use Rattle.node.specs.Calls.{hostTests, refusedWith}
 use Rattle.node.specs.Displays.{freed, acknowledgedWith, acknowledgedOn, fetchedWith, fetchedOn}
@@ -23,12 +23,12 @@ use Rattle.node.proofs.Calls.{HostPassed, host-passes}
 use Rattle.node.proofs.Displays.{accepts-acknowledgement, acknowledged-view, accepts-fetch}
 
 -- what is known of a state that passed the host's tests
-pub record Ready (st : State) : Type 0 where
+pub record Ready (st : Held) : Type 0 where
   pub some : 1 ≤ st .settings .displays
   pub few : st .settings .displays ≤ maxDisplays
   pub newest : st .checkpoint .number + 1 < 2 ^ 64
 
-pub ready : (st : State) (x : Lent) (area : List ℕ) → HostPassed st x area → Ready st
+pub ready : (st : Held) (x : Lent) (area : List ℕ) → HostPassed st x area → Ready st
 ready st x area h =
     let f = inShape-facts st x (h .shape) in
     let l = limits-hold (st .settings) (f .limits) in
@@ -38,7 +38,7 @@ ready st x area h =
       newest = omega (arith, f .numbers .stable, f .buckets .order, f .buckets .last);
     }
 
-module _ (st : State) (x : Lent) (area : List ℕ) (display id : ℕ) where
+module _ (st : Held) (x : Lent) (area : List ℕ) (display id : ℕ) where
   -- the displays' ids as they are, and all that the state holds with this one
   abbrev ids : List ℕ
   ids = take (st .settings .displays) (st .acknowledged)

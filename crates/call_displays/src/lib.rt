@@ -1,18 +1,24 @@
-// The box's entry points for a display: it acknowledges results, or fetches those that are held. Whatever state, stores and area come,
-// they answer.
+// The box's entry points for a display: it acknowledges results, or fetches those that are held. Whatever state, arrays, stores and area
+// come, they answer.
 ghost use mathlib.Core.Path.{_≡_};
+ghost use mathlib.Core.List.{List};
 ghost use Prim.Native.Nat.{_+_, _^_, _≤_, _<_};
+ghost use lib.IntN.{ℤ};
 ghost use lib.ListN.{take};
 ghost use Rattle.settings.specs.declared.Settings.{Settings};
 ghost use Rattle.settings.specs.Limits.{maxDisplays};
 ghost use Rattle.store.specs.Columns.{Columns, columnsOf};
 ghost use Rattle.protocol.specs.Node.{Node};
 ghost use Rattle.protocol.specs.Displays.{givenUpTo, newestStable, answerToAcknowledgement, answerToFetch};
+ghost use Rattle.node.specs.Held.{Arrays, arraysOf, held};
 ghost use Rattle.node.specs.View.{Lent, lentOf};
 ghost use Rattle.node.specs.Calls.{calledOf};
 ghost use Rattle.node.specs.Displays.{acknowledgedOn, fetchedOn};
+use node::ALL_HEADS;
 use node::CallReply;
 use node::State;
+use operator::METERS;
+use operator_rows::ROWS;
 
 // The answer to an acknowledgement that the host's tests let through.
 fn acknowledgement_answer(
@@ -66,6 +72,9 @@ fn fetch_answer(least: u64, displays: u32, newest: u64, display: u32, from: u64)
 // A display has everything up to this result: its last id is this one, and what all have now is given up.
 pub fn acknowledge(
     state: State,
+    counts: &[[u32; METERS]; ROWS],
+    sums: &[[i64; METERS]; ROWS],
+    heads: &[u32; ALL_HEADS],
     ids: &[u32],
     times: &[u32],
     values: &[i32],
@@ -81,11 +90,16 @@ pub fn acknowledge(
         let readings : Columns =
         columnsOf (now (ids .entry)) (now (times .entry)) (now (values .entry)) (now (arrivals .entry)) (now (kinds .entry))
         (now (meters .entry)) in
-        ⌜ calledOf r (lentOf readings (now (sent .exit))) (now (area .entry)) ≡
-        acknowledgedOn state (lentOf readings (now (sent .entry))) display id (now (area .entry)) ⌝ }
+        ⌜ ((lasts : List (List ℤ)) →
+        (let arrays : Arrays = arraysOf (now (counts .entry)) (now (sums .entry)) lasts (now (heads .entry)) in
+        calledOf r arrays (lentOf readings (now (sent .exit))) (now (area .entry)) ≡
+        acknowledgedOn (held state arrays) (lentOf readings (now (sent .entry))) display id (now (area .entry)))) ⌝ }
 {
     let host = call_shape::host_refusal(
         state,
+        counts,
+        sums,
+        heads,
         ids,
         times,
         values,
@@ -99,9 +113,8 @@ pub fn acknowledge(
         return node::refused(state, host);
     }
     let settings = state.settings;
-    let checkpoint = state.checkpoint;
     let before = state.acknowledged;
-    let answer = acknowledgement_answer(before, settings.displays, checkpoint.number, display, id);
+    let answer = acknowledgement_answer(before, settings.displays, state.last_stable, display, id);
     if answer != 0 {
         return node::refused(state, answer);
     }
@@ -122,6 +135,9 @@ pub fn acknowledge(
 // A display gets held results from this one on, 64 at most, from the area's first byte on.
 pub fn fetch(
     state: State,
+    counts: &[[u32; METERS]; ROWS],
+    sums: &[[i64; METERS]; ROWS],
+    heads: &[u32; ALL_HEADS],
     ids: &[u32],
     times: &[u32],
     values: &[i32],
@@ -139,10 +155,15 @@ pub fn fetch(
         (columnsOf (now (ids .entry)) (now (times .entry)) (now (values .entry)) (now (arrivals .entry)) (now (kinds .entry))
         (now (meters .entry)))
         (now (sent .entry)) in
-        ⌜ calledOf r x (now (area .exit)) ≡ fetchedOn state x display from (now (area .entry)) ⌝ }
+        ⌜ ((lasts : List (List ℤ)) →
+        (let arrays : Arrays = arraysOf (now (counts .entry)) (now (sums .entry)) lasts (now (heads .entry)) in
+        calledOf r arrays x (now (area .exit)) ≡ fetchedOn (held state arrays) x display from (now (area .entry)))) ⌝ }
 {
     let host = call_shape::host_refusal(
         state,
+        counts,
+        sums,
+        heads,
         ids,
         times,
         values,
@@ -156,8 +177,7 @@ pub fn fetch(
         return node::refused(state, host);
     }
     let settings = state.settings;
-    let stable = state.checkpoint;
-    let newest = stable.number;
+    let newest = state.last_stable;
     let acknowledged = state.acknowledged;
     let displays = settings.displays as usize;
     let least = call_acknowledgements::least(acknowledged, displays);

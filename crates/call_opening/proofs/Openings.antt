@@ -18,12 +18,12 @@ use Rattle.store.proofs.Columns.{withRowsAt-front}
 use Rattle.retransmission.specs.Sizes.{heldResults, heldBytes}
 use Rattle.retransmission.specs.Places.{emptyPlace, withPlaces}
 use Rattle.retransmission.proofs.Emptied.{emptied}
-use Rattle.node.specs.declared.State.{State}
+use Rattle.node.specs.Held.{Held}
 use Rattle.node.specs.View.{Lent, lentOf}
 use Rattle.node.specs.Opening.{isShort, freshState, openedWith, openedOn}
 use Rattle.node.proofs.Opening.{not-short}
 
-module _ (st : State) (x : Lent) (text : List ℕ) where
+module _ (st : Held) (x : Lent) (text : List ℕ) where
   pub opening-malformed : settingsOf text ≡ SettingsRead.Malformed → record { answer = 1; state = st; lent = x } ≡ openedOn st x text
   unfolding openedOn openedWith settingsAnswer
   opening-malformed e = sym (ap (openedWith st x) e)
@@ -39,7 +39,7 @@ module _ (st : State) (x : Lent) (text : List ℕ) where
 
     pub opening-done :
         isShort (s .lines) x ≡ false →
-        {fresh : State} → fresh ≡ freshState s →
+        {fresh : Held} → fresh ≡ freshState s →
         {y : Columns} → y ≡ withRowsAt (x .readings) 0 (replicate (s .lines * readingsPerLine - 0) zeroed) →
         {sent : List ℕ} → sent ≡ sets (x .sent) 0 (replicate heldBytes 0) →
         record { answer = 0; state = fresh; lent = lentOf y sent } ≡ openedOn st x text

@@ -3,7 +3,7 @@ ghost use mathlib.Core.Path.{_≡_};
 ghost use mathlib.Core.List.{_++_};
 ghost use Prim.Native.Nat.{_+_, _-_, _*_, _≤_};
 ghost use lib.Dec.{eqb};
-ghost use lib.ListN.{length, take, getD};
+ghost use lib.ListN.{length, take};
 ghost use Rattle.settings.specs.Limits.{maxLines};
 ghost use Rattle.journal.specs.Kinds.{letterT};
 ghost use Rattle.store.specs.Lists.{Every, someOf};
@@ -12,15 +12,16 @@ ghost use Rattle.store.specs.Columns.{Columns, storeLength};
 ghost use Rattle.store.specs.Parts.{share};
 ghost use Rattle.store_columns.specs.Shape.{isReadingKind};
 ghost use Rattle.protocol.specs.Kinds.{Kind, kindOf, isStep};
-ghost use Rattle.protocol.specs.Node.{Line, noLine, keepsTentative};
+ghost use Rattle.protocol.specs.Node.{Line, keepsTentative};
 ghost use Rattle.protocol.specs.Refusals.{namedLine, wrongLine, unusedField, wrongMeter, wrongId, tooEarly, isHeldBack, isFull};
 ghost use Rattle.protocol.specs.Refusals.{firstFailed, callTests, lineTests};
-ghost use Rattle.node.specs.declared.State.{State as Whole};
-ghost use Rattle.node.specs.View.{headOf, view};
+ghost use Rattle.node.specs.Held.{Held, headAt, headsOf};
+ghost use Rattle.node.specs.View.{view};
 ghost use Rattle.call_refusals.specs.Tests.{StandsIn};
 use clock::ArrivalTick;
 use clock::ReadingTime;
 use journal::Call;
+use node::ALL_HEADS;
 use node::LineHead;
 use settings::Settings;
 
@@ -152,18 +153,17 @@ fn line_refusal(head: LineHead, kinds: &[u8], base: usize, k: Call) -> u32
     0
 }
 
-// The first of refusals 11 to 14 for the line that a call names. A function of its own, so that the heads are copied only where they are
-// looked at.
-fn named_line_refusal(heads: [LineHead; node::HEADS], kinds: &[u8], k: Call) -> u32
+// The first of refusals 11 to 14 for the line that a call names.
+fn named_line_refusal(heads: &[u32; ALL_HEADS], kinds: &[u8], k: Call) -> u32
     requires { let i = k .line - 1 in
-        ⌜ (1 ≤ k .line) × (k .line ≤ maxLines) × (i * readingsPerLine + getD heads i (headOf noLine) .kept ≤ length (now kinds)) ⌝ }
+        ⌜ (1 ≤ k .line) × (k .line ≤ maxLines) × (i * readingsPerLine + headAt (now heads) i .kept ≤ length (now kinds)) ⌝ }
     ensures { λ r.
         let i = k .line - 1 in
-        ⌜ ((l : Line) → StandsIn (getD heads i (headOf noLine)) (now (kinds .entry)) (i * readingsPerLine) l →
+        ⌜ ((l : Line) → StandsIn (headAt (now (heads .entry)) i) (now (kinds .entry)) (i * readingsPerLine) l →
         r ≡ firstFailed (lineTests l k (kindOf (k .kind)))) ⌝ }
 {
     let i = k.line as usize - 1;
-    let head = heads[i];
+    let head = node_heads::head_at(heads, i);
     line_refusal(head, kinds, i * store::READINGS_PER_LINE, k)
 }
 
@@ -171,17 +171,17 @@ fn named_line_refusal(heads: [LineHead; node::HEADS], kinds: &[u8], k: Call) -> 
 pub fn refusal(
     s: Settings,
     clock: ArrivalTick,
-    heads: [LineHead; node::HEADS],
+    heads: &[u32; ALL_HEADS],
     kinds: &[u8],
     k: Call,
 ) -> u32
     requires { ⌜ (s .lines ≤ maxLines) × (s .lines * readingsPerLine ≤ length (now kinds)) ×
-        Every (λ h. h .kept ≤ readingsPerLine) (take (s .lines) heads) ⌝ }
+        Every (λ h. h .kept ≤ readingsPerLine) (take (s .lines) (headsOf (now heads))) ⌝ }
     ensures { λ r.
         let kind : Kind = kindOf (k .kind) in
-        ⌜ ((st : Whole) → (x : Columns) → st .settings ≡ s → st .heads ≡ heads → x .kinds ≡ now (kinds .entry) →
+        ⌜ ((h : Held) → (x : Columns) → h .settings ≡ s → h .heads ≡ headsOf (now (heads .entry)) → x .kinds ≡ now (kinds .entry) →
         s .lines * readingsPerLine ≤ storeLength x →
-        r ≡ firstFailed (callTests s clock k kind ++ lineTests (namedLine (view st x) k) k kind)) ⌝ }
+        r ≡ firstFailed (callTests s clock k kind ++ lineTests (namedLine (view h x) k) k kind)) ⌝ }
 {
     let early = call_refusal(s, clock, k);
     if early != 0 {

@@ -9,7 +9,7 @@ use lib.ListN.{length}
 use Rattle.store.specs.Columns.{Columns}
 use Rattle.protocol.specs.Tests.{firstFailed}
 use Rattle.retransmission.specs.Sizes.{heldBytes}
-use Rattle.node.specs.declared.State.{State}
+use Rattle.node.specs.Held.{Held}
 use Rattle.node.specs.Sizes.{areaBytes}
 use Rattle.node.specs.View.{lentOf}
 use Rattle.node.specs.Shape.{displaysOk, sentOk, stateInShape, inShape}
@@ -29,7 +29,7 @@ lent lines x short found long =
       ofMeters = refl;
     }
 
-module _ (st : State) (x : Columns) (sent area : List ℕ) (short : Bool) (found : short ≡ sharesShort (st .settings .lines) x) where
+module _ (st : Held) (x : Columns) (sent area : List ℕ) (short : Bool) (found : short ≡ sharesShort (st .settings .lines) x) where
   pub short-store : short ≡ true → 3 ≡ firstFailed (hostTests st (lentOf x sent) area)
   unfolding hostTests firstFailed isShort
   short-store e = rw (← found, e)

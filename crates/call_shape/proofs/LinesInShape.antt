@@ -1,5 +1,6 @@
 -- The lines in shape, line by line: the tests of heads and readings from line i on come to what all of them do, as long as each line before
--- passes. A line's readings are the first rows of its share, and their tests are those of the columns.
+-- passes. A line's head is read off the lent numbers; its readings are the first rows of its share, and their tests are those of the
+-- columns.
 use Prim.Native.Nat.{ℕ, _+_, _*_, _≤_, _<_}
 use mathlib.Core.Path.{_≡_, refl, sym, _∙_, ap, ap₂}
 use mathlib.Core.Bool.{Bool, true, false, _&&_, and-false}
@@ -10,6 +11,7 @@ use borrow.Author.Tests.{leb-true}
 use lib.Dec.{leb, ltb}
 use lib.ListN.{length, getD, take, drop, drop-of-length-le}
 use lib.Seq.{drop-cons, getD-take, length-take-le}
+use Rattle.settings.specs.Limits.{maxLines}
 use Rattle.store.specs.declared.Reading.{Reading}
 use Rattle.store.specs.Sizes.{readingsPerLine}
 use Rattle.store.specs.Lists.{allOf}
@@ -20,11 +22,13 @@ use Rattle.store_columns.proofs.Kept.{ids-rise, kinds-are-readings, meters-belo
 use Rattle.operator.specs.Meters.{meterCount}
 use Rattle.protocol.specs.Node.{noLine}
 use Rattle.node.specs.declared.LineHead.{LineHead}
-use Rattle.node.specs.View.{viewLines, headOf}
+use Rattle.node.specs.Held.{headAt, headsOf}
+use Rattle.node.specs.View.{viewLine, viewLines, headOf}
 use Rattle.node.specs.Shape.{readingOk, idsRise, headOk, keptOk}
 use Rattle.node.proofs.Lines.{line-rows}
 use Rattle.node.proofs.EachLine.{lineAt, lines-left, no-lines-left}
 use Rattle.call_shape.specs.Lent.{Lends, shareOk}
+use Rattle.node_heads.proofs.Heads.{head-of, length-heads}
 
 -- ---- a share
 
@@ -56,10 +60,6 @@ small-head h e = leb-true _ _ (and-parts (leb (h .kept) readingsPerLine) (leb (h
 
 -- ---- the lines left
 
--- the head of line i
-abbrev pub headAt : List LineHead → ℕ → LineHead
-headAt hs i = getD hs i (headOf noLine)
-
 -- heads and readings of n lines are in shape, from line i on
 abbrev pub linesOk : ℕ → List LineHead → Columns → ℕ → Bool
 linesOk n hs x i =
@@ -69,7 +69,9 @@ linesOk n hs x i =
 abbrev pub LinesSoFar : ℕ → List LineHead → List ℕ → List ℕ → List ℕ → ℕ → Type 0
 LinesSoFar n hs ids kinds meters i = (x : Columns) → Lends x n ids kinds meters → linesOk n hs x i ≡ linesOk n hs x 0
 
-heads-left : (n : ℕ) (hs : List LineHead) (i : ℕ) → n ≤ length hs → i < n → drop i (take n hs) ≡ headAt hs i ∷ drop (i + 1) (take n hs)
+heads-left :
+    (n : ℕ) (hs : List LineHead) (i : ℕ) → n ≤ length hs → i < n →
+    drop i (take n hs) ≡ getD hs i (headOf noLine) ∷ drop (i + 1) (take n hs)
 heads-left n hs i many below =
     let e : length (take n hs) ≡ n = length-take-le n hs many in
     rw (add-one, drop-cons (take n hs) i (headOf noLine) (omega arith), getD-take n hs i (headOf noLine) below)
@@ -79,35 +81,44 @@ no-heads-left n hs i many h =
     let e : length (take n hs) ≡ n = length-take-le n hs many in
     drop-of-length-le (take n hs) {i = i} (omega arith)
 
+-- the heads as they are lent
 module _
-    (n : ℕ) (hs : List LineHead) (ids kinds meters : List ℕ) (many : n ≤ length hs) (i : ℕ) (v : LinesSoFar n hs ids kinds meters i)
+    (n : ℕ) (ns : List ℕ) (ids kinds meters : List ℕ) (most : n ≤ maxLines) (i : ℕ) (v : LinesSoFar n (headsOf ns) ids kinds meters i)
     (x : Columns) (lent : Lends x n ids kinds meters) where
+  abbrev hs : List LineHead
+  hs = headsOf ns
+
+  many : n ≤ length hs
+  many = omega (arith, length-heads ns)
+
   pub lines-end : n ≤ i → true ≡ linesOk n hs x 0
   unfolding allOf
   lines-end h =
       rw (no-heads-left n hs i many h, no-lines-left n hs (rows x (n * readingsPerLine)) i many h) at (v x lent)
 
-  module _ (below : i < n) where
-    head-left : allOf headOk (drop i (take n hs)) ≡ headOk (headAt hs i) && allOf headOk (drop (i + 1) (take n hs))
-    unfolding allOf
-    head-left = rw (heads-left n hs i many below)
+  module _ (below : i < n) (head : LineHead) (read : head ≡ headAt ns i) where
+    found : getD hs i (headOf noLine) ≡ head
+    found = head-of ns i (omega arith) ∙ sym read
 
-    pub lines-wrong-head : headOk (headAt hs i) ≡ false → false ≡ linesOk n hs x 0
+    head-left : allOf headOk (drop i (take n hs)) ≡ headOk head && allOf headOk (drop (i + 1) (take n hs))
+    unfolding allOf
+    head-left = rw (heads-left n hs i many below, found)
+
+    pub lines-wrong-head : headOk head ≡ false → false ≡ linesOk n hs x 0
     lines-wrong-head e = rw (head-left, e) at (v x lent)
 
-    module _
-        (right : headOk (headAt hs i) ≡ true) (ok : Bool)
-        (told : ok ≡ shareOk (i * readingsPerLine) (headAt hs i .kept) ids kinds meters) where
+    module _ (right : headOk head ≡ true) (ok : Bool) (told : ok ≡ shareOk (i * readingsPerLine) (head .kept) ids kinds meters) where
       line-ok : keptOk (lineAt hs (rows x (n * readingsPerLine)) i) ≡ ok
       unfolding keptOk
       line-ok =
-          let small : headAt hs i .kept ≤ readingsPerLine = small-head (headAt hs i) right in
+          let small : head .kept ≤ readingsPerLine = small-head head right in
           let lentShare :
-          shareOk (i * readingsPerLine) (headAt hs i .kept) (x .ids) (x .kinds) (x .meters) ≡
-          shareOk (i * readingsPerLine) (headAt hs i .kept) ids kinds meters = cc in
-          ap (λ (rs : List Reading). allOf readingOk rs && idsRise rs)
-          (line-rows x (n * readingsPerLine) i (headAt hs i) small (omega arith)) ∙
-          sym (rows-ok x (i * readingsPerLine) (headAt hs i .kept) (omega (arith, lent .room))) ∙ lentShare ∙ sym told
+          shareOk (i * readingsPerLine) (head .kept) (x .ids) (x .kinds) (x .meters) ≡
+          shareOk (i * readingsPerLine) (head .kept) ids kinds meters = cc in
+          let share : List Reading = take readingsPerLine (drop (i * readingsPerLine) (rows x (n * readingsPerLine))) in
+          ap (λ (h : LineHead). keptOk (viewLine h share)) found ∙
+          ap (λ (rs : List Reading). allOf readingOk rs && idsRise rs) (line-rows x (n * readingsPerLine) i head small (omega arith)) ∙
+          sym (rows-ok x (i * readingsPerLine) (head .kept) (omega (arith, lent .room))) ∙ lentShare ∙ sym told
 
       line-left :
           allOf keptOk (drop i (viewLines n hs (rows x (n * readingsPerLine)))) ≡

@@ -4,6 +4,7 @@ ghost use mathlib.Core.Bool.{true, cond, _&&_};
 ghost use mathlib.Core.List.{List};
 ghost use Prim.Native.Nat.{ℕ, _+_, _*_, _-_, _≤_};
 ghost use lib.Dec.{leb, eqb};
+ghost use lib.IntN.{ℤ};
 ghost use lib.ListN.{length, take};
 ghost use Rattle.settings.specs.Limits.{maxLines, maxDisplays};
 ghost use Rattle.store.specs.Sizes.{readingsPerLine};
@@ -14,13 +15,17 @@ ghost use Rattle.node.specs.Sizes.{lastBucket, resultsPerBucket};
 ghost use Rattle.protocol.specs.Displays.{leastOf};
 ghost use Rattle.retransmission.specs.Sizes.{heldBytes};
 ghost use Rattle.retransmission.specs.Places.{placesOf, placesOk};
-ghost use Rattle.node.specs.View.{lentOf, viewLines, places};
+ghost use Rattle.node.specs.Held.{arraysOf, headsOf, held};
+ghost use Rattle.node.specs.View.{lentOf, viewLines};
 ghost use Rattle.node.specs.Shape.{headOk, keptOk, phaseOk, displayOk, stateInShape};
 ghost use Rattle.node.specs.Opening.{sharesShort};
 ghost use Rattle.node.specs.Calls.{hostTests};
 ghost use Rattle.call_shape.specs.Lent.{Lends, shareOk};
+use node::ALL_HEADS;
 use node::LineHead;
 use node::State;
+use operator::METERS;
+use operator_rows::ROWS;
 use protocol::Phase;
 
 // Bytes of an output area that no call is refused for.
@@ -76,7 +81,7 @@ fn is_share_ok(ids: &[u32], kinds: &[u8], meters: &[u8], base: usize, n: usize) 
 
 // Whether the first `lines` heads and the readings that they keep are in shape.
 fn are_lines_ok(
-    heads: [LineHead; node::HEADS],
+    heads: &[u32; ALL_HEADS],
     lines: usize,
     ids: &[u32],
     kinds: &[u8],
@@ -86,11 +91,12 @@ fn are_lines_ok(
         ⌜ (lines ≤ maxLines) × (end ≤ length (now ids)) × (end ≤ length (now kinds)) × (end ≤ length (now meters)) ⌝ }
     ensures { λ r.
         ⌜ ((x : Columns) → Lends x lines (now (ids .entry)) (now (kinds .entry)) (now (meters .entry)) →
-        r ≡ (allOf headOk (take lines heads) && allOf keptOk (viewLines lines heads (rows x (lines * readingsPerLine))))) ⌝ }
+        (let own = headsOf (now (heads .entry)) in
+        r ≡ (allOf headOk (take lines own) && allOf keptOk (viewLines lines own (rows x (lines * readingsPerLine)))))) ⌝ }
 {
     let mut i = 0;
     while i < lines {
-        let h = heads[i];
+        let h = node_heads::head_at(heads, i);
         if !is_head_ok(h) {
             return false;
         }
@@ -128,26 +134,32 @@ fn are_numbers_ok(stable: u64, newest: u64, c: u32, p: u32) -> bool
 }
 
 // Whether state and store are in shape, where the store is long enough.
-fn is_in_shape(state: State, ids: &[u32], kinds: &[u8], meters: &[u8]) -> bool
-    requires { let end = places state in
+fn is_in_shape(
+    state: State,
+    counts: &[[u32; METERS]; ROWS],
+    sums: &[[i64; METERS]; ROWS],
+    heads: &[u32; ALL_HEADS],
+    ids: &[u32],
+    kinds: &[u8],
+    meters: &[u8],
+) -> bool
+    requires { let end = state .settings .lines * readingsPerLine in
         ⌜ (end ≤ length (now ids)) × (end ≤ length (now kinds)) × (end ≤ length (now meters)) ⌝ }
     ensures { λ r.
-        ⌜ ((x : Columns) → Lends x (state .settings .lines) (now (ids .entry)) (now (kinds .entry)) (now (meters .entry)) →
-        r ≡ stateInShape state x) ⌝ }
+        ⌜ ((lasts : List (List ℤ)) (x : Columns) →
+        Lends x (state .settings .lines) (now (ids .entry)) (now (kinds .entry)) (now (meters .entry)) →
+        r ≡ stateInShape (held state (arraysOf (now (counts .entry)) (now (sums .entry)) lasts (now (heads .entry)))) x) ⌝ }
 {
     let settings = state.settings;
     if !settings::within_limits(settings) {
         return false;
     }
-    let heads = state.heads;
     let phase = state.phase;
-    let operator = state.operator;
-    let checkpoint = state.checkpoint;
     let lines = settings.lines as usize;
     are_lines_ok(heads, lines, ids, kinds, meters)
         & (are_buckets_ok(state.c, state.p, phase)
-            & (are_numbers_ok(checkpoint.number, operator.number, state.c, state.p)
-                & (operator.is_within_bounds() & checkpoint.is_within_bounds())))
+            & (are_numbers_ok(state.last_stable, state.newest, state.c, state.p)
+                & operator_bounds::are_within_bounds(counts, sums)))
 }
 
 // Whether the displays' last ids and the held places are in shape, where the send-back store is long enough.
@@ -171,6 +183,9 @@ fn are_displays_ok(ids: [u64; node::DISPLAYS], displays: usize, newest: u64, sen
 // The number of the refusal that is the host's to mend, 0 if there is none; `room` is the length of the output area.
 pub fn host_refusal(
     state: State,
+    counts: &[[u32; METERS]; ROWS],
+    sums: &[[i64; METERS]; ROWS],
+    heads: &[u32; ALL_HEADS],
     ids: &[u32],
     times: &[u32],
     values: &[i32],
@@ -184,7 +199,9 @@ pub fn host_refusal(
         let readings = columnsOf (now (ids .entry)) (now (times .entry)) (now (values .entry))
         (now (arrivals .entry)) (now (kinds .entry)) (now (meters .entry)) in
         let lent = lentOf readings (now (sent .entry)) in
-        ⌜ ((area : List ℕ) → length area ≡ room → r ≡ firstFailed (hostTests state lent area)) ⌝ }
+        ⌜ ((lasts : List (List ℤ)) (area : List ℕ) → length area ≡ room →
+        r ≡
+        firstFailed (hostTests (held state (arraysOf (now (counts .entry)) (now (sums .entry)) lasts (now (heads .entry)))) lent area)) ⌝ }
 {
     let settings = state.settings;
     if is_short(settings.lines, ids, times, values, arrivals, kinds, meters) {
@@ -193,15 +210,14 @@ pub fn host_refusal(
     if sent.len() < HELD_BYTES {
         return answer::SHORT_STORE;
     }
-    if !is_in_shape(state, ids, kinds, meters) {
+    if !is_in_shape(state, counts, sums, heads, ids, kinds, meters) {
         return answer::OUT_OF_SHAPE;
     }
-    let checkpoint = state.checkpoint;
     let acknowledged = state.acknowledged;
     if !are_displays_ok(
         acknowledged,
         settings.displays as usize,
-        checkpoint.number,
+        state.last_stable,
         sent,
     ) {
         return answer::OUT_OF_SHAPE;

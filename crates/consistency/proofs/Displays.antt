@@ -6,7 +6,7 @@ use mathlib.Core.Bool.{true, false}
 use mathlib.Core.List.{List}
 use borrow.Author.Tests.{eqb-true, eqb-false}
 use lib.Dec.{eqb}
-use Rattle.node.specs.declared.State.{State}
+use Rattle.node.specs.Held.{Held}
 use Rattle.node.specs.View.{Lent, withAcknowledged}
 use Rattle.node.specs.Calls.{Called}
 use Rattle.node.specs.Displays.{acknowledgedOn}
@@ -14,11 +14,11 @@ use Rattle.node.proofs.Displays.{refused-acknowledgement, accepted-acknowledgem
 use Rattle.consistency.specs.Runs.{Box, Input, called, left}
 
 -- a call that leaves all but these
-pub record Aside (st : State) (x : Lent) (r : Called) : Type 0 where
+pub record Aside (st : Held) (x : Lent) (r : Called) : Type 0 where
   pub state : r .state ≡ withAcknowledged (r .state .acknowledged) st
   pub readings : r .lent .readings ≡ x .readings
 
-pub acknowledgement-aside : (st : State) (x : Lent) (display id : ℕ) (area : List ℕ) → Aside st x (acknowledgedOn st x display id area)
+pub acknowledgement-aside : (st : Held) (x : Lent) (display id : ℕ) (area : List ℕ) → Aside st x (acknowledgedOn st x display id area)
 acknowledgement-aside st x display id area =
     (elim (eqb (acknowledgedOn st x display id area .answer) 0) as
     (λ a. eqb (acknowledgedOn st x display id area .answer) 0 ≡ a → Aside st x (acknowledgedOn st x display id area)) [

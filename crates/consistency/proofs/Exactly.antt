@@ -24,7 +24,7 @@ use Rattle.protocol.specs.Runs.{start}
 use Rattle.protocol.proofs.Opening.{invariant}
 use Rattle.protocol.proofs.Settling.{Level, none-needed, stepsAhead, step-takes-one, left-same}
 use Rattle.node.specs.declared.LineHead.{LineHead}
-use Rattle.node.specs.declared.State.{State}
+use Rattle.node.specs.Held.{Held}
 use Rattle.node.specs.View.{Lent, places, view, withAcknowledged, putState, putColumns}
 use Rattle.node.specs.Calls.{calledOn}
 use Rattle.node.proofs.Limits.{limits-hold}
@@ -70,7 +70,7 @@ withIds ids n =
       acknowledged = ids;
     }
 
-module _ (st : State) (x : Lent) (heads : length (st .heads) ≡ maxLines) (text area : List ℕ) (v : AcceptedOn st x text area) where
+module _ (st : Held) (x : Lent) (heads : length (st .heads) ≡ maxLines) (text area : List ℕ) (v : AcceptedOn st x text area) where
   abbrev shape : InShape st x
   shape = inShape-facts st x (v .host .shape)
 
@@ -88,7 +88,7 @@ module _ (st : State) (x : Lent) (heads : length (st .heads) ≡ maxLines) (text
       }
 
   -- what an accepted call leaves stands for the outcome's node, whatever the displays' ids are: as with four ids of 0
-  abbrev level : State
+  abbrev level : Held
   level = withAcknowledged (replicate maxDisplays 0) st
 
   abbrev after : Node
@@ -130,7 +130,7 @@ acknowledgement-takes-none : (b : Box) (display id : ℕ) (area : List ℕ) → 
 unfolding left called stepsAhead bucketsLeft view places
 acknowledgement-takes-none b display id area =
     let same = acknowledgement-aside (b .state) (b .lent) display id area in
-    ap₂ (λ (st : State) (x : Columns). stepsAhead (st .settings) (view st x)) (same .state) (same .readings)
+    ap₂ (λ (st : Held) (x : Columns). stepsAhead (st .settings) (view st x)) (same .state) (same .readings)
 
 -- ---- steps
 
@@ -142,7 +142,7 @@ heads-left : (b : Box) (i : Input) → length (b .state .heads) ≡ maxLines →
 unfolding left called
 heads-left b (Input.journal text area) h = called-heads (b .state) (b .lent) text area ∙ h
 heads-left b (Input.acknowledge display id area) h =
-    ap (λ (st : State). length (st .heads)) (acknowledgement-aside (b .state) (b .lent) display id area .state) ∙ h
+    ap (λ (st : Held). length (st .heads)) (acknowledgement-aside (b .state) (b .lent) display id area .state) ∙ h
 heads-left b (Input.fetch display from area) h = ap (λ (z : Box). length (z .state .heads)) (fetched-same b display from area) ∙ h
 
 steps-take :

@@ -23,7 +23,7 @@ use Rattle.protocol.specs.Kinds.{Kind, kindOf}
 use Rattle.protocol.specs.Monitor.{stableBuckets, leftToWork}
 use Rattle.protocol.specs.FailureFree.{withoutArrival, failureFree}
 use Rattle.protocol.specs.Undos.{applied, struck, stableRecords, doneDue}
-use Rattle.node.specs.declared.State.{State}
+use Rattle.node.specs.Held.{Held}
 use Rattle.node.specs.View.{Lent}
 use Rattle.node.specs.Calls.{calledOn}
 use Rattle.node.specs.Displays.{acknowledgedOn, fetchedOn}
@@ -124,7 +124,7 @@ one-step b n is text area (CallRead.Accepted k) q e a more = Steps.step text are
 one-step b n is text area CallRead.Malformed q e a more = absurd (false≢true e)
 
 pub steps-are :
-    (st : State) (x : Lent) (is : List Input) → onlySteps st x is ≡ true →
+    (st : Held) (x : Lent) (is : List Input) → onlySteps st x is ≡ true →
     Steps (record { state = st; lent = x }) (acceptedOf st x is) is
 unfolding onlySteps acceptedOf called left
 steps-are st x [] e = Steps.rest
@@ -166,11 +166,11 @@ all-made (rs ∷ lines) = ap₂ _∷_ (made rs) (all-made lines)
 
 -- ---- whole
 
-abbrev pub handedOf : State → Lent → List ℕ → Handed
+abbrev pub handedOf : Held → Lent → List ℕ → Handed
 handedOf st x text = record { state = st; lent = x; text = text }
 
 -- from the opening on
-module _ (st : State) (x : Lent) (text : List ℕ) (is : List Input) where
+module _ (st : Held) (x : Lent) (text : List ℕ) (is : List Input) where
   pub opened-left : leftAfter (boxOf (handedOf st x text)) is ≡ boxOn (runOf st x text is)
   unfolding boxOf opening runOf begun
   opened-left = left-is (settingsOn st x text) (begun st x text) is
@@ -197,7 +197,7 @@ module _ (st : State) (x : Lent) (text : List ℕ) (is : List Input) where
 
 -- what the statement says of any call
 alone :
-    Demand3 → (st : State) (x : Lent) (i : Input) → (called (record { state = st; lent = x }) i .answer ≡ 0 → ⊥) →
+    Demand3 → (st : Held) (x : Lent) (i : Input) → (called (record { state = st; lent = x }) i .answer ≡ 0 → ⊥) →
     LeftAlone st x (areaOf i) (called (record { state = st; lent = x }) i)
 unfolding Unchanged left
 alone d st x i e =
@@ -205,7 +205,7 @@ alone d st x i e =
     (ap (λ (b : Box). b .state) (same .0), ap (λ (b : Box). b .lent) (same .0), same .1, same .2)
 
 neither :
-    Demand3 → (st : State) (x : Lent) (text : List ℕ) → isOpened (handedOf st x text) → (is : List Input) (i : Input) →
+    Demand3 → (st : Held) (x : Lent) (text : List ℕ) → isOpened (handedOf st x text) → (is : List Input) (i : Input) →
     Neither3Nor4 (called (boxOn (runOf st x text is)) i .answer)
 neither d st x text e is i =
     subst (λ (b : Box). Neither3Nor4 (called b i .answer)) (opened-left st x text is) (d .inShape (handedOf st x text) e is i)

@@ -35,7 +35,7 @@ use Rattle.protocol.specs.Kinds.{Kind, kindOf}
 use Rattle.protocol.proofs.Letters.{S-kind}
 use Rattle.protocol.proofs.Places.{length-modify}
 use Rattle.protocol.proofs.Acceptance.{accepts-S}
-use Rattle.node.specs.declared.State.{State}
+use Rattle.node.specs.Held.{Held}
 use Rattle.node.specs.View.{Lent, view}
 use Rattle.node.specs.Calls.{Called, calledOn}
 use Rattle.node.specs.Displays.{acknowledgedOn, fetchedOn}
@@ -93,7 +93,7 @@ no-value s i kind meter value e = rw e
 
 -- ---- a call
 
-module _ (st : State) (x : Lent) (text area : List ℕ) where
+module _ (st : Held) (x : Lent) (text area : List ℕ) where
   -- an accepted stable reading is on one of the lines
   on-a-line :
       (k : Call) → callOf text ≡ CallRead.Accepted k → calledOn st x text area .answer ≡ 0 → k .kind ≡ 83 →
@@ -188,11 +188,11 @@ module _ (s : Settings) (i : ℕ) where
       heatMonoid .plus-assoc old (ofValues now) (ofValues later) ∙ ap (plus old) (sym (values-append now later))
   run-brings y (Input.acknowledge display id area ∷ is) same lines =
       let r : Called = acknowledgedOn (y .state) (y .lent) display id area in
-      let settings = ap (λ (z : State). z .settings) (acknowledgement-aside (y .state) (y .lent) display id area .state) in
+      let settings = ap (λ (z : Held). z .settings) (acknowledgement-aside (y .state) (y .lent) display id area .state) in
       run-brings (passedOver y r) is (settings ∙ same) lines
   run-brings y (Input.fetch display from area ∷ is) same lines =
       let r : Called = fetchedOn (y .state) (y .lent) display from area in
-      let settings = ap (λ (z : State). z .settings) (fetch-leaves (y .state) (y .lent) display from area .0) in
+      let settings = ap (λ (z : Held). z .settings) (fetch-leaves (y .state) (y .lent) display from area .0) in
       run-brings (passedOver y r) is (settings ∙ same) lines
 
 -- ---- kept, and paid
@@ -258,7 +258,7 @@ unfolding flatten
 none-sent zero = refl
 none-sent (suc n) = none-sent n
 
-module _ (st : State) (x : Lent) (text : List ℕ) (is : List Input) (i : ℕ) where
+module _ (st : Held) (x : Lent) (text : List ℕ) (is : List Input) (i : ℕ) where
   abbrev h : Handed
   h = handedOf st x text
 

@@ -18,7 +18,7 @@ use Rattle.store.proofs.Pairs.{every-index}
 use Rattle.protocol.specs.Displays.{leastOf, lastOf, acknowledging}
 use Rattle.protocol.specs.Calls.{acknowledgedAfter}
 use Rattle.protocol.proofs.Displays.{least-each}
-use Rattle.node.specs.declared.State.{State}
+use Rattle.node.specs.Held.{Held}
 use Rattle.node.specs.View.{Lent}
 use Rattle.node.specs.Calls.{calledOn}
 use Rattle.node.specs.Displays.{acknowledgedOn, fetchedOn}
@@ -27,7 +27,7 @@ use Rattle.consistency.specs.Runs.{Box, Input, called, left}
 use Rattle.consistency.specs.Accounts.{Account, accountWith, accountNext, accountAfter}
 use Rattle.consistency.specs.PlainSentBack.{lastBy, wanted}
 
-abbrev pub boxIn : State → Lent → Box
+abbrev pub boxIn : Held → Lent → Box
 boxIn st x = record { state = st; lent = x }
 
 journal-passes : (s : Settings) (a : Account) (read : CallRead) (t : Bool) → accountWith s a read t .acknowledged ≡ a .acknowledged
@@ -59,7 +59,7 @@ length-acknowledged ids display id false = refl
 
 -- by the account it is the same number
 pub last-is :
-    (s : Settings) (a : Account) (st : State) (x : Lent) (is : List Input) (display last : ℕ) →
+    (s : Settings) (a : Account) (st : Held) (x : Lent) (is : List Input) (display last : ℕ) →
     1 ≤ display → display ≤ length (a .acknowledged) → lastOf (a .acknowledged) display ≡ last →
     lastOf (accountAfter s a (boxIn st x) is .acknowledged) display ≡ lastBy display last st x is
 unfolding accountAfter accountNext lastBy left called
@@ -80,7 +80,7 @@ last-is s a st x (Input.fetch other from area ∷ is) display last first at same
     last-is s a (r .state) (r .lent) is display last first at same
 
 pub count-is :
-    (s : Settings) (a : Account) (st : State) (x : Lent) (is : List Input) →
+    (s : Settings) (a : Account) (st : Held) (x : Lent) (is : List Input) →
     length (accountAfter s a (boxIn st x) is .acknowledged) ≡ length (a .acknowledged)
 unfolding accountAfter accountNext left called
 count-is s a st x [] = refl

@@ -19,7 +19,7 @@ use Rattle.protocol.specs.declared.Phase.the-variants as Phase
 use Rattle.protocol.specs.Rules.{isCorrecting}
 use Rattle.protocol.specs.StepCount.{stepsNeeded, leastBoundaryOf, bucketsLeft}
 use Rattle.node.specs.declared.LineHead.{LineHead}
-use Rattle.node.specs.declared.State.{State}
+use Rattle.node.specs.Held.{Held}
 use Rattle.node.specs.View.{Lent, viewLine, viewLines, view}
 use Rattle.node.proofs.Shape.{PhaseShape, inShape-facts}
 use Rattle.node.proofs.Calls.{accepted-call}
@@ -64,7 +64,7 @@ shaped-words b text area e =
     in-words (b .state .c) (b .state .p) (b .state .phase) (inShape-facts (b .state) (b .lent) (v .host .shape) .buckets .phase)
 
 -- either count says the same of n
-abbrev SameCount : State → ℕ → ℕ → Type 0
+abbrev SameCount : Held → ℕ → ℕ → Type 0
 SameCount st k n = (stepsFrom st k ≤ n) ↔ (stepsIn (st .phase) k ≤ n)
 
 same-count : {b : Box} {n : ℕ} {js : List Input} → Steps b n js → (k : ℕ) → SameCount (b .state) k n
@@ -76,7 +76,7 @@ same-count {b} (Steps.step {n = n} text area call read kind accepted more) k =
 same-count {b} {n} (Steps.refused i wasRefused more) k =
     subst (λ (z : Box). SameCount (z .state) k n) (same-box b i wasRefused) (same-count more k)
 same-count {b} {n} (Steps.acknowledge display id area more) k =
-    subst (λ (z : State). SameCount z k n) (acknowledgement-aside (b .state) (b .lent) display id area .state) (same-count more k)
+    subst (λ (z : Held). SameCount z k n) (acknowledgement-aside (b .state) (b .lent) display id area .state) (same-count more k)
 same-count {b} {n} (Steps.fetch display from area more) k =
     subst (λ (z : Box). SameCount (z .state) k n) (fetched-same b display from area) (same-count more k)
 
@@ -142,7 +142,7 @@ state-after b (Input.fetch display from area ∷ is) = state-after (left b (Inpu
 -- ---- the table
 
 -- from any box on, in the table's words
-module _ (e : Exactly) (st : State) (x : Lent) (heads : length (st .heads) ≡ 8) (js : List Input) (only : onlySteps st x js ≡ true) where
+module _ (e : Exactly) (st : Held) (x : Lent) (heads : length (st .heads) ≡ 8) (js : List Input) (only : onlySteps st x js ≡ true) where
   anywhere :
       ((leftBy (stateAfter st x js) ≡ 0) × (isCorrecting (stateAfter st x js .phase) ≡ false)) ↔
       (stepsIn (st .phase) (leftBy st) ≤ acceptedOf st x js)
@@ -153,7 +153,7 @@ module _ (e : Exactly) (st : State) (x : Lent) (heads : length (st .heads) ≡ 8
       (Iff·trans (e .fromAnyBox b heads js (acceptedOf st x js) steps) (same-count steps (leftIn b)))
 
 -- from an opening on
-module _ (st : State) (x : Lent) (text : List ℕ) (is js : List Input) where
+module _ (st : Held) (x : Lent) (text : List ℕ) (is js : List Input) where
   abbrev before : Run
   before = runOf st x text is
 

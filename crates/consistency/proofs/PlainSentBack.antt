@@ -18,7 +18,7 @@ use Rattle.retransmission.specs.Sizes.{heldResults}
 use Rattle.protocol.specs.Displays.{leastOf, lastOf}
 use Rattle.protocol.specs.FailureFree.{failureFree}
 use Rattle.node.specs.Sizes.{areaBytes}
-use Rattle.node.specs.declared.State.{State}
+use Rattle.node.specs.Held.{Held}
 use Rattle.node.specs.View.{Lent, withAcknowledged}
 use Rattle.node.specs.Calls.{Called, calledOn}
 use Rattle.node.specs.Displays.{acknowledgedOn}
@@ -243,14 +243,14 @@ plainSentBack t =
             records = q .records;
             bytes = q .bytes;
             readings = q .readings;
-            operator = ap (λ (z : State). z .operator) (q .state);
-            checkpoint = ap (λ (z : State). z .checkpoint) (q .state);
-            heads = ap (λ (z : State). z .heads) (q .state);
-            settings = ap (λ (z : State). z .settings) (q .state);
-            clock = ap (λ (z : State). z .clock) (q .state);
-            c = ap (λ (z : State). z .c) (q .state);
-            p = ap (λ (z : State). z .p) (q .state);
-            phase = ap (λ (z : State). z .phase) (q .state);
+            operator = ap (λ (z : Held). z .operator) (q .state);
+            checkpoint = ap (λ (z : Held). z .checkpoint) (q .state);
+            heads = ap (λ (z : Held). z .heads) (q .state);
+            settings = ap (λ (z : Held). z .settings) (q .state);
+            clock = ap (λ (z : Held). z .clock) (q .state);
+            c = ap (λ (z : Held). z .c) (q .state);
+            p = ap (λ (z : Held). z .p) (q .state);
+            phase = ap (λ (z : Held). z .phase) (q .state);
           };
       still = λ st x display from area.
           let q = t .still (boxIn st x) display from area in
@@ -259,7 +259,7 @@ plainSentBack t =
 
 -- a state is what its fields are
 whole-state :
-    (st : State) (x : Lent) (area : List ℕ) (r : Called) → QuietOn st x area r → r .state ≡ withAcknowledged (r .state .acknowledged) st
+    (st : Held) (x : Lent) (area : List ℕ) (r : Called) → QuietOn st x area r → r .state ≡ withAcknowledged (r .state .acknowledged) st
 whole-state st x area r q = λ i.
     record {
       operator = q .operator i;

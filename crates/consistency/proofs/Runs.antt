@@ -24,7 +24,7 @@ use Rattle.protocol.specs.Calls.{outcomeOf, acknowledgedAfter, acknowledgedBy}
 use Rattle.protocol.specs.Monitor.{observe}
 use Rattle.protocol.specs.FailureFree.{stableAfter}
 use Rattle.protocol.specs.Runs.{Event, Trace, isAccepted, next, after}
-use Rattle.node.specs.declared.State.{State}
+use Rattle.node.specs.Held.{Held}
 use Rattle.node.specs.View.{Lent, view}
 use Rattle.node.specs.Shape.{inShape}
 use Rattle.node.specs.Calls.{Called, calledOn}
@@ -42,7 +42,7 @@ use Rattle.node.proofs.Records.{ShapeFacts, Decodes, outcome-given, readable-de
 -- ---- a box and a trace
 
 -- the state and the store stand for a node whose numbers fit
-pub record Stands (s : Settings) (st : State) (x : Lent) (n : Node) : Type 0 where
+pub record Stands (s : Settings) (st : Held) (x : Lent) (n : Node) : Type 0 where
   pub settings : st .settings ≡ s
   pub is : view st (x .readings) ≡ n
   pub room : Fits st (x .readings)
@@ -63,7 +63,7 @@ pub record Follows (s : Settings) (t u : Trace) (read : CallRead) (c : Called) :
 
 -- ---- a call
 
-shape-facts : (st : State) (x : Lent) → Fits st (x .readings) → inShape st x ≡ true → ShapeFacts (st .settings) (view st (x .readings))
+shape-facts : (st : Held) (x : Lent) → Fits st (x .readings) → inShape st x ≡ true → ShapeFacts (st .settings) (view st (x .readings))
 unfolding view
 shape-facts st x room e =
     let shape = inShape-facts st x e in
@@ -86,7 +86,7 @@ unchanged-account s a (CallRead.Accepted k) = refl
 unchanged-account s a CallRead.Malformed = refl
 
 refused-follows :
-    (s : Settings) (t : Trace) (st : State) (x : Lent) (text area : List ℕ) →
+    (s : Settings) (t : Trace) (st : Held) (x : Lent) (text area : List ℕ) →
     Stands s st x (t .node) → eqb (calledOn st x text area .answer) 0 ≡ false →
     Follows s t t (callOf text) (calledOn st x text area)
 unfolding pieces
@@ -108,7 +108,7 @@ withNode n t =
 
 -- an accepted call, on what the state and the store stand for
 module _
-    (st : State) (x : Lent) (text area : List ℕ) (v : AcceptedOn st x text area)
+    (st : Held) (x : Lent) (text area : List ℕ) (v : AcceptedOn st x text area)
     (room : Fits st (x .readings)) (fits : NodeFits (view st (x .readings)))
   where
     accepted-follows :

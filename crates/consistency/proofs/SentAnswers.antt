@@ -16,7 +16,7 @@ use Rattle.journal.specs.declared.CallRead.{CallRead}
 use Rattle.journal.specs.declared.CallRead.the-variants as CallRead
 use Rattle.journal.specs.Kinds.{letterS}
 use Rattle.store.proofs.Choices.{and-parts}
-use Rattle.operator.specs.declared.Operator.{Operator}
+use Rattle.operator.specs.Meters.{Operator}
 use Rattle.retransmission.specs.Sizes.{heldResults}
 use Rattle.protocol.specs.Node.{Node, isStableBucket}
 use Rattle.protocol.specs.Refusals.{firstFailed, wrongId, answerTo}
@@ -34,7 +34,7 @@ use Rattle.protocol.proofs.Invariant.{worked-free}
 use Rattle.protocol.proofs.SentBack.{Kept, held-after}
 use Rattle.node.specs.Sizes.{areaBytes}
 use Rattle.node.specs.View.{Lent, view}
-use Rattle.node.specs.declared.State.{State}
+use Rattle.node.specs.Held.{Held}
 use Rattle.node.specs.Calls.{Called, refusedWith, calledWith}
 use Rattle.node.proofs.Calls.{laidDown}
 use Rattle.consistency.specs.SentBack.{Answers, IsStep, LacksPlaces}
@@ -44,7 +44,7 @@ use Rattle.consistency.proofs.Runs.{accountIn}
 
 -- behind the store's and the state's tests the answer is 5, or the call's own
 pub display-answer :
-    (st : State) (x : Lent) (area : List ℕ) (down : Called) (own host : ℕ) →
+    (st : Held) (x : Lent) (area : List ℕ) (down : Called) (own host : ℕ) →
     down .answer ≡ 0 → host ≡ cond (ltb (length area) areaBytes) 5 0 →
     cond (eqb host 0) (cond (eqb own 0) down (refusedWith own st x area)) (refusedWith host st x area) .answer ≡
     cond (ltb (length area) areaBytes) 5 own
@@ -219,7 +219,7 @@ module _ (s : Settings) (room : 0 < s .bucket) (t : Trace) (v : Kept s t) where
 
 -- past the host's tests the answer is that to the call that was read, or 6
 pub read-answer :
-    (st : State) (x : Lent) (area : List ℕ) (k : Call) →
+    (st : Held) (x : Lent) (area : List ℕ) (k : Call) →
     calledWith st x area (CallRead.Accepted k) .answer ≡ answerTo (st .settings) (view st (x .readings)) k
 unfolding calledWith refusedWith
 read-answer st x area k =

@@ -17,9 +17,8 @@ use Rattle.journal.specs.JournalLine.{CallFits}
 use Rattle.journal.specs.Kinds.{letterS, letterT}
 use Rattle.store.specs.Lists.{Every}
 use Rattle.store.specs.Order.{inBucket}
-use Rattle.operator.specs.declared.Operator.{Operator}
+use Rattle.operator.specs.Meters.{Operator, meterCount, fresh}
 use Rattle.operator_meter.specs.Values.{noMeter}
-use Rattle.operator.specs.Meters.{meterCount, fresh}
 use Rattle.protocol.specs.declared.Phase.{Phase}
 use Rattle.protocol.specs.declared.Phase.the-variants as Phase
 use Rattle.protocol.specs.Kinds.{Kind, kindOf, uses, isStep}

@@ -18,11 +18,11 @@ use Rattle.journal.specs.ReadLine.{callOf}
 use Rattle.store.specs.Lists.{Every}
 use Rattle.store.proofs.Pairs.{every-to}
 use Rattle.operator_meter.specs.declared.Meter.{Meter}
-use Rattle.operator.specs.declared.Operator.{Operator}
+use Rattle.operator.specs.Meters.{Operator}
 use Rattle.protocol.specs.Kinds.{kindOf}
 use Rattle.protocol.specs.Node.{Node}
 use Rattle.protocol.specs.Refusals.{firstFailed, callTests, lineTests, stepTests, testsOf, answerTo}
-use Rattle.node.specs.declared.State.{State}
+use Rattle.node.specs.Held.{Held}
 use Rattle.node.specs.Sizes.{areaBytes}
 use Rattle.store.specs.Columns.{rows, storeLength}
 use Rattle.retransmission.specs.Sizes.{heldBytes}
@@ -63,7 +63,7 @@ meters-shape s j ms some most h =
     every-to ms (λ (m : Meter) (g : Counted (readingsPerBucket * (j % s .window)) m). record { count = omega (arith, g .count); range = g .range }) h
 
 pub shaped-inShape :
-    (st : State) (x : Lent) → Fits st (x .readings) → Shaped (st .settings) (view st (x .readings)) → HeldIn (view st (x .readings)) →
+    (st : Held) (x : Lent) → Fits st (x .readings) → Shaped (st .settings) (view st (x .readings)) → HeldIn (view st (x .readings)) →
     sentOk st (x .sent) ≡ true → inShape st x ≡ true
 unfolding view
 shaped-inShape st x room v held sent =
@@ -94,7 +94,7 @@ shaped-inShape st x room v held sent =
 abbrev OfStore : ℕ → Type 0
 OfStore m = (3 ≤ m) × (m ≤ 4)
 
-module _ (st : State) (x : Lent) (area : List ℕ) (m : ℕ) (h : OfStore m) where
+module _ (st : Held) (x : Lent) (area : List ℕ) (m : ℕ) (h : OfStore m) where
   meaning-otherwise : (s : Settings) (n : Node) (k : Call) → answerTo s n k ≡ m → ⊥
   unfolding answerTo testsOf callTests lineTests stepTests
   meaning-otherwise s n k e = never-answered m (omega arith) (testsOf s n k (kindOf (k .kind))) (omega arith) e

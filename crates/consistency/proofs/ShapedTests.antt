@@ -28,7 +28,7 @@ use Rattle.node.specs.View.{Lent, view}
 use Rattle.retransmission.specs.Sizes.{heldResults}
 use Rattle.node.specs.Shape.{readingOk, idsRise, headOk, keptOk, phaseOk, bucketsOk, numbersOk, displayOk, displaysOk, sentOk, stateInShape, inShape}
 use Rattle.node.specs.declared.LineHead.{LineHead}
-use Rattle.node.specs.declared.State.{State}
+use Rattle.node.specs.Held.{Held}
 use Rattle.node.proofs.Shape.{HeadShape, ReadingShape, Rising, KeptShape, PhaseShape, BucketsShape, NumbersShape, DisplayShape, InShape}
 
 -- ---- tests joined, and tests of a list
@@ -89,7 +89,7 @@ phase-passes c p Phase.Stable h = eq-eqb p c h
 phase-passes c p Phase.Failure h = lt-ltb c p h
 phase-passes c p Phase.Correcting h = eq-eqb p c h
 
-buckets-pass : (st : State) → BucketsShape st → bucketsOk st ≡ true
+buckets-pass : (st : Held) → BucketsShape st → bucketsOk st ≡ true
 unfolding bucketsOk
 buckets-pass st v =
     let d : Bool = phaseOk (st .c) (st .p) (st .phase) in
@@ -104,7 +104,7 @@ level-passes a b c p h =
     ])
     refl
 
-numbers-pass : (st : State) → NumbersShape st → numbersOk st ≡ true
+numbers-pass : (st : Held) → NumbersShape st → numbersOk st ≡ true
 unfolding numbersOk
 numbers-pass st v =
     let a : Bool = leb (st .checkpoint .number) (resultsPerBucket * st .c) in
@@ -132,7 +132,7 @@ unfolding displayOk
 display-passes newest id v =
     both (leb id newest) (leb newest (id + heldResults)) (le-leb id newest (v .known)) (le-leb newest (id + heldResults) (v .near))
 
-pub facts-inShape : (st : State) (x : Lent) → InShape st x → inShape st x ≡ true
+pub facts-inShape : (st : Held) (x : Lent) → InShape st x → inShape st x ≡ true
 unfolding inShape stateInShape displaysOk
 facts-inShape st x v =
     let b : Bool = allOf headOk (take (st .settings .lines) (st .heads)) in

@@ -17,9 +17,8 @@ use Rattle.store.specs.Lists.{Every}
 use Rattle.store.specs.Order.{Placed}
 use Rattle.store.proofs.Pairs.{every-to}
 use Rattle.operator_meter.specs.declared.Meter.{Meter}
-use Rattle.operator.specs.declared.Operator.{Operator}
+use Rattle.operator.specs.Meters.{Operator, meterCount, clear, addAll}
 use Rattle.operator_meter.specs.Values.{noMeter}
-use Rattle.operator.specs.Meters.{meterCount, clear, addAll}
 use Rattle.operator.specs.Work.{close, work}
 use Rattle.operator.proofs.Closing.{work-number}
 use Rattle.store.specs.Sizes.{readingsPerLine}

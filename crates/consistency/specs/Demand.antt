@@ -17,7 +17,7 @@ use Rattle.protocol.specs.Kinds.{Kind, kindOf}
 use Rattle.protocol.specs.Monitor.{stableBuckets, leftToWork}
 use Rattle.protocol.specs.FailureFree.{failureFree}
 use Rattle.protocol.specs.Undos.{applied, struck, stableRecords, doneDue}
-use Rattle.node.specs.declared.State.{State}
+use Rattle.node.specs.Held.{Held}
 use Rattle.node.specs.View.{Lent}
 use Rattle.node.specs.Opening.{Opened, openedOn}
 use Rattle.consistency.specs.Runs.{Box, Input, called, areaOf, left, leftAfter, recordIn, output}
@@ -25,7 +25,7 @@ use Rattle.consistency.specs.Accounts.{Account, emptyAccount, accountAft
 
 -- what is handed to an opening: any earlier state, also one in use, any stores, any text
 pub record Handed : Type 0 where
-  pub state : State
+  pub state : Held
   pub lent : Lent
   pub text : List ℕ
 

@@ -10,7 +10,7 @@ use lib.ListN.{length}
 use Rattle.settings.specs.Limits.{maxLines}
 use Rattle.protocol.specs.Rules.{isCorrecting}
 use Rattle.protocol.specs.StepCount.{stepsNeeded, bucketsLeft}
-use Rattle.node.specs.declared.State.{State}
+use Rattle.node.specs.Held.{Held}
 use Rattle.node.specs.View.{view}
 use Rattle.consistency.specs.Runs.{Box, Input, leftAfter}
 use Rattle.consistency.specs.Demand.{Handed, isOpened, boxOf, remaining, Steps}
@@ -20,7 +20,7 @@ unfoldable pub leftIn : Box → ℕ
 leftIn b = bucketsLeft (b .state .settings) (view (b .state) (b .lent .readings))
 
 -- the steps that a state needs with k stable buckets left: tentative work is out where p is above c
-unfoldable pub stepsFrom : State → ℕ → ℕ
+unfoldable pub stepsFrom : Held → ℕ → ℕ
 stepsFrom st k = stepsNeeded k (ltb (st .c) (st .p)) (isCorrecting (st .phase))
 
 -- n accepted steps, with only refused calls and displays' calls between them, are enough if and only if they are as many as needed, or more

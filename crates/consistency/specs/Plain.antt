@@ -23,7 +23,7 @@ use Rattle.protocol.specs.Kinds.{Kind, kindOf}
 use Rattle.protocol.specs.Monitor.{LineMonitor, Monitor, freshMonitor, observe, leastBoundary}
 use Rattle.protocol.specs.FailureFree.{stableAfter, failureFree}
 use Rattle.protocol.specs.Undos.{applied, struck, stableRecords, doneDue}
-use Rattle.node.specs.declared.State.{State}
+use Rattle.node.specs.Held.{Held}
 use Rattle.node.specs.View.{Lent}
 use Rattle.node.specs.Opening.{openedOn}
 use Rattle.node.specs.Calls.{Called, calledOn}
@@ -34,7 +34,7 @@ use Rattle.consistency.specs.Runs.{Input, recordIn}
 
 -- what is there after some calls: what the host keeps, the monitor, the accepted stable readings, and all records so far
 pub record Run : Type 0 where
-  pub state : State
+  pub state : Held
   pub lent : Lent
   pub monitor : Monitor
   pub stables : List (List Reading)
@@ -53,7 +53,7 @@ unfoldable pub counted : List (List Reading) → CallRead → Bool → List (Lis
 counted lines (CallRead.Accepted k) isAccepted = stableAfter lines k isAccepted
 counted lines CallRead.Malformed isAccepted = lines
 
-unfoldable pub begun : State → Lent → List ℕ → Run
+unfoldable pub begun : Held → Lent → List ℕ → Run
 begun st x text =
     record {
       state = openedOn st x text .state;
@@ -87,10 +87,10 @@ continued s y (Input.acknowledge display id area ∷ is) =
 continued s y (Input.fetch display from area ∷ is) = continued s (passedOver y (fetchedOn (y .state) (y .lent) display from area)) is
 
 -- the settings that an opening leaves, and the run from there on
-unfoldable pub settingsOn : State → Lent → List ℕ → Settings
+unfoldable pub settingsOn : Held → Lent → List ℕ → Settings
 settingsOn st x text = openedOn st x text .state .settings
 
-unfoldable pub runOf : State → Lent → List ℕ → List Input → Run
+unfoldable pub runOf : Held → Lent → List ℕ → List Input → Run
 runOf st x text is = continued (settingsOn st x text) (begun st x text) is
 
 -- ---- steps
@@ -109,7 +109,7 @@ readsAsStep (CallRead.Accepted k) = isP (kindOf (k .kind))
 readsAsStep CallRead.Malformed = false
 
 -- whether every journal call is refused or a step; a display's call may stand anywhere, accepted or not
-unfoldable pub onlySteps : State → Lent → List Input → Bool
+unfoldable pub onlySteps : Held → Lent → List Input → Bool
 onlySteps st x [] = true
 onlySteps st x (Input.journal text area ∷ is) =
     let r : Called = calledOn st x text area in
@@ -122,7 +122,7 @@ onlySteps st x (Input.fetch display from area ∷ is) =
     onlySteps (r .state) (r .lent) is
 
 -- how many journal calls are accepted; a display's call is no step
-unfoldable pub acceptedOf : State → Lent → List Input → ℕ
+unfoldable pub acceptedOf : Held → Lent → List Input → ℕ
 acceptedOf st x [] = 0
 acceptedOf st x (Input.journal text area ∷ is) =
     let r : Called = calledOn st x text area in
@@ -194,7 +194,7 @@ pub record CleanOn (s : Settings) (y : Run) : Type 0 where
   pub noneAhead : y .monitor .d ≤ leastBoundary (y .monitor .lines) / s .bucket
 
 -- a call that did nothing: state, stores and area are as they were, and there is no record
-abbrev pub LeftAlone : State → Lent → List ℕ → Called → Type 0
+abbrev pub LeftAlone : Held → Lent → List ℕ → Called → Type 0
 LeftAlone st x area r = (r .state ≡ st) × (r .lent ≡ x) × (r .records ≡ 0) × (r .area ≡ area)
 
 -- an answer that is neither 3 nor 4
@@ -203,10 +203,10 @@ Neither3Nor4 answer = (answer ≡ 3 → ⊥) × (answer ≡ 4 → ⊥)
 
 pub record Plain : Type 0 where
   pub clean :
-      (st : State) (x : Lent) (text : List ℕ) → openedOn st x text .answer ≡ 0 → (is : List Input) →
+      (st : Held) (x : Lent) (text : List ℕ) → openedOn st x text .answer ≡ 0 → (is : List Input) →
       CleanOn (settingsOn st x text) (runOf st x text is)
   pub replicas :
-      (st : State) (x : Lent) (text : List ℕ) (zt : State) (z : Lent) (other : List ℕ) →
+      (st : Held) (x : Lent) (text : List ℕ) (zt : Held) (z : Lent) (other : List ℕ) →
       openedOn st x text .answer ≡ 0 → openedOn zt z other .answer ≡ 0 →
       settingsOn st x text ≡ settingsOn zt z other →
       (is js : List Input) →
@@ -216,7 +216,7 @@ pub record Plain : Type 0 where
       leftOn (settingsOn zt z other) (runOf zt z other js) ≡ 0 →
       stableRecords recordIn (runOf st x text is .bytes) ≡ stableRecords recordIn (runOf zt z other js .bytes)
   pub settles :
-      (st : State) (x : Lent) (text : List ℕ) → openedOn st x text .answer ≡ 0 → (is js : List Input) →
+      (st : Held) (x : Lent) (text : List ℕ) → openedOn st x text .answer ≡ 0 → (is js : List Input) →
       let y : Run = runOf st x text is in
       onlySteps (y .state) (y .lent) js ≡ true →
       acceptedOf (y .state) (y .lent) js ≡ leftOn (settingsOn st x text) y + 2 →
@@ -224,24 +224,24 @@ pub record Plain : Type 0 where
       (doneDue recordIn false (runOf st x text (is ++ js) .bytes) ≡ false)
   -- whatever is refused
   pub refused :
-      (st : State) (x : Lent) (text area : List ℕ) → (calledOn st x text area .answer ≡ 0 → ⊥) →
+      (st : Held) (x : Lent) (text area : List ℕ) → (calledOn st x text area .answer ≡ 0 → ⊥) →
       LeftAlone st x area (calledOn st x text area)
   pub refusedAcknowledgement :
-      (st : State) (x : Lent) (display id : ℕ) (area : List ℕ) → (acknowledgedOn st x display id area .answer ≡ 0 → ⊥) →
+      (st : Held) (x : Lent) (display id : ℕ) (area : List ℕ) → (acknowledgedOn st x display id area .answer ≡ 0 → ⊥) →
       LeftAlone st x area (acknowledgedOn st x display id area)
   pub refusedFetch :
-      (st : State) (x : Lent) (display from : ℕ) (area : List ℕ) → (fetchedOn st x display from area .answer ≡ 0 → ⊥) →
+      (st : Held) (x : Lent) (display from : ℕ) (area : List ℕ) → (fetchedOn st x display from area .answer ≡ 0 → ⊥) →
       LeftAlone st x area (fetchedOn st x display from area)
   -- from an opening on
   pub inShape :
-      (st : State) (x : Lent) (text : List ℕ) → openedOn st x text .answer ≡ 0 → (is : List Input) (line area : List ℕ) →
+      (st : Held) (x : Lent) (text : List ℕ) → openedOn st x text .answer ≡ 0 → (is : List Input) (line area : List ℕ) →
       let y : Run = runOf st x text is in
       Neither3Nor4 (calledOn (y .state) (y .lent) line area .answer)
   pub inShapeToAcknowledge :
-      (st : State) (x : Lent) (text : List ℕ) → openedOn st x text .answer ≡ 0 → (is : List Input) (display id : ℕ) (area : List ℕ) →
+      (st : Held) (x : Lent) (text : List ℕ) → openedOn st x text .answer ≡ 0 → (is : List Input) (display id : ℕ) (area : List ℕ) →
       let y : Run = runOf st x text is in
       Neither3Nor4 (acknowledgedOn (y .state) (y .lent) display id area .answer)
   pub inShapeToFetch :
-      (st : State) (x : Lent) (text : List ℕ) → openedOn st x text .answer ≡ 0 → (is : List Input) (display from : ℕ) (area : List ℕ) →
+      (st : Held) (x : Lent) (text : List ℕ) → openedOn st x text .answer ≡ 0 → (is : List Input) (display from : ℕ) (area : List ℕ) →
       let y : Run = runOf st x text is in
       Neither3Nor4 (fetchedOn (y .state) (y .lent) display from area .answer)

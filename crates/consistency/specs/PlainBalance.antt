@@ -19,7 +19,7 @@ use Rattle.store.specs.declared.Reading.{Reading}
 use Rattle.operator_meter.specs.declared.Meter.{Meter}
 use Rattle.operator_meter.specs.Values.{noMeter}
 use Rattle.protocol.specs.Node.{Line}
-use Rattle.node.specs.declared.State.{State}
+use Rattle.node.specs.Held.{Held}
 use Rattle.node.specs.View.{Lent, view}
 use Rattle.node.specs.Opening.{openedOn}
 use Rattle.node.specs.Calls.{Called, calledOn}
@@ -37,7 +37,7 @@ sentBy s i (CallRead.Accepted k) = valueIf s i (k .kind) (k .meter) (k .value)
 sentBy s i CallRead.Malformed = []
 
 -- the values of the accepted journal calls, one call after the other; a display's call sends nothing in
-unfoldable pub sentValues : Settings → ℕ → State → Lent → List Input → List ℤ
+unfoldable pub sentValues : Settings → ℕ → Held → Lent → List Input → List ℤ
 sentValues s i st x [] = []
 sentValues s i st x (Input.journal text area ∷ is) =
     let r : Called = calledOn st x text area in
@@ -75,7 +75,7 @@ paidSum i [] = pos 0
 paidSum i (b ∷ bs) = cond (isPaid i b) (signedOf 64 (wordAt 16 8 b)) (pos 0) +ℤ paidSum i bs
 
 -- the values sent in from an opening on, and those kept after the calls
-unfoldable pub sentOf : State → Lent → List ℕ → List Input → ℕ → List ℤ
+unfoldable pub sentOf : Held → Lent → List ℕ → List Input → ℕ → List ℤ
 sentOf st x text is i = sentValues (settingsOn st x text) i (openedOn st x text .state) (openedOn st x text .lent) is
 
 unfoldable pub keptOn : Settings → Run → ℕ → List ℤ
@@ -87,10 +87,10 @@ openOn y i = getD (y .state .checkpoint .meters) i noMeter
 
 pub record PlainBalance : Type 0 where
   pub counts :
-      (st : State) (x : Lent) (text : List ℕ) → openedOn st x text .answer ≡ 0 → (is : List Input) (i : ℕ) → i < 64 →
+      (st : Held) (x : Lent) (text : List ℕ) → openedOn st x text .answer ≡ 0 → (is : List Input) (i : ℕ) → i < 64 →
       let y : Run = runOf st x text is in
       length (sentOf st x text is i) ≡ paidCount i (y .bytes) + openOn y i .count + length (keptOn (settingsOn st x text) y i)
   pub sums :
-      (st : State) (x : Lent) (text : List ℕ) → openedOn st x text .answer ≡ 0 → (is : List Input) (i : ℕ) → i < 64 →
+      (st : Held) (x : Lent) (text : List ℕ) → openedOn st x text .answer ≡ 0 → (is : List Input) (i : ℕ) → i < 64 →
       let y : Run = runOf st x text is in
       sumOf (sentOf st x text is i) ≡ (paidSum i (y .bytes) +ℤ openOn y i .sum) +ℤ sumOf (keptOn (settingsOn st x text) y i)

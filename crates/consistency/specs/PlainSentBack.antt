@@ -17,7 +17,7 @@ use Rattle.record.specs.Layout.{allBytes}
 use Rattle.protocol.specs.Kinds.{kindOf}
 use Rattle.protocol.specs.Refusals.{isZero}
 use Rattle.protocol.specs.FailureFree.{failureFree}
-use Rattle.node.specs.declared.State.{State}
+use Rattle.node.specs.Held.{Held}
 use Rattle.node.specs.View.{Lent}
 use Rattle.node.specs.Opening.{openedOn}
 use Rattle.node.specs.Calls.{Called, calledOn}
@@ -28,7 +28,7 @@ use Rattle.consistency.specs.Plain.{Run, settingsOn, runOf, isP, leftOn,
 -- ---- what was acknowledged
 
 -- the id up to which a display has acknowledged, if it was this one before these calls
-unfoldable pub lastBy : ℕ → ℕ → State → Lent → List Input → ℕ
+unfoldable pub lastBy : ℕ → ℕ → Held → Lent → List Input → ℕ
 lastBy display last st x [] = last
 lastBy display last st x (Input.journal text area ∷ is) =
     let r : Called = calledOn st x text area in
@@ -41,7 +41,7 @@ lastBy display last st x (Input.fetch other from area ∷ is) =
     lastBy display last (r .state) (r .lent) is
 
 -- from an opening on it starts from 0
-unfoldable pub lastOn : State → Lent → List ℕ → List Input → ℕ → ℕ
+unfoldable pub lastOn : Held → Lent → List ℕ → List Input → ℕ → ℕ
 lastOn st x text is display = lastBy display 0 (openedOn st x text .state) (openedOn st x text .lent) is
 
 -- one of displays 1 to d has not acknowledged id n
@@ -120,7 +120,7 @@ pub record SentOn (s : Settings) (y : Run) (last : ℕ → ℕ) (lent : List ℕ
       (leb 2080 (length area) && (isBareStep (y .state .clock) (callOf line) && isLacking s y last))
 
 -- an acknowledgement on any state and stores
-pub record QuietOn (st : State) (x : Lent) (area : List ℕ) (r : Called) : Type 0 where
+pub record QuietOn (st : Held) (x : Lent) (area : List ℕ) (r : Called) : Type 0 where
   pub records : r .records ≡ 0
   pub bytes : r .area ≡ area
   pub readings : r .lent .readings ≡ x .readings
@@ -135,10 +135,10 @@ pub record QuietOn (st : State) (x : Lent) (area : List ℕ) (r : Called) : Type
 
 pub record PlainSentBack : Type 0 where
   pub opened :
-      (st : State) (x : Lent) (text : List ℕ) → openedOn st x text .answer ≡ 0 → (is : List Input) →
+      (st : Held) (x : Lent) (text : List ℕ) → openedOn st x text .answer ≡ 0 → (is : List Input) →
       SentOn (settingsOn st x text) (runOf st x text is) (lastOn st x text is) (x .sent)
   pub quiet :
-      (st : State) (x : Lent) (display id : ℕ) (area : List ℕ) → QuietOn st x area (acknowledgedOn st x display id area)
+      (st : Held) (x : Lent) (display id : ℕ) (area : List ℕ) → QuietOn st x area (acknowledgedOn st x display id area)
   pub still :
-      (st : State) (x : Lent) (display from : ℕ) (area : List ℕ) →
+      (st : Held) (x : Lent) (display from : ℕ) (area : List ℕ) →
       (fetchedOn st x display from area .state ≡ st) × (fetchedOn st x display from area .lent ≡ x)

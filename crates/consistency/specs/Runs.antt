@@ -7,7 +7,7 @@ use Rattle.record.specs.declared.Decoded.{Decoded}
 use Rattle.record.specs.declared.Decoded.the-variants as Decoded
 use Rattle.record.specs.Decoded.{decoded}
 use Rattle.record.specs.Markers.{marker}
-use Rattle.node.specs.declared.State.{State}
+use Rattle.node.specs.Held.{Held}
 use Rattle.retransmission.specs.Places.{pieces}
 use Rattle.node.specs.View.{Lent}
 use Rattle.node.specs.Calls.{Called, calledOn}
@@ -15,7 +15,7 @@ use Rattle.node.specs.Displays.{acknowledgedOn, fetchedOn}
 
 -- what the host keeps between calls
 pub record Box : Type 0 where
-  pub state : State
+  pub state : Held
   pub lent : Lent
 
 -- one call, and the output area lent to it: a journal call's text; a display's acknowledgement up to an id; its fetch from an id on

@@ -51,7 +51,7 @@ use Rattle.protocol.specs.Monitor.{observeStep, entryOf, observeLine, observeIn
 use Rattle.protocol.specs.StepCount.{stepsNeeded, leastBoundaryOf, bucketsLeft}
 use Rattle.protocol.specs.FailureFree.{stableReading, stableAfter}
 use Rattle.protocol.specs.Undos.{applyOne, applied, struckByOne, struck, stableRecords, doneDue}
-use Rattle.node.specs.declared.State.{State}
+use Rattle.node.specs.Held.{Held}
 use Rattle.node.specs.View.{Lent, viewLine, viewLines, places, view, headOf, headsWith, shareWith, sharesWith, putState, putColumns}
 use Rattle.node.specs.Shape.{readingOk, idsRise, headOk, keptOk, phaseOk, bucketsOk, numbersOk, displayOk, displaysOk, sentOk, stateInShape, inShape}
 use Rattle.node.specs.Opening.{Opened, sharesShort, isShort, freshState, closedState, openedWith, openedOn}
@@ -80,19 +80,19 @@ unfolding outcomeOf answerTo firstFailed namedLine wrongLine isZero unusedField 
 outcomeOn s n k = outcomeOf s n k
 
 -- an opening and the three calls on state, stores and area
-unfoldable pub openedFrom : State → Lent → List ℕ → Opened
+unfoldable pub openedFrom : Held → Lent → List ℕ → Opened
 unfolding settingsRead outcomeOn openedOn openedWith sharesShort isShort storeLength joined withPlaces emptyPlace inFront freshState closedState withRows zeroed headOf
 openedFrom st x text = openedOn st x text
 
-unfoldable pub calledFrom : State → Lent → List ℕ → List ℕ → Called
+unfoldable pub calledFrom : Held → Lent → List ℕ → List ℕ → Called
 unfolding callRead outcomeOn openedFrom pieces placesOf placeOf holding placeOk placesOk displayOk displaysOk sentOk stateInShape putLent calledOn calledWith refusedWith hostTests rowAt rowsFrom rows viewLine viewLines places view headsWith shareWith sharesWith putState putColumns readingOk idsRise headOk keptOk phaseOk bucketsOk numbersOk inShape rises isReadingKind sumOk meterOk allBytes bytesOf littleEndian twos fieldsOf wordAt numberOf signedOf isStable
 calledFrom st x text area = calledOn st x text area
 
-unfoldable pub acknowledgedFrom : State → Lent → ℕ → ℕ → List ℕ → Called
+unfoldable pub acknowledgedFrom : Held → Lent → ℕ → ℕ → List ℕ → Called
 unfolding calledFrom acknowledgedOn acknowledgedWith answerToAcknowledgement wrongDisplay wrongAcknowledgement lastOf acknowledging acknowledgedAfter acknowledgedBy freed givenUp
 acknowledgedFrom st x display id area = acknowledgedOn st x display id area
 
-unfoldable pub fetchedFrom : State → Lent → ℕ → ℕ → List ℕ → Called
+unfoldable pub fetchedFrom : Held → Lent → ℕ → ℕ → List ℕ → Called
 unfolding calledFrom fetchedOn fetchedWith answerToFetch wrongDisplay wrongFetch fetchCount heldBehind
 fetchedFrom st x display from area = fetchedOn st x display from area
 

@@ -10,7 +10,7 @@ use Rattle.protocol.specs.Displays.{leastOf, lastOf}
 use Rattle.protocol.specs.Kinds.{kindOf}
 use Rattle.protocol.specs.Monitor.{stableBuckets}
 use Rattle.protocol.specs.FailureFree.{failureFree}
-use Rattle.node.specs.declared.State.{State}
+use Rattle.node.specs.Held.{Held}
 use Rattle.node.specs.Calls.{Called}
 use Rattle.consistency.specs.Runs.{Box, Input, leftAfter}
 use Rattle.consistency.specs.Accounts.{Account}
@@ -129,7 +129,7 @@ clock-before = ap (λ (b : Box). b .state .clock .0) (box-is handed opened two) 
 
 not-quiet : Quiet (boxAfter handed two) (replicate 2080 0) (then two late) → ⊥
 not-quiet q =
-    let same : then two late .state .clock .0 ≡ boxAfter handed two .state .clock .0 = ap (λ (st : State). st .clock .0) (q .state) in
+    let same : then two late .state .clock .0 ≡ boxAfter handed two .state .clock .0 = ap (λ (st : Held). st .clock .0) (q .state) in
     omega (arith, same, clock-moved, clock-before)
 
 pub resent : Resent

@@ -7,7 +7,7 @@ use lib.ListN.{length}
 use Rattle.protocol.specs.declared.Phase.the-variants as Phase
 use Rattle.protocol.specs.Rules.{isCorrecting}
 use Rattle.protocol.specs.StepCount.{stepsNeeded}
-use Rattle.node.specs.declared.State.{State}
+use Rattle.node.specs.Held.{Held}
 use Rattle.consistency.specs.Runs.{Box, Input, leftAfter}
 use Rattle.consistency.specs.Demand.{boxOf, Steps}
 use Rattle.consistency.specs.Exactly.{leftIn, stepsFrom}
@@ -20,7 +20,7 @@ listed is = leftAfter (boxOf handed) is
 -- a host's own box: c is past every boundary, and a correction is going on
 unfoldable pub made : Box
 made =
-    let st : State = boxOf handed .state in
+    let st : Held = boxOf handed .state in
     record {
       state =
           record {

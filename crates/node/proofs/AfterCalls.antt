@@ -20,7 +20,7 @@ use Rattle.node.specs.Shape.{stateInShape}
 use Rattle.node.specs.Calls.{Called, putLent, calledOn}
 use Rattle.record.specs.Layout.{allBytes}
 use Rattle.node.specs.declared.LineHead.{LineHead}
-use Rattle.node.specs.declared.State.{State}
+use Rattle.node.specs.Held.{Held}
 use Rattle.node.proofs.Limits.{limits-hold}
 use Rattle.node.proofs.View.{Fits, Sized, view-sized, view-put, fits-put, settings-put, length-heads-put}
 use Rattle.node.proofs.Shape.{HeadShape, StateShape, state-facts}
@@ -29,7 +29,7 @@ use Rattle.node.proofs.Calls.{AcceptedOn, either-way}
 
 -- a state in shape, with a head for each line that there can be, fits its store
 pub shape-fits :
-    (st : State) (x : Columns) → length (st .heads) ≡ maxLines → length (st .acknowledged) ≡ maxDisplays →
+    (st : Held) (x : Columns) → length (st .heads) ≡ maxLines → length (st .acknowledged) ≡ maxDisplays →
     places st ≤ storeLength x → stateInShape st x ≡ true → Fits st x
 shape-fits st x h d room e =
     let f : StateShape st x = state-facts st x e in
@@ -42,7 +42,7 @@ shape-fits st x h d room e =
 
 -- an outcome fits as what it was got from
 pub outcome-sized :
-    (st : State) (x : Lent) (k : Call) → Fits st (x .readings) →
+    (st : Held) (x : Lent) (k : Call) → Fits st (x .readings) →
     Sized (st .settings) (outcomeOf (st .settings) (view st (x .readings)) k .node)
 outcome-sized st x k f =
     let v : Sized (st .settings) (view st (x .readings)) = view-sized st (x .readings) (f .heads) (f .displays) in
@@ -52,7 +52,7 @@ outcome-sized st x k f =
       displays = ap length (outcome-acknowledged (st .settings) (view st (x .readings)) k) ∙ v .displays;
     }
 
-module _ (st : State) (x : Lent) (text area : List ℕ) (v : AcceptedOn st x text area) where
+module _ (st : Held) (x : Lent) (text area : List ℕ) (v : AcceptedOn st x text area) where
   abbrev after : Node
   after = outcomeOf (st .settings) (view st (x .readings)) (v .call) .node
 
@@ -93,14 +93,14 @@ module _ (st : State) (x : Lent) (text area : List ℕ) (v : AcceptedOn st x tex
     accepted-fits = rw (accepted-state, accepted-columns) (fits-put st (x .readings) f after (outcome-sized st x (v .call) f))
 
   pub accepted-settings : calledOn st x text area .state .settings ≡ st .settings
-  accepted-settings = ap (λ (t : State). t .settings) accepted-state ∙ settings-put st after
+  accepted-settings = ap (λ (t : Held). t .settings) accepted-state ∙ settings-put st after
 
   pub accepted-heads : length (calledOn st x text area .state .heads) ≡ length (st .heads)
-  accepted-heads = ap (λ (t : State). length (t .heads)) accepted-state ∙ length-heads-put st after
+  accepted-heads = ap (λ (t : Held). length (t .heads)) accepted-state ∙ length-heads-put st after
 
 -- ---- any call
 
-module _ (st : State) (x : Lent) (text area : List ℕ) where
+module _ (st : Held) (x : Lent) (text area : List ℕ) where
   pub called-fits : Fits st (x .readings) → Fits (calledOn st x text area .state) (calledOn st x text area .lent .readings)
   called-fits f =
       either-way st x text area (λ (r : Called). Fits (r .state) (r .lent .readings)) (λ u. rw (u .state, u .lent) f)

@@ -25,28 +25,28 @@ use Rattle.node.proofs.Opening.{not-short, long-enough}
 use Rattle.node.specs.View.{Lent, places, view}
 use Rattle.node.specs.Shape.{inShape}
 use Rattle.node.specs.Calls.{Called, hostTests, laidOutcome, refusedWith, calledWith, calledOn}
-use Rattle.node.specs.declared.State.{State}
+use Rattle.node.specs.Held.{Held}
 
 -- what a refused call hands back
-pub record Untouched (st : State) (x : Lent) (area : List ℕ) (r : Called) : Type 0 where
+pub record Untouched (st : Held) (x : Lent) (area : List ℕ) (r : Called) : Type 0 where
   pub records : r .records ≡ 0
   pub state : r .state ≡ st
   pub lent : r .lent ≡ x
   pub bytes : r .area ≡ area
 
 -- what an accepted call returns and leaves
-abbrev pub laidDown : State → Lent → List ℕ → Call → Called
+abbrev pub laidDown : Held → Lent → List ℕ → Call → Called
 laidDown st x area k = laidOutcome st x area (outcomeOf (st .settings) (view st (x .readings)) k)
 
 -- the host's three tests passed
-pub record HostPassed (st : State) (x : Lent) (area : List ℕ) : Type 0 where
+pub record HostPassed (st : Held) (x : Lent) (area : List ℕ) : Type 0 where
   pub room : places st ≤ storeLength (x .readings)
   pub sent : heldBytes ≤ length (x .sent)
   pub shape : inShape st x ≡ true
   pub bytes : areaBytes ≤ length area
 
 -- what an accepted call was handed, and what it leaves
-pub record AcceptedOn (st : State) (x : Lent) (text area : List ℕ) : Type 0 where
+pub record AcceptedOn (st : Held) (x : Lent) (text area : List ℕ) : Type 0 where
   pub host : HostPassed st x area
   pub call : Call
   pub read : callOf text ≡ CallRead.Accepted call
@@ -57,7 +57,7 @@ pub record AcceptedOn (st : State) (x : Lent) (text area : List ℕ) : Type 0 wh
 
 -- ---- the host's tests
 
-module _ (st : State) (x : Lent) (area : List ℕ) where
+module _ (st : Held) (x : Lent) (area : List ℕ) where
   pub host-passed : firstFailed (hostTests st x area) ≡ 0 → HostPassed st x area
   unfolding hostTests places numbered allOf failsWith
   host-passed e =
@@ -95,7 +95,7 @@ module _ (st : State) (x : Lent) (area : List ℕ) where
 
 -- ---- a call
 
-module _ (st : State) (x : Lent) (text area : List ℕ) where
+module _ (st : Held) (x : Lent) (text area : List ℕ) where
   -- a call, the host's tests passed or not
   abbrev hostIf : Bool → Called
   hostIf b = cond b (calledWith st x area (callOf text)) (refusedWith (firstFailed (hostTests st x area)) st x area)

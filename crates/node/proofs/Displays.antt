@@ -20,13 +20,13 @@ use Rattle.store.specs.Columns.{Columns}
 use Rattle.node.specs.View.{Lent, places, view, withAcknowledged}
 use Rattle.node.specs.Calls.{Called, hostTests, refusedWith}
 use Rattle.node.specs.Displays.{freed, acknowledgedWith, acknowledgedOn, fetchedWith, fetchedOn}
-use Rattle.node.specs.declared.State.{State}
+use Rattle.node.specs.Held.{Held}
 use Rattle.node.proofs.View.{Fits}
 use Rattle.node.proofs.Calls.{Untouched, HostPassed, host-passed, host-passes, refused-with}
 
 -- ---- a call with tests of its own behind the host's
 
-module _ (st : State) (x : Lent) (area : List ℕ) (answer : ℕ) (down : Called) where
+module _ (st : Held) (x : Lent) (area : List ℕ) (answer : ℕ) (down : Called) where
   abbrev ownIf : Bool → Called
   ownIf b = cond b down (refusedWith answer st x area)
 
@@ -75,7 +75,7 @@ module _ (st : State) (x : Lent) (area : List ℕ) (answer : ℕ) (down : Called
 -- ---- an acknowledgement
 
 -- what an accepted one leaves
-abbrev pub acknowledgedDown : State → Lent → ℕ → ℕ → List ℕ → Called
+abbrev pub acknowledgedDown : Held → Lent → ℕ → ℕ → List ℕ → Called
 acknowledgedDown st x display id area =
     record {
       answer = 0;
@@ -89,13 +89,13 @@ acknowledgedDown st x display id area =
       area = area;
     }
 
-pub record AcknowledgedOn (st : State) (x : Lent) (display id : ℕ) (area : List ℕ) : Type 0 where
+pub record AcknowledgedOn (st : Held) (x : Lent) (display id : ℕ) (area : List ℕ) : Type 0 where
   pub host : HostPassed st x area
   pub answered : answerToAcknowledgement (st .settings) (view st (x .readings)) display id ≡ 0
   pub fits : AcknowledgementFits (st .settings) (view st (x .readings)) display id
   pub leaves : acknowledgedOn st x display id area ≡ acknowledgedDown st x display id area
 
-module _ (st : State) (x : Lent) (display id : ℕ) (area : List ℕ) where
+module _ (st : Held) (x : Lent) (display id : ℕ) (area : List ℕ) where
   abbrev ackAnswer : ℕ
   ackAnswer = answerToAcknowledgement (st .settings) (view st (x .readings)) display id
 
@@ -122,8 +122,8 @@ module _ (st : State) (x : Lent) (display id : ℕ) (area : List ℕ) where
   accepts-acknowledgement h e = judged-passes st x area ackAnswer (acknowledgedDown st x display id area) h e
 
 -- the state stands for the node with that last id
-module _ (st : State) (x : Columns) (display id : ℕ) (e : answerToAcknowledgement (st .settings) (view st x) display id ≡ 0) where
-  abbrev acknowledgedState : State
+module _ (st : Held) (x : Columns) (display id : ℕ) (e : answerToAcknowledgement (st .settings) (view st x) display id ≡ 0) where
+  abbrev acknowledgedState : Held
   acknowledgedState = withAcknowledged (acknowledging (st .acknowledged) display id) st
 
   pub acknowledged-view : view acknowledgedState x ≡ acknowledgedBy (st .settings) (view st x) display id
@@ -145,7 +145,7 @@ module _ (st : State) (x : Columns) (display id : ℕ) (e : answerToAcknowledgem
 
 -- ---- a fetch
 
-abbrev pub fetchedDown : State → Lent → ℕ → List ℕ → Called
+abbrev pub fetchedDown : Held → Lent → ℕ → List ℕ → Called
 fetchedDown st x from area =
     record {
       answer = 0;
@@ -155,12 +155,12 @@ fetchedDown st x from area =
       area = inFront (allBytes (heldBehind (placesOf (x .sent)) (from - 1) (fetchCount (view st (x .readings)) from))) area;
     }
 
-pub record FetchedOn (st : State) (x : Lent) (display from : ℕ) (area : List ℕ) : Type 0 where
+pub record FetchedOn (st : Held) (x : Lent) (display from : ℕ) (area : List ℕ) : Type 0 where
   pub host : HostPassed st x area
   pub answered : answerToFetch (st .settings) (view st (x .readings)) display from ≡ 0
   pub leaves : fetchedOn st x display from area ≡ fetchedDown st x from area
 
-module _ (st : State) (x : Lent) (display from : ℕ) (area : List ℕ) where
+module _ (st : Held) (x : Lent) (display from : ℕ) (area : List ℕ) where
   abbrev fetchAnswer : ℕ
   fetchAnswer = answerToFetch (st .settings) (view st (x .readings)) display from
 

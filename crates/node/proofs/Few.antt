@@ -23,7 +23,7 @@ use Rattle.protocol.specs.declared.Rule.the-variants as Rule
 use Rattle.protocol.specs.Rules.{ruleOf, boundaryAt, worked, act}
 use Rattle.protocol.specs.Refusals.{answerTo}
 use Rattle.protocol.specs.Calls.{input, done, accepted, outcomeOf}
-use Rattle.node.specs.declared.State.{State}
+use Rattle.node.specs.Held.{Held}
 use Rattle.node.specs.Sizes.{recordsPerCall}
 use Rattle.node.specs.View.{Lent, view}
 use Rattle.node.specs.Calls.{Called, calledOn}
@@ -76,7 +76,7 @@ module _ (s : Settings) (n : Node) (meters : length (n .operator .meters) ≡ me
 abbrev pub Fewest : List ℕ → Called → Type 0
 Fewest area q = (q .records ≤ recordsPerCall) × (q .records * recordBytes ≤ length area)
 
-module _ (st : State) (x : Lent) (text area : List ℕ) (meters : length (st .operator .meters) ≡ meterCount) where
+module _ (st : Held) (x : Lent) (text area : List ℕ) (meters : length (st .operator .meters) ≡ meterCount) where
   view-few : (k : Call) → length (outcomeOf (st .settings) (view st (x .readings)) k .records) ≤ recordsPerCall
   unfolding view
   view-few k = outcome-few (st .settings) (view st (x .readings)) meters k

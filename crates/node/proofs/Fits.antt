@@ -19,9 +19,8 @@ use Rattle.store.specs.declared.Reading.{Reading}
 use Rattle.store.specs.Order.{Placed, isIn, inBucket}
 use Rattle.store.proofs.Pairs.{every-to, every-append, every-keep, every-map}
 use Rattle.store.specs.Lists.{Every}
-use Rattle.operator.specs.declared.Operator.{Operator}
+use Rattle.operator.specs.Meters.{Operator, meterCount, clear, fresh, addAll}
 use Rattle.operator_meter.specs.Values.{noMeter}
-use Rattle.operator.specs.Meters.{meterCount, clear, fresh, addAll}
 use Rattle.operator.specs.Work.{close, work}
 use Rattle.protocol.specs.Kinds.{Kind, kindOf, uses, isStep}
 use Rattle.protocol.specs.Node.{Line, Node, noLine, opened, keptOf, readingOf, onLine}

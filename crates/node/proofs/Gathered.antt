@@ -15,7 +15,7 @@ use Rattle.store.proofs.Bucket.{inBucket-permutes}
 use Rattle.protocol.specs.Node.{Line, keptOf}
 
 module _ (law : Reading → Type 0) (size j : ℕ) where
-  pub every-gather :
+  every-gather :
       (n : ℕ) (ls : List Line) → Every (λ (l : Line). Every law (l .kept)) ls →
       Every (λ (r : Placed). law (r .reading)) (gather size j n (keptOf ls))
   unfolding gather keptOf

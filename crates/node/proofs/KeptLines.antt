@@ -12,11 +12,11 @@ use Rattle.store.specs.Sorted as sorted
 use Rattle.store.specs.Columns.{Columns, rows, rowsFrom}
 use Rattle.store.proofs.Pairs.{every-to, every-map}
 use Rattle.store.proofs.Columns.{take-rows, drop-rows}
-use Rattle.store_columns.proofs.Kept.{keptFrom}
+use Rattle.store.specs.Parts.{keptFrom}
 use Rattle.protocol.specs.Node.{Line, keptOf}
 use Rattle.node.specs.View.{viewLine, viewLines, places, view}
 use Rattle.node.specs.declared.LineHead.{LineHead}
-use Rattle.node.specs.declared.State.{State}
+use Rattle.node.specs.Held.{Held}
 use Rattle.node.proofs.Shape.{Rising, KeptShape}
 use Rattle.node.proofs.Shares.{SmallHead}
 
@@ -42,7 +42,7 @@ lines-kept x base (suc n) (h ∷ hs) small =
 
 -- what state and store keep
 pub view-kept :
-    (st : State) (x : Columns) → Every SmallHead (take (st .settings .lines) (st .heads)) →
+    (st : Held) (x : Columns) → Every SmallHead (take (st .settings .lines) (st .heads)) →
     keptOf (view st x .lines) ≡ keptFrom x 0 (map (λ (h : LineHead). h .kept) (take (st .settings .lines) (st .heads)))
 unfolding view places rows
 view-kept st x small = lines-kept x 0 (st .settings .lines) (st .heads) small

@@ -16,7 +16,7 @@ use Rattle.store.proofs.Columns.{Room, room, column-back, length-rows, share-of
 use Rattle.protocol.specs.Node.{Line, Node, noLine}
 use Rattle.node.specs.View.{viewLine, viewLines, places, view, headOf, headsWith, shareWith, sharesWith, putColumns}
 use Rattle.node.specs.declared.LineHead.{LineHead}
-use Rattle.node.specs.declared.State.{State}
+use Rattle.node.specs.Held.{Held}
 use Rattle.node.proofs.Share.{share-same, head-same}
 use Rattle.node.proofs.Shares.{Shares, SmallLine, SmallHead, shares-behind, first-share, line-at, heads-same, shares-same}
 use Rattle.node.proofs.View.{Fits, shares}
@@ -154,7 +154,7 @@ module _ (g : Line → Line) where
 
 -- ---- one line of a state and a store
 
-module _ (st : State) (x : Columns) (f : Fits st x) (i : ℕ) (h : i < st .settings .lines) where
+module _ (st : Held) (x : Columns) (f : Fits st x) (i : ℕ) (h : i < st .settings .lines) where
   share-rows : take readingsPerLine (drop (i * readingsPerLine) (rows x (places st))) ≡ rowsFrom x (i * readingsPerLine) readingsPerLine
   unfolding share places
   share-rows = share-of-rows x (i * readingsPerLine) readingsPerLine (st .settings .lines * readingsPerLine) (omega arith)

@@ -26,7 +26,7 @@ use Rattle.protocol.proofs.Displays.{neither}
 use Rattle.node.specs.View.{Lent, viewLine, viewLines, places, view, headOf}
 use Rattle.node.specs.Opening.{Opened, sharesShort, isShort, freshState, openedWith, openedOn}
 use Rattle.node.specs.declared.LineHead.{LineHead}
-use Rattle.node.specs.declared.State.{State}
+use Rattle.node.specs.Held.{Held}
 use Rattle.node.proofs.Lists.{every-replicate}
 use Rattle.node.proofs.Limits.{Limits, limits-hold}
 use Rattle.store.proofs.Columns.{storeLength-withRows}
@@ -161,7 +161,7 @@ unfolding isShort sharesShort
 long-enough lines x h g = rw (le-ltb (storeLength (x .readings)) (lines * readingsPerLine) h, le-ltb (length (x .sent)) heldBytes g)
 
 -- what an accepted opening was handed, and what it leaves
-pub record OpenedOn (st : State) (x : Lent) (text : List ℕ) : Type 0 where
+pub record OpenedOn (st : Held) (x : Lent) (text : List ℕ) : Type 0 where
   pub settings : Settings
   pub read : settingsOf text ≡ SettingsRead.Accepted settings
   pub accepts : Accepts text settings
@@ -170,13 +170,13 @@ pub record OpenedOn (st : State) (x : Lent) (text : List ℕ) : Type 0 where
   pub opens : openedOn st x text ≡ record { answer = 0; state = freshState settings; lent = zeroedLent settings x }
 
 -- an opening with settings that were accepted, the store short or not
-abbrev openedIf : State → Lent → Settings → Bool → Opened
+abbrev openedIf : Held → Lent → Settings → Bool → Opened
 openedIf st x s short =
     cond short (record { answer = 3; state = st; lent = x })
     (record { answer = 0; state = freshState s; lent = zeroedLent s x })
 
 opened-read :
-    (st : State) (x : Lent) (text : List ℕ) (r : SettingsRead) → settingsOf text ≡ r → openedWith st x r .answer ≡ 0 →
+    (st : Held) (x : Lent) (text : List ℕ) (r : SettingsRead) → settingsOf text ≡ r → openedWith st x r .answer ≡ 0 →
     OpenedOn st x text
 unfolding openedOn openedWith isShort settingsAnswer
 opened-read st x text (SettingsRead.Accepted s) q e =
@@ -200,12 +200,12 @@ opened-read st x text (SettingsRead.Accepted s) q e =
 opened-read st x text SettingsRead.Malformed q e = absurd (omega (arith, e))
 opened-read st x text SettingsRead.OutsideLimits q e = absurd (omega (arith, e))
 
-pub opened-on : (st : State) (x : Lent) (text : List ℕ) → openedOn st x text .answer ≡ 0 → OpenedOn st x text
+pub opened-on : (st : Held) (x : Lent) (text : List ℕ) → openedOn st x text .answer ≡ 0 → OpenedOn st x text
 unfolding openedOn
 opened-on st x text e = opened-read st x text (settingsOf text) refl e
 
 refused-read :
-    (st : State) (x : Lent) (r : SettingsRead) → (openedWith st x r .answer ≡ 0 → ⊥) →
+    (st : Held) (x : Lent) (r : SettingsRead) → (openedWith st x r .answer ≡ 0 → ⊥) →
     (openedWith st x r .state ≡ st) × (openedWith st x r .lent ≡ x)
 unfolding openedWith
 refused-read st x (SettingsRead.Accepted s) e =
@@ -220,12 +220,12 @@ refused-read st x SettingsRead.OutsideLimits e = (refl, refl)
 
 -- a refused opening changes nothing (document 01, section 'Refusal by whom'): a claim of its own, which no proof needs
 pub refused-opening :
-    (st : State) (x : Lent) (text : List ℕ) → (openedOn st x text .answer ≡ 0 → ⊥) →
+    (st : Held) (x : Lent) (text : List ℕ) → (openedOn st x text .answer ≡ 0 → ⊥) →
     (openedOn st x text .state ≡ st) × (openedOn st x text .lent ≡ x)
 unfolding openedOn
 refused-opening st x text e = refused-read st x (settingsOf text) e
 
-module _ (st : State) (x : Lent) (text : List ℕ) (o : OpenedOn st x text) where
+module _ (st : Held) (x : Lent) (text : List ℕ) (o : OpenedOn st x text) where
   pub opened-limits : Limits (o .settings)
   opened-limits = limits-hold (o .settings) (o .accepts .limits)
 
@@ -251,10 +251,10 @@ module _ (st : State) (x : Lent) (text : List ℕ) (o : OpenedOn st x text) wher
       rw (opened-state, opened-columns) (fits-fresh (o .settings) (x .readings) (o .room) (opened-limits .lines) (opened-limits .displays))
 
   pub opened-settings : openedOn st x text .state .settings ≡ o .settings
-  opened-settings = ap (λ (t : State). t .settings) opened-state ∙ settings-fresh (o .settings)
+  opened-settings = ap (λ (t : Held). t .settings) opened-state ∙ settings-fresh (o .settings)
 
   pub opened-heads : length (openedOn st x text .state .heads) ≡ maxLines
-  opened-heads = ap (λ (t : State). length (t .heads)) opened-state ∙ length-heads-fresh (o .settings)
+  opened-heads = ap (λ (t : Held). length (t .heads)) opened-state ∙ length-heads-fresh (o .settings)
 
   -- no line keeps anything (document 01, section 'Buckets and the operator'): a claim of its own, which no proof needs
   pub opened-empty : Every (λ (h : LineHead). h .kept ≡ 0) (openedOn st x text .state .heads)

@@ -15,7 +15,7 @@ use Rattle.store.specs.Sizes.{readingsPerLine}
 use Rattle.store.specs.Columns.{withRows, rows, rowAt, Columns, zeroed}
 use Rattle.node.specs.View.{places, headOf, shareWith, headsWith, sharesWith, putState, putColumns}
 use Rattle.node.specs.declared.LineHead.{LineHead}
-use Rattle.node.specs.declared.State.{State}
+use Rattle.node.specs.Held.{Held}
 use Rattle.store.proofs.Columns.{withRows-behind, Behind, row-laid, row-at}
 use Rattle.node.proofs.Share.{share-kept, share-given-up, share-untouched}
 use Rattle.node.proofs.Shares.{SmallLine, Shares, shares-behind, length-first, headsWith-behind}
@@ -57,14 +57,14 @@ share-at (l ∷ ls) (k ∷ hs) rs f s (suc i) j d h g =
 
 -- heads past the state's lines stay as they were
 pub heads-behind :
-    (st : State) (n : Node) → length (n .lines) ≡ st .settings .lines →
+    (st : Held) (n : Node) → length (n .lines) ≡ st .settings .lines →
     drop (st .settings .lines) (putState st n .heads) ≡ drop (st .settings .lines) (st .heads)
 unfolding putState
 heads-behind st n e =
     subst (λ (m : ℕ). drop m (headsWith (st .heads) (n .lines)) ≡ drop m (st .heads)) e
     (headsWith-behind (st .heads) (n .lines))
 
-module _ (st : State) (x : Columns) (f : Fits st x) (n : Node) (v : Sized (st .settings) n) where
+module _ (st : Held) (x : Columns) (f : Fits st x) (n : Node) (v : Sized (st .settings) n) where
   -- places past the lines' shares stay as they were, in every column
   pub columns-behind : Behind (places st) (putColumns st x n) x
   unfolding putColumns

@@ -17,8 +17,7 @@ use Rattle.record.specs.Kinds.{isRecord}
 use Rattle.store.specs.Order.{Placed}
 use Rattle.store.specs.Lists.{Every}
 use Rattle.operator_meter.specs.declared.Meter.{Meter}
-use Rattle.operator.specs.declared.Operator.{Operator}
-use Rattle.operator.specs.Meters.{meterCount, addAll}
+use Rattle.operator.specs.Meters.{Operator, meterCount, addAll}
 use Rattle.record.specs.Markers.{marker}
 use Rattle.operator_meter.specs.Values.{hasResult}
 use Rattle.operator.specs.Results.{result, results}

@@ -30,7 +30,7 @@ use Rattle.node.specs.View.{Lent, view}
 use Rattle.node.specs.Shape.{readingOk, idsRise, headOk, keptOk, phaseOk, bucketsOk, numbersOk}
 use Rattle.node.specs.Shape.{displayOk, displaysOk, sentOk, stateInShape, inShape}
 use Rattle.node.specs.declared.LineHead.{LineHead}
-use Rattle.node.specs.declared.State.{State}
+use Rattle.node.specs.Held.{Held}
 
 -- ---- one test each
 
@@ -108,12 +108,12 @@ phase-shape c p Phase.Failure e = ltb-true _ _ e
 phase-shape c p Phase.Correcting e = eqb-true _ _ e
 
 -- c and p
-pub record BucketsShape (st : State) : Type 0 where
+pub record BucketsShape (st : Held) : Type 0 where
   pub order : st .c ≤ st .p
   pub last : st .p ≤ lastBucket
   pub phase : PhaseShape (st .c) (st .p) (st .phase)
 
-buckets-shape : (st : State) → bucketsOk st ≡ true → BucketsShape st
+buckets-shape : (st : Held) → bucketsOk st ≡ true → BucketsShape st
 unfolding bucketsOk
 buckets-shape st e =
     let a : Bool = leb (st .c) (st .p) in
@@ -127,13 +127,13 @@ buckets-shape st e =
     }
 
 -- the last stable result's id and the newest one's
-pub record NumbersShape (st : State) : Type 0 where
+pub record NumbersShape (st : Held) : Type 0 where
   pub stable : st .checkpoint .number ≤ resultsPerBucket * st .c
   pub newest : st .operator .number ≤ resultsPerBucket * st .p
   pub order : st .checkpoint .number ≤ st .operator .number
   pub level : st .p ≡ st .c → st .operator .number ≡ st .checkpoint .number
 
-numbers-shape : (st : State) → numbersOk st ≡ true → NumbersShape st
+numbers-shape : (st : Held) → numbersOk st ≡ true → NumbersShape st
 unfolding numbersOk
 numbers-shape st e =
     let a : Bool = leb (st .checkpoint .number) (resultsPerBucket * st .c) in
@@ -169,7 +169,7 @@ display-shape newest id e =
     record { known = leb-true _ _ (and-parts a b e .0); near = leb-true _ _ (and-parts a b e .1) }
 
 -- the state and the store of readings
-pub record StateShape (st : State) (x : Columns) : Type 0 where
+pub record StateShape (st : Held) (x : Columns) : Type 0 where
   pub limits : withinLimits (st .settings) ≡ true
   pub heads : Every HeadShape (take (st .settings .lines) (st .heads))
   pub lines : Every KeptShape (view st x .lines)
@@ -178,7 +178,7 @@ pub record StateShape (st : State) (x : Columns) : Type 0 where
   pub operator : Every (Counted countLimit) (st .operator .meters)
   pub checkpoint : Every (Counted countLimit) (st .checkpoint .meters)
 
-pub state-facts : (st : State) (x : Columns) → stateInShape st x ≡ true → StateShape st x
+pub state-facts : (st : Held) (x : Columns) → stateInShape st x ≡ true → StateShape st x
 unfolding stateInShape
 state-facts st x e =
     let a : Bool = withinLimits (st .settings) in
@@ -208,18 +208,18 @@ state-facts st x e =
     }
 
 -- the test of the state and the store of readings is part of the test of all
-pub state-in-shape : (st : State) (x : Lent) → inShape st x ≡ true → stateInShape st (x .readings) ≡ true
+pub state-in-shape : (st : Held) (x : Lent) → inShape st x ≡ true → stateInShape st (x .readings) ≡ true
 unfolding inShape
 state-in-shape st x e = and-parts (stateInShape st (x .readings)) (displaysOk st && sentOk st (x .sent)) e .0
 
 -- and so is the test of the displays' last ids
-pub displays-in-shape : (st : State) (x : Lent) → inShape st x ≡ true → displaysOk st ≡ true
+pub displays-in-shape : (st : Held) (x : Lent) → inShape st x ≡ true → displaysOk st ≡ true
 unfolding inShape
 displays-in-shape st x e =
     let rest = and-parts (stateInShape st (x .readings)) (displaysOk st && sentOk st (x .sent)) e .1 in
     and-parts (displaysOk st) (sentOk st (x .sent)) rest .0
 
-pub record InShape (st : State) (x : Lent) : Type 0 where
+pub record InShape (st : Held) (x : Lent) : Type 0 where
   pub limits : withinLimits (st .settings) ≡ true
   pub heads : Every HeadShape (take (st .settings .lines) (st .heads))
   pub lines : Every KeptShape (view st (x .readings) .lines)
@@ -230,7 +230,7 @@ pub record InShape (st : State) (x : Lent) : Type 0 where
   pub displays : Every (DisplayShape (st .checkpoint .number)) (take (st .settings .displays) (st .acknowledged))
   pub sent : sentOk st (x .sent) ≡ true
 
-pub inShape-facts : (st : State) (x : Lent) → inShape st x ≡ true → InShape st x
+pub inShape-facts : (st : Held) (x : Lent) → inShape st x ≡ true → InShape st x
 unfolding inShape displaysOk
 inShape-facts st x e =
     let a : Bool = allOf (displayOk (st .checkpoint .number)) (take (st .settings .displays) (st .acknowledged)) in
@@ -252,7 +252,7 @@ inShape-facts st x e =
     }
 
 -- the operator's meters pass their test
-pub operator-within : (st : State) (x : Columns) → stateInShape st x ≡ true → allOf meterOk (st .operator .meters) ≡ true
+pub operator-within : (st : Held) (x : Columns) → stateInShape st x ≡ true → allOf meterOk (st .operator .meters) ≡ true
 unfolding stateInShape
 operator-within st x e =
     and-parts _ _ (and-parts (numbersOk st) _ (and-parts (bucketsOk st) _ (and-parts (allOf keptOk (view st x .lines)) _ (and-parts (allOf headOk (take (st .settings .lines) (st .heads))) _ (and-parts (withinLimits (st .settings)) _ e .1) .1) .1) .1) .1) .0

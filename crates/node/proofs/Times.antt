@@ -44,7 +44,7 @@ pub start-fits : (size window j : ℕ) → 1 ≤ window → j * size < 2 ^ 32 �
 start-fits size window j h f = omega (arith, start-le size window j h)
 
 -- a stable bucket
-pub stable-end-within :
+stable-end-within :
     (s : Settings) (j : ℕ) (ls : List Line) → 0 < length ls → Every (λ (l : Line). l .boundary .0 < 2 ^ 32) ls →
     isStableBucket s j ls ≡ true → bucketEnd (s .bucket) j < 2 ^ 32
 unfolding isStableBucket allOf

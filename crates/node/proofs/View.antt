@@ -14,7 +14,7 @@ use Rattle.store.specs.Sizes.{readingsPerLine}
 use Rattle.store.specs.Columns.{withRows, rows, storeLength, Columns}
 use Rattle.node.specs.View.{viewLines, places, view, headsWith, sharesWith, putState, putColumns}
 use Rattle.node.specs.declared.LineHead.{LineHead}
-use Rattle.node.specs.declared.State.{State}
+use Rattle.node.specs.Held.{Held}
 use Rattle.store.proofs.Columns.{withRows-rows, rows-withRows, storeLength-withRows, length-rows}
 use Rattle.node.proofs.Shares.{
   SmallLine,
@@ -31,7 +31,7 @@ use Rattle.node.proofs.Shares.{
 }
 
 -- a state and a store with room for its lines
-pub record Fits (st : State) (x : Columns) : Type 0 where
+pub record Fits (st : Held) (x : Columns) : Type 0 where
   pub heads : st .settings .lines ≤ length (st .heads)
   pub kept : Every SmallHead (take (st .settings .lines) (st .heads))
   pub room : places st ≤ storeLength x
@@ -45,17 +45,17 @@ pub record Sized (s : Settings) (n : Node) : Type 0 where
 
 -- ---- what stays
 
-pub settings-put : (st : State) (n : Node) → putState st n .settings ≡ st .settings
+pub settings-put : (st : Held) (n : Node) → putState st n .settings ≡ st .settings
 unfolding putState
 settings-put st n = refl
 
-pub length-heads-put : (st : State) (n : Node) → length (putState st n .heads) ≡ length (st .heads)
+pub length-heads-put : (st : Held) (n : Node) → length (putState st n .heads) ≡ length (st .heads)
 unfolding putState
 length-heads-put st n = length-headsWith (st .heads) (n .lines)
 
 -- what state and store stand for has the state's lines, each within its share
 pub view-sized :
-    (st : State) (x : Columns) → st .settings .lines ≤ length (st .heads) → st .settings .displays ≤ length (st .acknowledged) →
+    (st : Held) (x : Columns) → st .settings .lines ≤ length (st .heads) → st .settings .displays ≤ length (st .acknowledged) →
     Sized (st .settings) (view st x)
 unfolding view
 view-sized st x h d =
@@ -65,7 +65,7 @@ view-sized st x h d =
       displays = length-take-le (st .settings .displays) (st .acknowledged) d;
     }
 
-module _ (st : State) (x : Columns) (f : Fits st x) where
+module _ (st : Held) (x : Columns) (f : Fits st x) where
   pub shares : (m : ℕ) → m ≡ st .settings .lines → Shares m (st .heads) (rows x (places st))
   unfolding places
   shares m e =

@@ -8,7 +8,7 @@ use Rattle.store.specs.Columns.{Columns, rows, withRows}
 use Rattle.protocol.specs.Node.{Line, Node, keptOf}
 use Rattle.node.specs.View.{places, view, shareWith, sharesWith, putColumns}
 use Rattle.node.specs.declared.LineHead.{LineHead}
-use Rattle.node.specs.declared.State.{State}
+use Rattle.node.specs.Held.{Held}
 use Rattle.node.proofs.View.{Fits, putColumns-view}
 
 -- the shares by what the lines keep
@@ -27,7 +27,7 @@ by-kept (h ∷ hs) rs (l ∷ ls) =
 
 -- where every line keeps what it kept, the store stays as it was
 pub putColumns-same :
-    (st : State) (x : Columns) → Fits st x → (n : Node) → keptOf (n .lines) ≡ keptOf (view st x .lines) → putColumns st x n ≡ x
+    (st : Held) (x : Columns) → Fits st x → (n : Node) → keptOf (n .lines) ≡ keptOf (view st x .lines) → putColumns st x n ≡ x
 unfolding putColumns
 putColumns-same st x f n e =
     ap (withRows x)

@@ -5,13 +5,12 @@ use Rattle.node.specs.declared.State.{State}
 abbrev pub withPhase : Phase → State → State
 withPhase phase st =
     record {
-      operator = st .operator;
-      checkpoint = st .checkpoint;
-      heads = st .heads;
       settings = st .settings;
       clock = st .clock;
       c = st .c;
       p = st .p;
       phase = phase;
+      newest = st .newest;
+      «last_stable» = st .«last_stable»;
       acknowledged = st .acknowledged;
     }

@@ -1,5 +1,6 @@
--- The node on what is really handed over: state, stores, text and area.
+-- The node on what is really handed over: state, arrays, stores, text and area.
 pub mod Sizes
+pub mod Held
 pub mod View
 pub mod Changed
 pub mod Shape

@@ -1,4 +1,4 @@
--- A state and its stores in shape (document 01, section 'Refusal by whom', refusal 4; document 02, W2). Only lines 1 to `lines`
+-- What is held and the stores in shape (document 01, section 'Refusal by whom', refusal 4; document 02, W2). Only lines 1 to `lines`
 -- and displays 1 to `displays` are looked at.
 use Prim.Native.Nat.{ℕ, _+_, _*_, _-_}
 use mathlib.Core.Bool.{Bool, true, cond, _&&_}
@@ -22,7 +22,7 @@ use Rattle.retransmission.specs.Places.{placesOf, placesOk}
 use Rattle.store.specs.Columns.{Columns}
 use Rattle.node.specs.View.{Lent, view}
 use Rattle.node.specs.declared.LineHead.{LineHead}
-use Rattle.node.specs.declared.State.{State}
+use Rattle.node.specs.Held.{Held}
 
 -- a kept reading: S or T, its meter not past the last one
 unfoldable pub readingOk : Reading → Bool
@@ -44,11 +44,11 @@ phaseOk c p Phase.Stable = eqb p c
 phaseOk c p Phase.Failure = ltb c p
 phaseOk c p Phase.Correcting = eqb p c
 
-unfoldable pub bucketsOk : State → Bool
+unfoldable pub bucketsOk : Held → Bool
 bucketsOk st = leb (st .c) (st .p) && (leb (st .p) lastBucket && phaseOk (st .c) (st .p) (st .phase))
 
 -- the last stable result's id and the newest one's
-unfoldable pub numbersOk : State → Bool
+unfoldable pub numbersOk : Held → Bool
 numbersOk st =
     leb (st .checkpoint .number) (resultsPerBucket * st .c) &&
     (leb (st .operator .number) (resultsPerBucket * st .p) &&
@@ -59,17 +59,17 @@ numbersOk st =
 unfoldable pub displayOk : ℕ → ℕ → Bool
 displayOk newest id = leb id newest && leb newest (id + heldResults)
 
-unfoldable pub displaysOk : State → Bool
+unfoldable pub displaysOk : Held → Bool
 displaysOk st = allOf (displayOk (st .checkpoint .number)) (take (st .settings .displays) (st .acknowledged))
 
 -- the places of the results that some display has not acknowledged
-unfoldable pub sentOk : State → List ℕ → Bool
+unfoldable pub sentOk : Held → List ℕ → Bool
 sentOk st sent =
     let least : ℕ = leastOf (take (st .settings .displays) (st .acknowledged)) in
     placesOk (placesOf sent) least (st .checkpoint .number - least)
 
 -- the state and the store of readings
-unfoldable pub stateInShape : State → Columns → Bool
+unfoldable pub stateInShape : Held → Columns → Bool
 stateInShape st x =
     withinLimits (st .settings) &&
     (allOf headOk (take (st .settings .lines) (st .heads)) &&
@@ -77,5 +77,5 @@ stateInShape st x =
     (bucketsOk st && (numbersOk st && (allOf meterOk (st .operator .meters) && allOf meterOk (st .checkpoint .meters))))))
 
 -- and what is held for the displays; their ids are tested before any place is looked at
-unfoldable pub inShape : State → Lent → Bool
+unfoldable pub inShape : Held → Lent → Bool
 inShape st x = stateInShape st (x .readings) && (displaysOk st && sentOk st (x .sent))

@@ -1,4 +1,4 @@
--- What a state and its stores stand for, and a node laid into them again (document 01, section 'Store and output area'; document 02, W2).
+-- What is held and the stores stand for, and a node laid into them again (document 01, section 'Store and output area'; document 02, W2).
 use Prim.Native.Nat.{ℕ, zero, suc, _*_, _-_, max}
 use mathlib.Core.List.{List, [], _∷_, _++_}
 use lib.ListN.{length, take, drop, replicate}
@@ -8,9 +8,9 @@ use Rattle.protocol.specs.Node.{Line, Node}
 use Rattle.store.specs.Sizes.{readingsPerLine}
 use Rattle.store.specs.Columns.{Columns, rows, withRows, zeroed}
 use Rattle.node.specs.declared.LineHead.{LineHead}
-use Rattle.node.specs.declared.State.{State}
+use Rattle.node.specs.Held.{Held}
 
--- what is lent between calls: the store of readings and the send-back store
+-- the two lent stores: readings, and results to be sent back
 pub record Lent : Type 0 where
   pub readings : Columns
   pub sent : List ℕ
@@ -37,10 +37,10 @@ viewLines (suc n) [] rs = []
 viewLines (suc n) (h ∷ hs) rs = viewLine h (take readingsPerLine rs) ∷ viewLines n hs (drop readingsPerLine rs)
 
 -- the places of the lines' shares
-unfoldable pub places : State → ℕ
+unfoldable pub places : Held → ℕ
 places st = st .settings .lines * readingsPerLine
 
-unfoldable pub view : State → Columns → Node
+unfoldable pub view : Held → Columns → Node
 view st x =
     record {
       clock = st .clock;
@@ -75,7 +75,7 @@ sharesWith [] rs (l ∷ ls) = rs
 sharesWith (h ∷ hs) rs (l ∷ ls) =
     shareWith (take readingsPerLine rs) (h .kept) (l .kept) ++ sharesWith hs (drop readingsPerLine rs) ls
 
-unfoldable pub putState : State → Node → State
+unfoldable pub putState : Held → Node → Held
 putState st n =
     record {
       operator = n .operator;
@@ -90,7 +90,7 @@ putState st n =
     }
 
 -- a state with other last ids of the displays
-abbrev pub withAcknowledged : List ℕ → State → State
+abbrev pub withAcknowledged : List ℕ → Held → Held
 withAcknowledged ids st =
     record {
       operator = st .operator;
@@ -104,5 +104,5 @@ withAcknowledged ids st =
       acknowledged = ids;
     }
 
-unfoldable pub putColumns : State → Columns → Node → Columns
+unfoldable pub putColumns : Held → Columns → Node → Columns
 putColumns st x n = withRows x (sharesWith (st .heads) (rows x (places st)) (n .lines))

@@ -1,5 +1,5 @@
-// A state with one thing changed and the rest as it was. Numbers, operators and heads are stored into a state where they change; a field
-// that is an enum cannot be, so that the state is made anew, here and nowhere else.
+// A state with one thing changed and the rest as it was. Numbers are stored into a state where they change; a field that is an enum
+// cannot be, so that the state is made anew, here and nowhere else.
 ghost use mathlib.Core.Path.{_≡_};
 ghost use Rattle.node.specs.Changed.{withPhase};
 use crate::State;
@@ -10,21 +10,17 @@ impl State {
     pub fn with_phase(self, phase: Phase) -> State
         ensures { λ r. ⌜ r ≡ withPhase phase self ⌝ }
     {
-        let operator = self.operator;
-        let checkpoint = self.checkpoint;
-        let heads = self.heads;
         let settings = self.settings;
         let clock = self.clock;
         let acknowledged = self.acknowledged;
         State {
-            operator: operator,
-            checkpoint: checkpoint,
-            heads: heads,
             settings: settings,
             clock: clock,
             c: self.c,
             p: self.p,
             phase: phase,
+            newest: self.newest,
+            last_stable: self.last_stable,
             acknowledged: acknowledged,
         }
     }

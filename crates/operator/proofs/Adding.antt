@@ -13,9 +13,8 @@ use Rattle.settings.specs.declared.Settings.{Settings}
 use Rattle.store.specs.declared.Reading.{Reading}
 use Rattle.store.specs.Order.{Placed}
 use Rattle.operator_meter.specs.declared.Meter.{Meter}
-use Rattle.operator.specs.declared.Operator.{Operator}
+use Rattle.operator.specs.Meters.{Operator, add, addAll}
 use Rattle.operator_meter.specs.Values.{noMeter, withValue, isCounted}
-use Rattle.operator.specs.Meters.{add, addAll}
 use Rattle.operator.proofs.Values.{countsFor, valuesOf}
 
 -- meter number i

@@ -8,9 +8,8 @@ use lib.ListN.{length, length-replicate, getD-replicate}
 use Rattle.clock.specs.Windows.{closesWindow}
 use Rattle.settings.specs.declared.Settings.{Settings}
 use Rattle.store.specs.Order.{Placed}
-use Rattle.operator.specs.declared.Operator.{Operator}
+use Rattle.operator.specs.Meters.{Operator, meterCount, clear, addAll}
 use Rattle.operator_meter.specs.Values.{noMeter}
-use Rattle.operator.specs.Meters.{meterCount, clear, addAll}
 use Rattle.operator.specs.Work.{windowResults, close, work}
 use Rattle.operator.proofs.Adding.{meterOf, addAll-number}
 use Rattle.operator.proofs.Results.{givers, results-length}

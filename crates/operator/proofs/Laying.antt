@@ -19,9 +19,8 @@ use Rattle.record.proofs.BytesOf.{length-bytesOf}
 use Rattle.record.proofs.AllBytes.{length-allBytes}
 use Rattle.operator_meter.specs.declared.Meter.{Meter}
 use Rattle.operator.specs.declared.NextResult.the-variants as NextResult
-use Rattle.operator.specs.declared.Operator.{Operator}
+use Rattle.operator.specs.Meters.{Operator, meterCount, clear}
 use Rattle.operator_meter.specs.Values.{noMeter}
-use Rattle.operator.specs.Meters.{meterCount, clear}
 use Rattle.operator.specs.Results.{result, results}
 use Rattle.operator.specs.Parts.{nextResult}
 use Rattle.operator.specs.Work.{windowResults, close}

@@ -11,3 +11,11 @@ pub mod Meters
 pub mod FromPlace
 pub mod NextResults
 pub mod Laying
+pub mod Loaded
+pub mod Owned
+pub mod FromColumns
+pub mod Pass
+pub mod Turns
+pub mod Entered
+pub mod KnownMeters
+pub mod OneReading

@@ -23,9 +23,8 @@ use Rattle.store.proofs.Permutations.{keep-permuted}
 use Rattle.store.proofs.Splitting.{EitherOf, keep-split}
 use Rattle.store.proofs.Amounts.{CommutativeMonoid, none-plus, totalOf, kept-append, total-permuted}
 use Rattle.operator_meter.specs.declared.Meter.{Meter}
-use Rattle.operator.specs.declared.Operator.{Operator}
+use Rattle.operator.specs.Meters.{Operator, meterCount, add, addAll, clear}
 use Rattle.operator_meter.specs.Values.{noMeter, withValue, hasResult}
-use Rattle.operator.specs.Meters.{meterCount, add, addAll, clear}
 use Rattle.operator.specs.Results.{result, results}
 use Rattle.operator.specs.Work.{Worked, windowResults, close, work}
 use Rattle.operator.proofs.Values.{counts, countsFor}

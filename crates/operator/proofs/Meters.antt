@@ -15,9 +15,8 @@ use Rattle.store.specs.Order.{Placed}
 use Rattle.store.proofs.Pairs.{every-to}
 use Rattle.store.specs.Lists.{Every}
 use Rattle.operator_meter.specs.declared.Meter.{Meter}
-use Rattle.operator.specs.declared.Operator.{Operator}
+use Rattle.operator.specs.Meters.{Operator, add, addAll}
 use Rattle.operator_meter.specs.Values.{noMeter, withValue, isCounted}
-use Rattle.operator.specs.Meters.{add, addAll}
 use Rattle.operator_meter.proofs.Bounds.{LastFits, Counted, no-last, no-counted, counted-value, last-value}
 use Rattle.store.proofs.Pairs.{every-set, every-at}
 

@@ -10,9 +10,8 @@ use lib.ListN.{length}
 use Rattle.settings.specs.declared.Settings.{Settings}
 use Rattle.store.specs.Order.{Placed}
 use Rattle.operator_meter.specs.declared.Meter.{Meter}
-use Rattle.operator.specs.declared.Operator.{Operator}
+use Rattle.operator.specs.Meters.{Operator, addAll}
 use Rattle.operator_meter.specs.Values.{withValue}
-use Rattle.operator.specs.Meters.{addAll}
 use Rattle.operator.proofs.Values.{countsFor, valuesOf, total, lastOr, countOf, sumOf, valuesOf-append, lastOr-end}
 use Rattle.operator.proofs.Adding.{meterOf, withValues, addAll-meter}
 

@@ -6,12 +6,17 @@ use lib.ListN.{getD, set, replicate}
 use Rattle.settings.specs.declared.Settings.{Settings}
 use Rattle.store.specs.declared.Reading.{Reading}
 use Rattle.store.specs.Order.{Placed}
+use Rattle.operator_meter.specs.declared.Meter.{Meter}
 use Rattle.operator_meter.specs.Values.{noMeter, withValue, isCounted}
-use Rattle.operator.specs.declared.Operator.{Operator}
 
 -- how many meters there are
 abbrev pub meterCount : ℕ
 meterCount = 64
+
+-- the operator: its meters, and the number of the newest result, 0 if there is none
+pub record Operator : Type 0 where
+  pub meters : List Meter
+  pub number : ℕ
 
 -- the operator cleared, its numbering kept
 unfoldable pub clear : Operator → Operator

@@ -7,9 +7,8 @@ use Rattle.clock.specs.Windows.{closesWindow, windowStart}
 use Rattle.settings.specs.declared.Settings.{Settings}
 use Rattle.record.specs.declared.Record.{Record}
 use Rattle.store.specs.Order.{Placed}
-use Rattle.operator.specs.Meters.{clear, addAll}
+use Rattle.operator.specs.Meters.{Operator, clear, addAll}
 use Rattle.operator.specs.Results.{results}
-use Rattle.operator.specs.declared.Operator.{Operator}
 
 -- the operator after some work, and the records given
 pub record Worked : Type 0 where

@@ -1,25 +1,25 @@
-// The operator: its meters, with the numbering of results. It goes by value and is handed on from bucket to bucket.
+// The operator: its meters, with the numbering of results. It goes by value: loaded, worked and laid back.
 ghost use mathlib.Core.Path.{_≡_};
-ghost use mathlib.Core.Bool.{true};
 ghost use Prim.Native.Nat.{ℕ, _+_, _*_, _<_, _≤_, _^_};
-ghost use lib.ListN.{length};
+ghost use lib.ListN.{length, take};
 ghost use Rattle.area.specs.Laid.{inFront};
 ghost use Rattle.clock.specs.Windows.{windowStart};
 ghost use Rattle.signed.specs.Range.{InRange};
 ghost use Rattle.settings.specs.declared.Settings.{Settings as Limits};
+ghost use Rattle.settings.specs.Limits.{maxLines};
 ghost use Rattle.record.specs.Sizes.{recordBytes};
 ghost use Rattle.record.specs.Layout.{allBytes};
-ghost use Rattle.store.specs.Lists.{allOf, Every};
-ghost use Rattle.operator_meter.specs.Bounds.{meterOk};
-ghost use Rattle.operator.specs.Meters.{meterCount, clear, fresh, add};
+ghost use Rattle.store.specs.Lists.{Every};
+ghost use Rattle.operator.specs.Meters.{meterCount, clear};
 ghost use Rattle.operator.specs.Parts.{nextResult};
 ghost use Rattle.operator.specs.Results.{result};
 ghost use Rattle.operator.specs.Work.{Worked, close};
+ghost use Rattle.operator.specs.Loaded.{operatorOf};
+ghost use Rattle.operator.specs.Bucket.{Addable, BucketAdded};
 use clock::ReadingTime;
 use operator_meter::Meter;
 use record::Record;
 use settings::Settings;
-use store::Reading;
 
 // How many meters there are.
 pub const METERS: usize = 64;
@@ -27,14 +27,16 @@ pub const METERS: usize = 64;
 // The same as the limit of a byte that names a meter.
 pub const METER_LIMIT: u8 = METERS as u8;
 
-// The number is the id of the newest result, 0 if there is none.
+// The meters in columns, one for each of a meter's numbers; `number` is the id of the newest result, 0 if there is none.
 pub struct Operator {
-    pub meters: [Meter; METERS],
+    pub sums: [i64; METERS],
+    pub counts: [u32; METERS],
+    pub lasts: [i32; METERS],
     pub number: u64,
 }
 
 // The next meter with a result.
-pub enum NextResult {
+enum NextResult {
     At(usize),
     Nothing,
 }
@@ -57,73 +59,69 @@ fn result(kind: u8, start: ReadingTime, meter: usize, number: u32, m: Meter) -> 
 }
 
 impl Operator {
-    // The operator of an opening.
-    pub fn fresh() -> Operator
-        ensures { λ r. ⌜ r ≡ fresh ⌝ }
-    {
-        let none = Meter {
-            sum: 0,
-            count: 0,
-            last: 0,
-        };
-        Operator {
-            meters: [none; METERS],
-            number: 0,
-        }
-    }
-
     // Clears the meters; the numbering goes on.
     pub fn clear(mut self) -> Operator
-        ensures { λ r. ⌜ r ≡ clear self ⌝ }
+        ensures { λ r. ⌜ operatorOf r ≡ clear (operatorOf self) ⌝ }
     {
-        let none = Meter {
-            sum: 0,
-            count: 0,
-            last: 0,
-        };
-        self.meters = [none; METERS];
+        self.sums = [0i64; METERS];
+        self.counts = [0u32; METERS];
+        self.lasts = [0i32; METERS];
         self
     }
 
-    // Adds a reading; a value outside low to high is dropped.
-    pub fn add(mut self, s: Settings, r: Reading) -> Operator
-        requires { ⌜ (r .meter < meterCount) × (allOf meterOk (self .meters) ≡ true) ⌝ }
-        ensures { λ q. ⌜ q ≡ add s self r ⌝ }
+    // Adds bucket j's readings, in one pass over the shares, of which line i + 1 keeps kept[i]. A value outside low to high is dropped;
+    // any other becomes its meter's last, unless the pass has met a newer reading of that meter.
+    pub fn add(
+        mut self,
+        s: Settings,
+        kept: [u32; store::LINES],
+        times: &[u32],
+        values: &[i32],
+        meters: &[u8],
+        j: u32,
+    ) -> Operator
+        requires { ⌜ (s .lines ≤ maxLines) ×
+            Addable s (take (s .lines) kept) (now times) (now values) (now meters) (operatorOf self) ⌝ }
+        ensures { λ r. ⌜ Every (λ m. InRange (m .sum) (m .count)) (operatorOf r .meters) ×
+            BucketAdded s j (take (s .lines) kept) (now (times .entry)) (now (values .entry)) (now (meters .entry)) (operatorOf self)
+            (operatorOf r) ⌝ }
     {
-        let value = r.value;
-        if operator_meter::is_counted(s, value) {
-            let i = r.meter as usize;
-            let m = self.meters[i];
-            let next = m.with_value(value, true);
-            self.meters[i] = next;
-        }
-        self
-    }
-
-    // The next meter at or above `from` with a result.
-    pub fn next_result(self, from: usize) -> NextResult
-        ensures { λ r. ⌜ r ≡ nextResult from (self .meters) ⌝ }
-    {
-        let mut i = from;
-        while i < METERS {
-            let m = self.meters[i];
-            if m.has_result() {
-                return NextResult::At(i);
+        // of each meter the newest reading's time, as it stands in a column
+        let mut newest = [0u32; METERS];
+        let mut i = 0;
+        while i < s.lines as usize {
+            let mut at = i * store::READINGS_PER_LINE;
+            let end = at + kept[i] as usize;
+            while at < end {
+                let time = times[at];
+                let value = values[at];
+                if store_places::is_in(s.bucket, j, ReadingTime(time))
+                    & operator_meter::is_counted(s, value)
+                {
+                    let m = meters[at] as usize;
+                    let sum = self.sums[m] + (value as i64);
+                    self.sums[m] = sum;
+                    self.counts[m] = self.counts[m] + 1;
+                    if newest[m] <= time {
+                        self.lasts[m] = value;
+                        newest[m] = time;
+                    }
+                }
+                at += 1;
             }
             i += 1;
         }
-        NextResult::Nothing
+        self
     }
 
     // How many results a window closed now would give.
     pub fn results_ahead(self) -> u64
-        ensures { λ r. ⌜ ((s : Limits) → (kind : ℕ) → (j : ℕ) → r ≡ length (close s kind j self .records)) ⌝ }
+        ensures { λ r. ⌜ ((s : Limits) → (kind : ℕ) → (j : ℕ) → r ≡ length (close s kind j (operatorOf self) .records)) ⌝ }
     {
         let mut n = 0;
         let mut i = 0;
         while i < METERS {
-            let m = self.meters[i];
-            if m.has_result() {
+            if 0 < self.counts[i] {
                 n += 1;
             }
             i += 1;
@@ -131,14 +129,27 @@ impl Operator {
         n
     }
 
+    // The next meter at or above `from` with a result.
+    fn next_result(self, mut from: usize) -> NextResult
+        ensures { λ r. ⌜ r ≡ nextResult from (operatorOf self .meters) ⌝ }
+    {
+        while from < METERS {
+            if 0 < self.counts[from] {
+                return NextResult::At(from);
+            }
+            from += 1;
+        }
+        NextResult::Nothing
+    }
+
     // Closes the window that bucket j ends: lays its results down from the area's first byte on, numbers on behind them, clears the meters.
     // How many results there are is the difference of the numberings.
     pub fn close(mut self, s: Settings, kind: u8, j: u32, area: &mut [u8]) -> Operator
         requires { ⌜ (meterCount * recordBytes ≤ length (now area)) × (windowStart (s .bucket) (s .window) j < 2 ^ 32) ×
-            (self .number + meterCount < 2 ^ 32) × Every (λ m. InRange (m .sum) (m .count)) (self .meters) ⌝ }
+            (self .number + meterCount < 2 ^ 32) × Every (λ m. InRange (m .sum) (m .count)) (operatorOf self .meters) ⌝ }
         ensures { λ r.
-            let done : Worked = close s kind j self in
-            ⌜ (r ≡ done .operator) × (now (area .exit) ≡ inFront (allBytes (done .records)) (now (area .entry))) ⌝ }
+            let done : Worked = close s kind j (operatorOf self) in
+            ⌜ (operatorOf r ≡ done .operator) × (now (area .exit) ≡ inFront (allBytes (done .records)) (now (area .entry))) ⌝ }
     {
         let start = ReadingTime(clock::window_start(s.bucket, s.window, j) as u32);
         let mut number = self.number;
@@ -146,7 +157,13 @@ impl Operator {
         let mut from = 0;
         while let NextResult::At(i) = self.next_result(from) {
             number += 1;
-            let m = self.meters[i];
+            let sum = self.sums[i];
+            let last = self.lasts[i];
+            let m = Meter {
+                sum: sum,
+                count: self.counts[i],
+                last: last,
+            };
             let r = result(kind, start, i, number as u32, m);
             record::put_record(&mut area[at..], r);
             at += record::RECORD_BYTES;
@@ -154,20 +171,5 @@ impl Operator {
         }
         self.number = number;
         self.clear()
-    }
-
-    // Whether every meter is within its bounds.
-    pub fn is_within_bounds(self) -> bool
-        ensures { λ r. ⌜ r ≡ allOf meterOk (self .meters) ⌝ }
-    {
-        let mut i = 0;
-        while i < METERS {
-            let m = self.meters[i];
-            if !m.is_within_bounds() {
-                return false;
-            }
-            i += 1;
-        }
-        true
     }
 }

@@ -2,3 +2,4 @@
 pub mod Counted
 pub mod Sums
 pub mod Bounds
+pub mod Results

@@ -15,10 +15,6 @@ noMeter = record { sum = pos 0; count = 0; last = pos 0 }
 unfoldable pub withValue : ℤ → Meter → Meter
 withValue v m = record { sum = m .sum +ℤ v; count = m .count + 1; last = v }
 
--- the same where a newer value is there already
-unfoldable pub withOlderValue : ℤ → Meter → Meter
-withOlderValue v m = record { sum = m .sum +ℤ v; count = m .count + 1; last = m .last }
-
 -- a value that the operator does not drop
 unfoldable pub isCounted : Settings → ℤ → Bool
 isCounted s v = leZ (s .low) v && leZ v (s .high)

@@ -6,7 +6,7 @@ use mathlib.Core.Bool.{Bool, true, false, cond}
 use mathlib.Core.Logic.{_⊎_, inl, inr}
 use mathlib.Core.List.{List}
 use native.Mathlib.Omega.{arith}
-use Rattle.node.specs.declared.State.{State}
+use Rattle.node.specs.Held.{Held}
 use Rattle.node.specs.View.{Lent}
 use Rattle.playback_cursor.specs.declared.Cursor.{Cursor}
 use Rattle.playback.specs.Run.{Standing, standing, Turn, Turns, PlayedOut}
@@ -82,7 +82,7 @@ counted-more {t = t} {left = left} k u some e {less} l =
     }
 
 pub played-out :
-    {mixed acknowledging : Bool} {s : Standing} {st : State} {x : Lent} {area buf out : List ℕ} {c : Cursor} {left : ℕ} →
+    {mixed acknowledging : Bool} {s : Standing} {st : Held} {x : Lent} {area buf out : List ℕ} {c : Cursor} {left : ℕ} →
     Counted mixed acknowledging s (standing st x area buf out c) left → left ≤ 0 →
     PlayedOut mixed acknowledging s st x area buf out
 played-out {c = c} {left = left} k none =

@@ -6,6 +6,9 @@ use native.Mathlib.Omega.{arith}
 use lib.ListN.{length, drop, length-append}
 use borrow.Rule.Slice.PartMut.{putMid, same-len-mid}
 use Rattle.area.specs.Laid.{inFront}
+use Rattle.node.specs.declared.State.{State}
+use Rattle.node.specs.Held.{Arrays, held}
+use Rattle.node.specs.View.{Lent}
 use Rattle.node.specs.Opening.{Opened}
 use Rattle.playback_reply.specs.Reply.{answerLine, openingText}
 use Rattle.playback_reply.specs.Put.{PutInFront}
@@ -36,11 +39,12 @@ ready-replied c buf out text e lies used m reply count laid kept =
 
 -- what an opening leaves, and its answer line laid down
 pub opening-laid :
-    {made q : Opened} → made ≡ q → (before last : List ℕ) (used : ℕ) →
-    PutInFront before (answerLine (made .answer) 0 (made .state .settings .lines) (made .state .phase)) used last →
-    Answered q before (record { state = made .state; used = used }) (made .lent) last
+    (st : State) (arrays : Arrays) (lent : Lent) (answer : ℕ) {q : Opened} →
+    record { answer = answer; state = held st arrays; lent = lent } ≡ q → (before last : List ℕ) (used : ℕ) →
+    PutInFront before (answerLine answer 0 (st .settings .lines) (st .phase)) used last →
+    Answered q before (record { state = st; used = used }) arrays lent last
 unfolding openingText
-opening-laid same before last used laidDown =
+opening-laid st arrays lent answer same before last used laidDown =
     record {
       state = ap (λ (c : Opened). c .state) same;
       lent = ap (λ (c : Opened). c .lent) same;

@@ -9,6 +9,7 @@ use Rattle.commands.specs.declared.Command.the-variants as Command
 use Rattle.commands.specs.ReadLine.{commandOf}
 use Rattle.settings.specs.Limits.{maxDisplays}
 use Rattle.node.specs.declared.State.{State}
+use Rattle.node.specs.Held.{Held, Arrays, held}
 use Rattle.node.specs.View.{Lent}
 use Rattle.node.specs.Calls.{Called, calledOn}
 use Rattle.node.specs.Displays.{acknowledgedOn}
@@ -40,7 +41,7 @@ reached-on {b} f g =
 
 -- ---- the call that a text makes
 
-abbrev boxWith : State → Lent → Box
+abbrev boxWith : Held → Lent → Box
 boxWith st x = record { state = st; lent = x }
 
 abbrev boxAfter : Called → Box
@@ -108,24 +109,27 @@ turns-reached {mixed} {acknowledging} (Turns.turn {t = t} {u = u} f p e) =
 
 -- from the opening on
 pub finished :
-    {mixed acknowledging : Bool} {buf out : List ℕ} {r : Started} {held answered : List ℕ} {y : Lent} {st : State} {z : Lent}
-    {area bytes rest written : List ℕ} →
-    Begun buf out zeroedStores r held answered y →
-    PlayedOut mixed acknowledging (standing (r .state) y area held answered (r .cursor)) st z bytes rest written →
+    {mixed acknowledging : Bool} {buf out : List ℕ} {r : Started} {buffered answered : List ℕ} {cleared : Arrays} {y : Lent} {z : Lent}
+    {area bytes rest written : List ℕ} (st : State) (arrays : Arrays) →
+    Begun buf out zeroedStores r buffered answered cleared y →
+    PlayedOut mixed acknowledging (standing (held (r .state) cleared) y area buffered answered (r .cursor)) (held st arrays) z bytes rest
+    written →
     Finished mixed acknowledging st
 unfolding boxOf opening handedWith
-finished {buf = buf} {out = out} {r = r} {held = held} {answered = answered} {y = y} {z = z} {area = area} {bytes = bytes} {rest = rest}
-    {written = written} b p =
+finished {buf = buf} {out = out} {r = r} {buffered = buffered} {answered = answered} {cleared = cleared} {y = y} {z = z}
+    {area = area} {bytes = bytes} {rest = rest} {written = written} st arrays b p =
     let f = turns-reached (p .turns) in
     record {
       buf = buf;
       out = out;
       started = r;
-      held = held;
+      buffered = buffered;
       answered = answered;
+      cleared = cleared;
       opened = y;
       begins = b;
       area = area;
+      arrays = arrays;
       after = z;
       bytes = bytes;
       rest = rest;

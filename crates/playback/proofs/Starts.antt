@@ -13,7 +13,7 @@ use borrow.Rule.Slice.PartMut.{putMid}
 use Rattle.area.specs.Laid.{inFront}
 use Rattle.area.proofs.Lent.{lent-inFront}
 use Rattle.store.proofs.Choices.{not-both, true-unless}
-use Rattle.node.specs.declared.State.{State}
+use Rattle.node.specs.Held.{Held, Arrays}
 use Rattle.node.specs.View.{Lent}
 use Rattle.node.specs.Opening.{Opened, closedState, openedOn}
 use Rattle.playback_reply.specs.Reply.{openingText, longestReply}
@@ -54,25 +54,26 @@ front-laid out bytes at e = rw (e, zero-add (length bytes))
 pub begun :
     (buf out : List ℕ) (x : Lent) (begin : Cursor) → begin ≡ allRead 0 false false false →
     (first : Cursor) (held : List ℕ) → Fetched false begin buf first held (length out) →
-    (closed : State) → closed ≡ closedState →
+    (closed : Held) → closed ≡ closedState →
     (text : List ℕ) → text ≡ textAt held first →
-    (p : Played) (y : Lent) (m : List ℕ) → Answered (openedOn closed x text) (part out (first .used) (length out)) p y m →
+    (p : Played) (arrays : Arrays) (y : Lent) (m : List ℕ) →
+    Answered (openedOn closed x text) (part out (first .used) (length out)) p arrays y m →
     length (putMid (first .used) (length out - first .used) out m) ≡ length out →
     (next : Cursor) (after : List ℕ) →
     Followed (lastIf (eqb (p .state .settings .lines) 0) first) (length text) (p .used) held next after
     (length (putMid (first .used) (length out - first .used) out m)) →
-    Begun buf out x (record { state = p .state; cursor = next }) after (putMid (first .used) (length out - first .used) out m) y
-begun buf out x begin b first held f closed z text t p y m e same next after o =
+    Begun buf out x (record { state = p .state; cursor = next }) after (putMid (first .used) (length out - first .used) out m) arrays y
+begun buf out x begin b first held f closed z text t p arrays y m e same next after o =
     let found : Fetched false (allRead 0 false false false) buf first held (length out) =
     subst (λ (c : Cursor). Fetched false c buf first held (length out)) b f in
     let made : openedOn closed x text ≡ openedOn closedState x (textAt held first) =
-    ap (λ (s : State). openedOn s x text) z ∙ ap (openedOn closedState x) t in
+    ap (λ (s : Held). openedOn s x text) z ∙ ap (openedOn closedState x) t in
     let size : p .used ≡ length (openingText (openedOn closedState x (textAt held first))) =
     e .used ∙ ap (λ (q : Opened). length (openingText q)) made in
     let last : Cursor = lastIf (eqb (p .state .settings .lines) 0) first in
     record {
       first = first;
-      held = held;
+      buffered = held;
       fetched = found;
       plays = first-plays buf first held (length out) found;
       state = e .state ∙ ap (λ (q : Opened). q .state) made;

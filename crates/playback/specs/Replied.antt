@@ -4,22 +4,23 @@ use mathlib.Core.Path.{_≡_}
 use mathlib.Core.List.{List}
 use lib.ListN.{length}
 use Rattle.area.specs.Laid.{inFront}
+use Rattle.node.specs.Held.{Arrays, held}
 use Rattle.node.specs.View.{Lent}
 use Rattle.node.specs.Opening.{Opened}
 use Rattle.node.specs.Calls.{Called}
 use Rattle.playback_reply.specs.Reply.{openingText, replyText}
 use Rattle.playback.specs.declared.Played.{Played}
 
--- the opening, the output before it, and what is left: stores and output
-pub record Answered (q : Opened) (out : List ℕ) (r : Played) (x : Lent) (out′ : List ℕ) : Type 0 where
-  pub state : r .state ≡ q .state
+-- the opening, the output before it, and what is left: arrays, stores and output
+pub record Answered (q : Opened) (out : List ℕ) (r : Played) (arrays : Arrays) (x : Lent) (out′ : List ℕ) : Type 0 where
+  pub state : held (r .state) arrays ≡ q .state
   pub lent : x ≡ q .lent
   pub used : r .used ≡ length (openingText q)
   pub text : out′ ≡ inFront (openingText q) out
 
--- the call, the output before it, and what is left: stores, area and output
-pub record Replied (q : Called) (out : List ℕ) (r : Played) (x : Lent) (bytes out′ : List ℕ) : Type 0 where
-  pub state : r .state ≡ q .state
+-- the call, the output before it, and what is left: arrays, stores, area and output
+pub record Replied (q : Called) (out : List ℕ) (r : Played) (arrays : Arrays) (x : Lent) (bytes out′ : List ℕ) : Type 0 where
+  pub state : held (r .state) arrays ≡ q .state
   pub lent : x ≡ q .lent
   pub area : bytes ≡ q .area
   pub used : r .used ≡ length (replyText q)

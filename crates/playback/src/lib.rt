@@ -5,8 +5,9 @@ ghost use mathlib.Core.Bool.{cond};
 ghost use Prim.Native.Nat.{ℕ, _-_, _≤_, _<_};
 ghost use lib.ListN.{length};
 ghost use Rattle.store.specs.Columns.{columnsOf};
+ghost use Rattle.node.specs.Held.{Arrays, arraysOf, held};
 ghost use Rattle.node.specs.View.{Lent, lentOf};
-ghost use Rattle.node.specs.Opening.{openedOn};
+ghost use Rattle.node.specs.Opening.{Cleared, openedOn};
 ghost use Rattle.playback_reply.specs.Reply.{longestAnswer, longestReply};
 ghost use Rattle.playback_cursor.specs.Cut.{Lies, textAt};
 ghost use Rattle.playback.specs.Start.{Begun};
@@ -15,7 +16,10 @@ ghost use Rattle.playback_dispatch.specs.Dispatch.{dispatched};
 ghost use Rattle.playback.specs.Replied.{Answered, Replied};
 ghost use Rattle.playback.specs.Turn.{Turned};
 ghost use Rattle.playback.specs.Run.{Standing, standing, PlayedOut, Finished};
+use node::ALL_HEADS;
 use node::State;
+use operator::METERS;
+use operator_rows::ROWS;
 use playback_cursor::Cursor;
 
 // A state, and how many bytes of the output are used.
@@ -27,6 +31,10 @@ pub struct Played {
 // Opens with this settings text and writes what is printed for it from the first place of `out` on.
 fn play_settings(
     state: State,
+    counts: &mut [[u32; METERS]; ROWS],
+    sums: &mut [[i64; METERS]; ROWS],
+    lasts: &mut [[i32; METERS]; ROWS],
+    heads: &mut [u32; ALL_HEADS],
     ids: &mut [u32],
     times: &mut [u32],
     values: &mut [i32],
@@ -39,6 +47,8 @@ fn play_settings(
 ) -> Played
     requires { ⌜ longestAnswer ≤ length (now out) ⌝ }
     ensures { λ r.
+        let arrays : Arrays = arraysOf (now (counts .entry)) (now (sums .entry)) (now (lasts .entry)) (now (heads .entry)) in
+        let arrays′ : Arrays = arraysOf (now (counts .exit)) (now (sums .exit)) (now (lasts .exit)) (now (heads .exit)) in
         let before : Lent =
         lentOf
         (columnsOf (now (ids .entry)) (now (times .entry)) (now (values .entry)) (now (arrivals .entry)) (now (kinds .entry))
@@ -49,10 +59,14 @@ fn play_settings(
         (columnsOf (now (ids .exit)) (now (times .exit)) (now (values .exit)) (now (arrivals .exit)) (now (kinds .exit))
         (now (meters .exit)))
         (now (sent .exit)) in
-        ⌜ Answered (openedOn state before (now (text .entry))) (now (out .entry)) r after (now (out .exit)) ⌝ }
+        ⌜ Answered (openedOn (held state arrays) before (now (text .entry))) (now (out .entry)) r arrays′ after (now (out .exit)) ⌝ }
 {
     let done = call_opening::open(
         state,
+        counts,
+        sums,
+        lasts,
+        heads,
         ids,
         times,
         values,
@@ -80,6 +94,10 @@ pub struct Started {
 
 // Plays the settings on the state before the first opening, and goes on to the first journal line; where they are refused, to the end.
 fn start(
+    counts: &mut [[u32; METERS]; ROWS],
+    sums: &mut [[i64; METERS]; ROWS],
+    lasts: &mut [[i32; METERS]; ROWS],
+    heads: &mut [u32; ALL_HEADS],
     ids: &mut [u32],
     times: &mut [u32],
     values: &mut [i32],
@@ -90,8 +108,10 @@ fn start(
     buf: &mut [u8],
     out: &mut [u8],
 ) -> Started
-    requires { ⌜ longestReply ≤ length (now out) ⌝ }
+    requires { let arrays : Arrays = arraysOf (now counts) (now sums) (now lasts) (now heads) in
+        ⌜ (longestReply ≤ length (now out)) × Cleared arrays ⌝ }
     ensures { λ r.
+        let arrays′ : Arrays = arraysOf (now (counts .exit)) (now (sums .exit)) (now (lasts .exit)) (now (heads .exit)) in
         let before : Lent =
         lentOf
         (columnsOf (now (ids .entry)) (now (times .entry)) (now (values .entry)) (now (arrivals .entry)) (now (kinds .entry))
@@ -102,7 +122,7 @@ fn start(
         (columnsOf (now (ids .exit)) (now (times .exit)) (now (values .exit)) (now (arrivals .exit)) (now (kinds .exit))
         (now (meters .exit)))
         (now (sent .exit)) in
-        ⌜ Begun (now (buf .entry)) (now (out .entry)) before r (now (buf .exit)) (now (out .exit)) after ⌝ }
+        ⌜ Begun (now (buf .entry)) (now (out .entry)) before r (now (buf .exit)) (now (out .exit)) arrays′ after ⌝ }
 {
     let begin = playback_cursor::begin();
     let mut cursor = playback_cursor::fetch(begin, false, buf, out);
@@ -114,6 +134,10 @@ fn start(
     let length = text.len();
     let opened = play_settings(
         closed,
+        counts,
+        sums,
+        lasts,
+        heads,
         ids,
         times,
         values,
@@ -139,6 +163,10 @@ fn play_line(
     mixed: bool,
     acknowledging: bool,
     state: State,
+    counts: &mut [[u32; METERS]; ROWS],
+    sums: &mut [[i64; METERS]; ROWS],
+    lasts: &mut [[i32; METERS]; ROWS],
+    heads: &mut [u32; ALL_HEADS],
     ids: &mut [u32],
     times: &mut [u32],
     values: &mut [i32],
@@ -152,6 +180,8 @@ fn play_line(
 ) -> Played
     requires { ⌜ longestReply ≤ length (now out) ⌝ }
     ensures { λ r.
+        let arrays : Arrays = arraysOf (now (counts .entry)) (now (sums .entry)) (now (lasts .entry)) (now (heads .entry)) in
+        let arrays′ : Arrays = arraysOf (now (counts .exit)) (now (sums .exit)) (now (lasts .exit)) (now (heads .exit)) in
         let before : Lent =
         lentOf
         (columnsOf (now (ids .entry)) (now (times .entry)) (now (values .entry)) (now (arrivals .entry)) (now (kinds .entry))
@@ -162,13 +192,17 @@ fn play_line(
         (columnsOf (now (ids .exit)) (now (times .exit)) (now (values .exit)) (now (arrivals .exit)) (now (kinds .exit))
         (now (meters .exit)))
         (now (sent .exit)) in
-        let call : Called = dispatched mixed acknowledging state before (now (text .entry)) (now (area .entry)) in
-        ⌜ Replied call (now (out .entry)) r after (now (area .exit)) (now (out .exit)) ⌝ }
+        let call : Called = dispatched mixed acknowledging (held state arrays) before (now (text .entry)) (now (area .entry)) in
+        ⌜ Replied call (now (out .entry)) r arrays′ after (now (area .exit)) (now (out .exit)) ⌝ }
 {
     let done = playback_dispatch::make_call(
         mixed,
         acknowledging,
         state,
+        counts,
+        sums,
+        lasts,
+        heads,
         ids,
         times,
         values,
@@ -201,6 +235,10 @@ fn play_turn(
     mixed: bool,
     acknowledging: bool,
     state: State,
+    counts: &mut [[u32; METERS]; ROWS],
+    sums: &mut [[i64; METERS]; ROWS],
+    lasts: &mut [[i32; METERS]; ROWS],
+    heads: &mut [u32; ALL_HEADS],
     ids: &mut [u32],
     times: &mut [u32],
     values: &mut [i32],
@@ -215,6 +253,8 @@ fn play_turn(
 ) -> Started
     requires { ⌜ Lies (now buf) (length (now out)) cursor ⌝ }
     ensures { λ r.
+        let arrays : Arrays = arraysOf (now (counts .entry)) (now (sums .entry)) (now (lasts .entry)) (now (heads .entry)) in
+        let arrays′ : Arrays = arraysOf (now (counts .exit)) (now (sums .exit)) (now (lasts .exit)) (now (heads .exit)) in
         let before : Lent =
         lentOf
         (columnsOf (now (ids .entry)) (now (times .entry)) (now (values .entry)) (now (arrivals .entry)) (now (kinds .entry))
@@ -226,8 +266,9 @@ fn play_turn(
         (now (meters .exit)))
         (now (sent .exit)) in
         let text : List ℕ = textAt (now (buf .entry)) cursor in
-        let call : Called = dispatched mixed acknowledging state before text (now (area .entry)) in
-        ⌜ Turned call cursor (now (buf .entry)) (now (out .entry)) r after (now (area .exit)) (now (buf .exit)) (now (out .exit)) ⌝ }
+        let call : Called = dispatched mixed acknowledging (held state arrays) before text (now (area .entry)) in
+        ⌜ Turned call cursor (now (buf .entry)) (now (out .entry)) (held (r .state) arrays′) (r .cursor) after (now (area .exit))
+        (now (buf .exit)) (now (out .exit)) ⌝ }
 {
     let at = cursor.at;
     let whole = cursor.whole;
@@ -238,6 +279,10 @@ fn play_turn(
         mixed,
         acknowledging,
         state,
+        counts,
+        sums,
+        lasts,
+        heads,
         ids,
         times,
         values,
@@ -270,6 +315,10 @@ fn play_lines(
     mixed: bool,
     acknowledging: bool,
     mut state: State,
+    counts: &mut [[u32; METERS]; ROWS],
+    sums: &mut [[i64; METERS]; ROWS],
+    lasts: &mut [[i32; METERS]; ROWS],
+    heads: &mut [u32; ALL_HEADS],
     ids: &mut [u32],
     times: &mut [u32],
     values: &mut [i32],
@@ -284,6 +333,8 @@ fn play_lines(
 ) -> State
     requires { ⌜ Lies (now buf) (length (now out)) cursor ⌝ }
     ensures { λ r.
+        let arrays : Arrays = arraysOf (now (counts .entry)) (now (sums .entry)) (now (lasts .entry)) (now (heads .entry)) in
+        let arrays′ : Arrays = arraysOf (now (counts .exit)) (now (sums .exit)) (now (lasts .exit)) (now (heads .exit)) in
         let before : Lent =
         lentOf
         (columnsOf (now (ids .entry)) (now (times .entry)) (now (values .entry)) (now (arrivals .entry)) (now (kinds .entry))
@@ -294,8 +345,9 @@ fn play_lines(
         (columnsOf (now (ids .exit)) (now (times .exit)) (now (values .exit)) (now (arrivals .exit)) (now (kinds .exit))
         (now (meters .exit)))
         (now (sent .exit)) in
-        let from : Standing = standing state before (now (area .entry)) (now (buf .entry)) (now (out .entry)) cursor in
-        ⌜ PlayedOut mixed acknowledging from r after (now (area .exit)) (now (buf .exit)) (now (out .exit)) ⌝ }
+        let from : Standing =
+        standing (held state arrays) before (now (area .entry)) (now (buf .entry)) (now (out .entry)) cursor in
+        ⌜ PlayedOut mixed acknowledging from (held r arrays′) after (now (area .exit)) (now (buf .exit)) (now (out .exit)) ⌝ }
 {
     let mut turns = turns_left(cursor.plays, u64::MAX);
     while turns > 0 {
@@ -303,6 +355,10 @@ fn play_lines(
             mixed,
             acknowledging,
             state,
+            counts,
+            sums,
+            lasts,
+            heads,
             ids,
             times,
             values,
@@ -328,6 +384,10 @@ fn play_lines(
 pub fn run(mixed: bool, acknowledging: bool) -> State
     ensures { λ r. ⌜ Finished mixed acknowledging r ⌝ }
 {
+    let mut counts = [[0u32; METERS]; ROWS];
+    let mut sums = [[0i64; METERS]; ROWS];
+    let mut lasts = [[0i32; METERS]; ROWS];
+    let mut heads = [0u32; ALL_HEADS];
     let mut ids = [0u32; store::MOST_PLACES];
     let mut times = [0u32; store::MOST_PLACES];
     let mut values = [0i32; store::MOST_PLACES];
@@ -339,6 +399,10 @@ pub fn run(mixed: bool, acknowledging: bool) -> State
     let mut buf = io::large_buffer();
     let mut out = io::large_buffer();
     let started = start(
+        &mut counts,
+        &mut sums,
+        &mut lasts,
+        &mut heads,
         &mut ids,
         &mut times,
         &mut values,
@@ -353,6 +417,10 @@ pub fn run(mixed: bool, acknowledging: bool) -> State
         mixed,
         acknowledging,
         started.state,
+        &mut counts,
+        &mut sums,
+        &mut lasts,
+        &mut heads,
         &mut ids,
         &mut times,
         &mut values,

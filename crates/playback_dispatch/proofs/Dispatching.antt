@@ -5,17 +5,17 @@ use mathlib.Core.Bool.{Bool, true, false}
 use mathlib.Core.List.{List}
 use Rattle.commands.specs.declared.Command.the-variants as Command
 use Rattle.commands.specs.ReadLine.{commandOf}
-use Rattle.node.specs.declared.State.{State}
+use Rattle.node.specs.Held.{Held}
 use Rattle.node.specs.View.{Lent}
 use Rattle.node.specs.Calls.{calledOn}
 use Rattle.node.specs.Displays.{acknowledgedOn, fetchedOn}
 use Rattle.playback_dispatch.specs.Dispatch.{followed, commanded, dispatched}
 
-pub plainly : (st : State) (x : Lent) (text area : List ℕ) → dispatched false false st x text area ≡ calledOn st x text area
+pub plainly : (st : Held) (x : Lent) (text area : List ℕ) → dispatched false false st x text area ≡ calledOn st x text area
 unfolding dispatched followed
 plainly st x text area = refl
 
-module _ (mixed acknowledging : Bool) (st : State) (x : Lent) (text area : List ℕ) where
+module _ (mixed acknowledging : Bool) (st : Held) (x : Lent) (text area : List ℕ) where
   pub as-journal-call : mixed ≡ false → followed acknowledging st x text area ≡ dispatched mixed acknowledging st x text area
   unfolding dispatched
   as-journal-call off = rw off

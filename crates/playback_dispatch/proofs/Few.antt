@@ -13,7 +13,7 @@ use Rattle.commands.specs.ReadLine.{commandOf}
 use Rattle.settings.specs.Limits.{maxDisplays}
 use Rattle.operator.specs.Meters.{meterCount}
 use Rattle.protocol.specs.Displays.{fetchCount}
-use Rattle.node.specs.declared.State.{State}
+use Rattle.node.specs.Held.{Held}
 use Rattle.node.specs.View.{Lent}
 use Rattle.node.specs.Calls.{Called, calledOn}
 use Rattle.node.specs.Displays.{acknowledgedOn, fetchedOn}
@@ -35,7 +35,7 @@ caught-up-few area (suc n) q few =
       | false ↦ now
     ]
 
-module _ (st : State) (x : Lent) (area : List ℕ) where
+module _ (st : Held) (x : Lent) (area : List ℕ) where
   acknowledgement-few : (display id : ℕ) → Fewest area (acknowledgedOn st x display id area)
   acknowledgement-few display id =
       let q = acknowledgedOn st x display id area in

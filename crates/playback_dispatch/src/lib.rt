@@ -1,17 +1,26 @@
 // The call that a text makes.
 ghost use mathlib.Core.Path.{_≡_};
+ghost use mathlib.Core.List.{List};
+ghost use lib.IntN.{ℤ};
 ghost use Rattle.settings.specs.Limits.{maxDisplays};
 ghost use Rattle.store.specs.Columns.{columnsOf};
+ghost use Rattle.node.specs.Held.{Arrays, arraysOf, held};
 ghost use Rattle.node.specs.View.{Lent, lentOf};
 ghost use Rattle.node.specs.Calls.{calledOf};
 ghost use Rattle.playback_dispatch.specs.Dispatch.{allCaughtUp, followed, dispatched};
 use commands::Command;
+use node::ALL_HEADS;
 use node::CallReply;
 use node::State;
+use operator::METERS;
+use operator_rows::ROWS;
 
 // After a call, every display that has not acknowledged the newest stable result does so.
 fn catch_up(
     mut reply: CallReply,
+    counts: &[[u32; METERS]; ROWS],
+    sums: &[[i64; METERS]; ROWS],
+    heads: &[u32; ALL_HEADS],
     ids: &[u32],
     times: &[u32],
     values: &[i32],
@@ -24,19 +33,23 @@ fn catch_up(
     ensures { λ r.
         let readings = columnsOf (now (ids .entry)) (now (times .entry)) (now (values .entry))
         (now (arrivals .entry)) (now (kinds .entry)) (now (meters .entry)) in
-        ⌜ calledOf r (lentOf readings (now (sent .exit))) (now (area .entry)) ≡
-        allCaughtUp maxDisplays (calledOf reply (lentOf readings (now (sent .entry))) (now (area .entry))) ⌝ }
+        ⌜ ((lasts : List (List ℤ)) →
+        (let arrays : Arrays = arraysOf (now (counts .entry)) (now (sums .entry)) lasts (now (heads .entry)) in
+        calledOf r arrays (lentOf readings (now (sent .exit))) (now (area .entry)) ≡
+        allCaughtUp maxDisplays (calledOf reply arrays (lentOf readings (now (sent .entry))) (now (area .entry))))) ⌝ }
 {
     let mut display = 0;
     while display < settings::MAX_DISPLAYS {
         let state = reply.state;
         let settings = state.settings;
-        let checkpoint = state.checkpoint;
-        let newest = checkpoint.number;
+        let newest = state.last_stable;
         let acknowledged = state.acknowledged;
         if (display < settings.displays) & (acknowledged[display as usize] < newest) {
             let left = call_displays::acknowledge(
                 state,
+                counts,
+                sums,
+                heads,
                 ids,
                 times,
                 values,
@@ -60,6 +73,10 @@ fn catch_up(
 fn call_journal(
     acknowledging: bool,
     state: State,
+    counts: &mut [[u32; METERS]; ROWS],
+    sums: &mut [[i64; METERS]; ROWS],
+    lasts: &mut [[i32; METERS]; ROWS],
+    heads: &mut [u32; ALL_HEADS],
     ids: &mut [u32],
     times: &mut [u32],
     values: &mut [i32],
@@ -71,6 +88,8 @@ fn call_journal(
     area: &mut [u8],
 ) -> CallReply
     ensures { λ r.
+        let arrays : Arrays = arraysOf (now (counts .entry)) (now (sums .entry)) (now (lasts .entry)) (now (heads .entry)) in
+        let arrays′ : Arrays = arraysOf (now (counts .exit)) (now (sums .exit)) (now (lasts .exit)) (now (heads .exit)) in
         let before : Lent =
         lentOf
         (columnsOf (now (ids .entry)) (now (times .entry)) (now (values .entry)) (now (arrivals .entry)) (now (kinds .entry))
@@ -81,10 +100,15 @@ fn call_journal(
         (columnsOf (now (ids .exit)) (now (times .exit)) (now (values .exit)) (now (arrivals .exit)) (now (kinds .exit))
         (now (meters .exit)))
         (now (sent .exit)) in
-        ⌜ calledOf r after (now (area .exit)) ≡ followed acknowledging state before (now (text .entry)) (now (area .entry)) ⌝ }
+        ⌜ calledOf r arrays′ after (now (area .exit)) ≡
+        followed acknowledging (held state arrays) before (now (text .entry)) (now (area .entry)) ⌝ }
 {
     let done = call::call(
         state,
+        counts,
+        sums,
+        lasts,
+        heads,
         ids,
         times,
         values,
@@ -98,6 +122,9 @@ fn call_journal(
     if acknowledging {
         return catch_up(
             done,
+            counts,
+            sums,
+            heads,
             ids,
             times,
             values,
@@ -116,6 +143,10 @@ pub fn make_call(
     mixed: bool,
     acknowledging: bool,
     state: State,
+    counts: &mut [[u32; METERS]; ROWS],
+    sums: &mut [[i64; METERS]; ROWS],
+    lasts: &mut [[i32; METERS]; ROWS],
+    heads: &mut [u32; ALL_HEADS],
     ids: &mut [u32],
     times: &mut [u32],
     values: &mut [i32],
@@ -127,6 +158,8 @@ pub fn make_call(
     area: &mut [u8],
 ) -> CallReply
     ensures { λ r.
+        let arrays : Arrays = arraysOf (now (counts .entry)) (now (sums .entry)) (now (lasts .entry)) (now (heads .entry)) in
+        let arrays′ : Arrays = arraysOf (now (counts .exit)) (now (sums .exit)) (now (lasts .exit)) (now (heads .exit)) in
         let before : Lent =
         lentOf
         (columnsOf (now (ids .entry)) (now (times .entry)) (now (values .entry)) (now (arrivals .entry)) (now (kinds .entry))
@@ -137,14 +170,17 @@ pub fn make_call(
         (columnsOf (now (ids .exit)) (now (times .exit)) (now (values .exit)) (now (arrivals .exit)) (now (kinds .exit))
         (now (meters .exit)))
         (now (sent .exit)) in
-        ⌜ calledOf r after (now (area .exit)) ≡
-        dispatched mixed acknowledging state before (now (text .entry)) (now (area .entry)) ⌝ }
+        ⌜ calledOf r arrays′ after (now (area .exit)) ≡
+        dispatched mixed acknowledging (held state arrays) before (now (text .entry)) (now (area .entry)) ⌝ }
 {
     if mixed {
         match commands::read_command(text) {
             Command::Acknowledge(display, id) => {
                 return call_displays::acknowledge(
                     state,
+                    counts,
+                    sums,
+                    heads,
                     ids,
                     times,
                     values,
@@ -160,6 +196,9 @@ pub fn make_call(
             Command::Fetch(display, id) => {
                 return call_displays::fetch(
                     state,
+                    counts,
+                    sums,
+                    heads,
                     ids,
                     times,
                     values,
@@ -178,6 +217,10 @@ pub fn make_call(
     call_journal(
         acknowledging,
         state,
+        counts,
+        sums,
+        lasts,
+        heads,
         ids,
         times,
         values,

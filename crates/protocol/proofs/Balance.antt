@@ -14,8 +14,7 @@ use Rattle.store.proofs.Choices.{and-parts}
 use Rattle.store.proofs.Pairs.{every-any}
 use Rattle.store.proofs.Keeping.{keep-append}
 use Rattle.store.proofs.Amounts.{totalOf}
-use Rattle.operator.specs.declared.Operator.{Operator}
-use Rattle.operator.specs.Meters.{meterCount}
+use Rattle.operator.specs.Meters.{Operator, meterCount}
 use Rattle.operator.proofs.Adding.{meterOf}
 use Rattle.operator.proofs.Measures.{Measure, reports, brought, reportedOf}
 use Rattle.protocol.specs.Node.{Line, keptOf}

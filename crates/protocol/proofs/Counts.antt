@@ -14,8 +14,7 @@ use Rattle.record.specs.declared.Record.{Record}
 use Rattle.store.specs.declared.Reading.{Reading}
 use Rattle.store.specs.Order.{Placed, inBucket}
 use Rattle.operator_meter.specs.declared.Meter.{Meter}
-use Rattle.operator.specs.declared.Operator.{Operator}
-use Rattle.operator.specs.Meters.{addAll, fresh}
+use Rattle.operator.specs.Meters.{Operator, addAll, fresh}
 use Rattle.operator_meter.specs.Values.{hasResult}
 use Rattle.operator.specs.Results.{result, results}
 use Rattle.operator.specs.Work.{Worked, windowResults, close, work}

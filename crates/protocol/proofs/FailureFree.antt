@@ -17,8 +17,7 @@ use Rattle.store.specs.declared.Reading.{Reading}
 use Rattle.store.specs.Lists.{keep, modify}
 use Rattle.store.specs.Order.{Placed, isIn, gather, inBucket}
 use Rattle.store.proofs.Maps.{onReading, inBucket-map}
-use Rattle.operator.specs.declared.Operator.{Operator}
-use Rattle.operator.specs.Meters.{add, addAll}
+use Rattle.operator.specs.Meters.{Operator, add, addAll}
 use Rattle.operator.specs.Work.{work}
 use Rattle.protocol.specs.Kinds.{Kind, kindOf, uses}
 use Rattle.protocol.specs.Node.{Line, noLine}

@@ -19,7 +19,7 @@ use Rattle.store.specs.declared.Reading.{Reading}
 use Rattle.store.specs.Lists.{modify, allOf}
 use Rattle.store.specs.Order.{Placed, sort, gather, inBucket}
 use Rattle.store.proofs.Choices.{and-parts}
-use Rattle.operator.specs.declared.Operator.{Operator}
+use Rattle.operator.specs.Meters.{Operator}
 use Rattle.operator.specs.Work.{work}
 use Rattle.protocol.specs.declared.Phase.{Phase}
 use Rattle.protocol.specs.Kinds.{Kind, kindOf, uses, isStep}

@@ -17,8 +17,7 @@ use Rattle.store.specs.Order.{Placed, inBucket}
 use Rattle.store.specs.Lists.{Every}
 use Rattle.store.proofs.Pairs.{every-to, every-append}
 use Rattle.operator_meter.specs.declared.Meter.{Meter}
-use Rattle.operator.specs.declared.Operator.{Operator}
-use Rattle.operator.specs.Meters.{addAll}
+use Rattle.operator.specs.Meters.{Operator, addAll}
 use Rattle.operator_meter.specs.Values.{hasResult}
 use Rattle.operator.specs.Results.{result, results}
 use Rattle.operator.specs.Work.{Worked, windowResults, close, work}

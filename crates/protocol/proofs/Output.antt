@@ -16,7 +16,7 @@ use Rattle.record.specs.Kinds.{isStable, isTentative, isResult}
 use Rattle.store.specs.Lists.{Every, keep}
 use Rattle.store.proofs.Pairs.{every-to, every-append}
 use Rattle.store.proofs.Keeping.{keep-append, keep-all, keep-none}
-use Rattle.operator.specs.declared.Operator.{Operator}
+use Rattle.operator.specs.Meters.{Operator}
 use Rattle.record.specs.Markers.{marker}
 use Rattle.operator.specs.Work.{Worked}
 use Rattle.protocol.specs.declared.Phase.{Phase}

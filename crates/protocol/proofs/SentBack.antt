@@ -13,8 +13,7 @@ use Rattle.settings.specs.declared.Settings.{Settings}
 use Rattle.journal.specs.declared.Call.{Call}
 use Rattle.journal.specs.Kinds.{letterS}
 use Rattle.store.specs.Lists.{Every}
-use Rattle.operator.specs.declared.Operator.{Operator}
-use Rattle.operator.specs.Meters.{fresh}
+use Rattle.operator.specs.Meters.{Operator, fresh}
 use Rattle.retransmission.specs.Sizes.{heldResults}
 use Rattle.protocol.specs.Kinds.{Kind, kindOf, uses, isStep}
 use Rattle.protocol.specs.Node.{Node, opened, isStableBucket}

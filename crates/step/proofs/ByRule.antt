@@ -10,14 +10,14 @@ use Rattle.store.specs.Columns.{Columns}
 use Rattle.protocol.specs.declared.Rule.{Rule}
 use Rattle.protocol.specs.declared.Rule.the-variants as Rule
 use Rattle.protocol.specs.Rules.{ruleOf, act}
-use Rattle.node.specs.declared.State.{State}
+use Rattle.node.specs.Held.{Held}
 use Rattle.node.specs.View.{view}
 use Rattle.node.proofs.View.{putState-view, putColumns-view}
 use Rattle.step_outcome.specs.Done.{RuleDone}
 use Rattle.step_corrections.proofs.LinesStay.{Kept, fits}
 
 -- nothing to do
-pub idle-acts : (st : State) (x : Columns) → Kept st x → (area : List ℕ) → RuleDone Rule.Idle st x area st x area 0
+pub idle-acts : (st : Held) (x : Columns) → Kept st x → (area : List ℕ) → RuleDone Rule.Idle st x area st x area 0
 unfolding act inFront allBytes
 idle-acts st x kept area =
     record {
@@ -28,18 +28,18 @@ idle-acts st x kept area =
     }
 
 -- the rule that was found at this tick, and what it is
-pub record Found (tick : ArrivalTick) (st : State) (x : Columns) (rule : Rule) : Type 0 where
+pub record Found (tick : ArrivalTick) (st : Held) (x : Columns) (rule : Rule) : Type 0 where
   pub found : Rule
   pub first : found ≡ ruleOf (st .settings) (view st x) tick
   pub told : found ≡ rule
 
 pub applies :
-    (tick : ArrivalTick) (st : State) (x : Columns) (rule : Rule) → Found tick st x rule → ruleOf (st .settings) (view st x) tick ≡ rule
+    (tick : ArrivalTick) (st : Held) (x : Columns) (rule : Rule) → Found tick st x rule → ruleOf (st .settings) (view st x) tick ≡ rule
 applies tick st x rule f = sym (f .first) ∙ f .told
 
 -- what the rule that applies does
 pub by-rule :
-    (tick : ArrivalTick) (rule : Rule) (st : State) (x : Columns) (area : List ℕ) (st′ : State) (x′ : Columns) (area′ : List ℕ)
+    (tick : ArrivalTick) (rule : Rule) (st : Held) (x : Columns) (area : List ℕ) (st′ : Held) (x′ : Columns) (area′ : List ℕ)
     (records : ℕ) → Found tick st x rule → RuleDone rule st x area st′ x′ area′ records →
     RuleDone (ruleOf (st .settings) (view st x) tick) st x area st′ x′ area′ records
 by-rule tick rule st x area st′ x′ area′ records f a = rw (applies tick st x rule f) a

@@ -1,5 +1,5 @@
--- A rule that looks at no line: heads, store and the displays' last ids stay as they were, so what it leaves of the state alone, it leaves of
--- state and store. By the laws on view and put.
+-- A rule that looks at no line: heads, store and the displays' last ids stay as they were, so what it leaves of the state alone, it leaves
+-- of state and store. By the laws on view and put.
 use Prim.Native.Nat.{ℕ, _≤_}
 use mathlib.Core.Path.{_≡_, refl, sym, _∙_, ap}
 use mathlib.Core.Bool.{true}
@@ -10,9 +10,12 @@ use Rattle.settings.specs.Limits.{maxLines, maxDisplays}
 use Rattle.record.specs.declared.Record.{Record}
 use Rattle.record.specs.Layout.{bytesOf, allBytes}
 use Rattle.store.specs.Columns.{Columns, storeLength}
+use Rattle.operator_rows.specs.Rows.{Rows, operatorRow, checkpointRow, metersIn}
+use Rattle.protocol.specs.declared.Phase.the-variants as Phase
 use Rattle.protocol.specs.declared.Rule.the-variants as Rule
 use Rattle.protocol.specs.Rules.{act}
 use Rattle.node.specs.declared.State.{State}
+use Rattle.node.specs.Held.{Held, held}
 use Rattle.node.specs.View.{places, view, headsWith, putState}
 use Rattle.node.specs.Shape.{stateInShape}
 use Rattle.node.proofs.View.{Fits, putState-view}
@@ -32,28 +35,28 @@ unfolding inFront
 none-in-front ids = refl
 
 -- a state with room for every line and every display, and a store, in shape
-pub record Kept (st : State) (x : Columns) : Type 0 where
+pub record Kept (st : Held) (x : Columns) : Type 0 where
   pub heads : length (st .heads) ≡ maxLines
   pub displays : length (st .acknowledged) ≡ maxDisplays
   pub room : places st ≤ storeLength x
   pub shape : stateInShape st x ≡ true
 
-module _ (st : State) (x : Columns) (kept : Kept st x) where
+module _ (st : Held) (x : Columns) (kept : Kept st x) where
   pub fits : Fits st x
   fits = shape-fits st x (kept .heads) (kept .displays) (kept .room) (kept .shape)
 
   -- lines that stay leave the heads as they were
   pub heads-stay : headsWith (st .heads) (view st x .lines) ≡ st .heads
   unfolding putState
-  heads-stay = ap (λ (q : State). q .heads) (putState-view st x fits)
+  heads-stay = ap (λ (q : Held). q .heads) (putState-view st x fits)
 
   -- and a rule leaves what the displays have acknowledged
   pub acknowledged-stay : inFront (view st x .acknowledged) (st .acknowledged) ≡ st .acknowledged
   unfolding putState
-  acknowledged-stay = ap (λ (q : State). q .acknowledged) (putState-view st x fits)
+  acknowledged-stay = ap (λ (q : Held). q .acknowledged) (putState-view st x fits)
 
   -- so what such a rule leaves of the state alone, it leaves of state and store
-  module _ {area area′ : List ℕ} {st′ : State} {records : ℕ} where
+  module _ {area area′ : List ℕ} {st′ : Held} {records : ℕ} where
     pub withdraw-done : DoneAlone Rule.Withdraw st area st′ area′ records → RuleDone Rule.Withdraw st x area st′ x area′ records
     unfolding act putState view nodeAlone headsWith
     withdraw-done d =
@@ -74,3 +77,27 @@ module _ (st : State) (x : Columns) (kept : Kept st x) where
           bytes = d .bytes;
           count = d .count;
         }
+
+-- ---- what is held where the operator's row takes the checkpoint's meters
+
+-- the state behind rule 1
+abbrev withdrawn : State → State
+withdrawn st =
+    record {
+      settings = st .settings;
+      clock = st .clock;
+      c = st .c;
+      p = st .c;
+      phase = Phase.Correcting;
+      newest = st .«last_stable»;
+      «last_stable» = st .«last_stable»;
+      acknowledged = st .acknowledged;
+    }
+
+pub withdraw-held :
+    (st : State) (x x′ : Rows) (heads : List ℕ) → metersIn operatorRow x′ ≡ metersIn checkpointRow x →
+    metersIn checkpointRow x′ ≡ metersIn checkpointRow x →
+    let h : Held = held st (record { meters = x; heads = heads }) in
+    held (withdrawn st) (record { meters = x′; heads = heads }) ≡ putState h (act (st .settings) (nodeAlone h) Rule.Withdraw .node)
+unfolding act putState nodeAlone headsWith
+withdraw-held st x x′ heads restored kept = rw (none-in-front (st .acknowledged), restored, kept)

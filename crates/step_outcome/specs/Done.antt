@@ -9,11 +9,11 @@ use Rattle.store.specs.Columns.{Columns}
 use Rattle.protocol.specs.declared.Rule.{Rule}
 use Rattle.protocol.specs.Node.{Node}
 use Rattle.protocol.specs.Rules.{act}
-use Rattle.node.specs.declared.State.{State}
+use Rattle.node.specs.Held.{Held}
 use Rattle.node.specs.View.{view, putState, putColumns}
 
 -- from this state, store and area the rule leads to the others, with so many records
-pub record RuleDone (rule : Rule) (st : State) (x : Columns) (area : List ℕ) (st′ : State) (x′ : Columns) (area′ : List ℕ) (records : ℕ)
+pub record RuleDone (rule : Rule) (st : Held) (x : Columns) (area : List ℕ) (st′ : Held) (x′ : Columns) (area′ : List ℕ) (records : ℕ)
     : Type 0 where
   pub state : st′ ≡ putState st (act (st .settings) (view st x) rule .node)
   pub columns : x′ ≡ putColumns st x (act (st .settings) (view st x) rule .node)
@@ -23,7 +23,7 @@ pub record RuleDone (rule : Rule) (st : State) (x : Columns) (area : List ℕ) (
 -- ---- a rule that looks at no line
 
 -- what a state stands for by itself: a node without lines and displays
-unfoldable pub nodeAlone : State → Node
+unfoldable pub nodeAlone : Held → Node
 nodeAlone st =
     record {
       clock = st .clock;
@@ -37,7 +37,7 @@ nodeAlone st =
     }
 
 -- the rule done on state and area alone: heads and last ids of the displays stay as they are
-pub record DoneAlone (rule : Rule) (st : State) (area : List ℕ) (st′ : State) (area′ : List ℕ) (records : ℕ) : Type 0 where
+pub record DoneAlone (rule : Rule) (st : Held) (area : List ℕ) (st′ : Held) (area′ : List ℕ) (records : ℕ) : Type 0 where
   pub state : st′ ≡ putState st (act (st .settings) (nodeAlone st) rule .node)
   pub bytes : area′ ≡ inFront (allBytes (act (st .settings) (nodeAlone st) rule .records)) area
   pub count : records ≡ length (act (st .settings) (nodeAlone st) rule .records)

@@ -33,12 +33,15 @@ module _ (s : Settings) (p : ℕ) (tick : ArrivalTick) (x : Columns) (hs : List 
 
   pub line-overdue : (times arrivals : List ℕ) → i < s .lines → SmallHead (getD hs i (headOf noLine))
       → s .lines * readingsPerLine ≤ storeLength x → x .times ≡ times → x .arrivals ≡ arrivals → (found : Bool)
-      → found ≡ someOfBoth (isLateDue (s .bucket) p (s .hold) tick) (share (i * readingsPerLine) keptAt times) (share (i * readingsPerLine) keptAt arrivals)
+      → found ≡
+      someOfBoth (isLateDue (s .bucket) p (s .hold) tick) (share (i * readingsPerLine) keptAt times)
+      (share (i * readingsPerLine) keptAt arrivals)
       → found ≡ keepsOverdue s p tick (lineAt hs (rows x (s .lines * readingsPerLine)) i)
   unfolding isOverdue
   line-overdue times arrivals below small room told told′ found e =
       let base : ℕ = i * readingsPerLine in
       e
-      ∙ ap₂ (λ (ts rs : List ℕ). someOfBoth (isLateDue (s .bucket) p (s .hold) tick) (share base keptAt ts) (share base keptAt rs)) (sym told) (sym told′)
+      ∙ ap₂ (λ (ts rs : List ℕ). someOfBoth (isLateDue (s .bucket) p (s .hold) tick) (share base keptAt ts) (share base keptAt rs))
+      (sym told) (sym told′)
       ∙ some-late-due x base keptAt (omega arith) (s .bucket) p (s .hold) tick
       ∙ ap (someOf (isOverdue s p tick)) (sym (line-rows x (s .lines * readingsPerLine) i (getD hs i (headOf noLine)) small (omega arith)))

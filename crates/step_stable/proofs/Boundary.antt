@@ -19,11 +19,11 @@ use Rattle.record.proofs.BytesOf.{length-bytesOf}
 use Rattle.record.proofs.AllBytes.{length-allBytes, allBytes-append}
 use Rattle.record.specs.Markers.{marker}
 use Rattle.store.specs.Columns.{Columns}
-use Rattle.operator.specs.declared.Operator.{Operator}
+use Rattle.operator.specs.Meters.{Operator}
 use Rattle.operator.specs.Work.{Worked}
 use Rattle.protocol.specs.declared.Rule.the-variants as Rule
 use Rattle.protocol.specs.Rules.{act, boundaryAt, worked}
-use Rattle.node.specs.declared.State.{State}
+use Rattle.node.specs.Held.{Held}
 use Rattle.node.specs.View.{view}
 use Rattle.step_work.proofs.Given.{Given}
 use Rattle.step_stable.specs.Halves.{StableWorked}
@@ -64,7 +64,7 @@ record-behind results r area area₁ area₂ at e g h =
 
 -- ---- what the first half leaves
 
-module _ (st : State) (x : Columns) (area : List ℕ) where
+module _ (st : Held) (x : Columns) (area : List ℕ) where
   abbrev given : Worked
   given = worked (st .settings) letterS (st .c) (view st x)
 

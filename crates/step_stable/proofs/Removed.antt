@@ -149,13 +149,10 @@ removing-start s j hs x enough small =
     }
 
 module _ (s : Settings) (j : ℕ) (hs₀ : List LineHead) (x₀ : Columns) (hs : List LineHead) (x : Columns) (i : ℕ) (v : Removing s j hs₀ x₀ hs x i) where
-  module _ (blank : LineHead) (h : i < s .lines) where
-    -- the head of the line at i
-    abbrev own : LineHead
-    own = getD hs i blank
-
+  module _ (blank own : LineHead) (is : own ≡ getD hs i blank) (h : i < s .lines) where
+    -- the head of the line at i in front of those behind it
     left : drop i hs ≡ own ∷ drop (i + 1) hs
-    left = rw (add-one i) (drop-cons hs i blank (omega (arith, v .enough)))
+    left = rw (is, add-one i) (drop-cons hs i blank (omega (arith, v .enough)))
 
     fewer : s .lines - i ≡ suc (s .lines - (i + 1))
     fewer = omega arith
@@ -167,20 +164,28 @@ module _ (s : Settings) (j : ℕ) (hs₀ : List LineHead) (x₀ : Columns) (hs :
     own-small = left-small .0
 
     -- one line more
-    pub removing-turn : (kept : ℕ) (y : Columns) → kept ≡ length (others s j x (i * readingsPerLine) (own .kept)) → y ≡ withKept x (i * readingsPerLine) (own .kept) (others s j x (i * readingsPerLine) (own .kept)) → Removing s j hs₀ x₀ (set hs i (headKeeping own kept)) y (i + 1)
-    removing-turn kept y e g =
+    pub removing-turn :
+        (kept : ℕ) (hs′ : List LineHead) (y : Columns) → hs′ ≡ set hs i (headKeeping own kept) →
+        kept ≡ length (others s j x (i * readingsPerLine) (own .kept)) →
+        y ≡ withKept x (i * readingsPerLine) (own .kept) (others s j x (i * readingsPerLine) (own .kept)) →
+        Removing s j hs₀ x₀ hs′ y (i + 1)
+    removing-turn kept hs′ y laid e g =
         let m : ℕ = s .lines - (i + 1) in
         let base : ℕ = i * readingsPerLine in
         let more : (i + 1) * readingsPerLine ≡ base + readingsPerLine = omega arith in
-        let front : take (i + 1) (set hs i (headKeeping own kept)) ≡ take i hs ++ headKeeping own kept ∷ [] = rw (add-one i) (take-suc-set hs i (headKeeping own kept) (omega (arith, v .enough))) in
-        let behind : drop (i + 1) (set hs i (headKeeping own kept)) ≡ drop (i + 1) hs = drop-set-lt (i + 1) hs i (headKeeping own kept) (omega arith) in
+        let head : LineHead = headKeeping own kept in
+        let front : take (i + 1) hs′ ≡ take i hs ++ head ∷ [] =
+        rw (laid, add-one i) (take-suc-set hs i head (omega (arith, v .enough))) in
+        let behind : drop (i + 1) hs′ ≡ drop (i + 1) hs = rw laid (drop-set-lt (i + 1) hs i head (omega arith)) in
+        let stay : List Reading = others s j x base (own .kept) in
+        let rest : List LineHead = headsLeft s j (withKept x base (own .kept) stay) (base + readingsPerLine) m (drop (i + 1) hs) in
         record {
           passed = omega arith;
-          enough = omega (arith, v .enough, length-set hs i (headKeeping own kept));
+          enough = rw laid (omega (arith, v .enough, length-set hs i head));
           small = rw behind (left-small .1);
           lengths = rw g (lengths-then (lengths-next s j x base m own (drop (i + 1) hs) own-small) (v .lengths));
           heads =
-              rw (front, behind, more, g, e, append-assoc (take i hs) (headKeeping own (length (others s j x base (own .kept))) ∷ []) (headsLeft s j (withKept x base (own .kept) (others s j x base (own .kept))) (base + readingsPerLine) m (drop (i + 1) hs)))
+              rw (front, behind, more, g, e, append-assoc (take i hs) (headKeeping own (length stay) ∷ []) rest)
               (ap (_++_ (take i hs)) (sym (heads-turn s j x base m own (drop (i + 1) hs) own-small)) ∙
               (rw (fewer, left) at (v .heads)));
           store =

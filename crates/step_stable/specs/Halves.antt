@@ -8,16 +8,16 @@ use Rattle.settings.specs.declared.Settings.{Settings}
 use Rattle.record.specs.Layout.{allBytes}
 use Rattle.store.specs.Sizes.{readingsPerLine}
 use Rattle.store.specs.Columns.{Columns, rows, withRows}
-use Rattle.operator.specs.declared.Operator.{Operator}
+use Rattle.operator.specs.Meters.{Operator}
 use Rattle.protocol.specs.declared.Rule.the-variants as Rule
 use Rattle.protocol.specs.Node.{Line}
 use Rattle.protocol.specs.Rules.{without, act}
 use Rattle.node.specs.declared.LineHead.{LineHead}
-use Rattle.node.specs.declared.State.{State}
+use Rattle.node.specs.Held.{Held}
 use Rattle.node.specs.View.{viewLines, view, headsWith, sharesWith}
 
 -- the rule's operator and records: the bucket's results, and the boundary behind them where it closes a window
-pub record StableWorked (st : State) (x : Columns) (area : List ℕ) (operator′ : Operator) (area′ : List ℕ) (records : ℕ) : Type 0 where
+pub record StableWorked (st : Held) (x : Columns) (area : List ℕ) (operator′ : Operator) (area′ : List ℕ) (records : ℕ) : Type 0 where
   pub operator : operator′ ≡ act (st .settings) (view st x) Rule.WorkStable .node .operator
   pub bytes : area′ ≡ inFront (allBytes (act (st .settings) (view st x) Rule.WorkStable .records)) area
   pub count : records ≡ length (act (st .settings) (view st x) Rule.WorkStable .records)

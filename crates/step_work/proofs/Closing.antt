@@ -8,33 +8,38 @@ use native.Mathlib.Omega.{arith}
 use lib.ListN.{length}
 use Rattle.area.specs.Laid.{inFront}
 use Rattle.clock.specs.Windows.{closesWindow}
+use Rattle.settings.specs.declared.Settings.{Settings}
 use Rattle.record.specs.Layout.{allBytes}
 use Rattle.store.specs.Order.{inBucket}
 use Rattle.store.specs.Columns.{Columns}
-use Rattle.operator.specs.declared.Operator.{Operator}
-use Rattle.operator.specs.Meters.{meterCount, addAll}
+use Rattle.operator.specs.Meters.{Operator, meterCount, addAll}
+use Rattle.operator.specs.declared.Operator.{Operator as Loaded}
+use Rattle.operator.specs.Loaded.{operatorOf}
 use Rattle.operator.specs.Work.{close}
+use Rattle.operator.proofs.Loaded.{length-meters}
 use Rattle.operator.proofs.Adding.{addAll-number}
 use Rattle.operator.proofs.Results.{givers-most}
 use Rattle.operator.proofs.Closing.{window-results-length, close-records, work-closes, work-goes-on}
 use Rattle.protocol.specs.Node.{keptOf}
 use Rattle.protocol.specs.Rules.{worked}
-use Rattle.node.specs.declared.State.{State}
+use Rattle.node.specs.Held.{Held}
 use Rattle.node.specs.View.{view}
 use Rattle.node.proofs.Shape.{StateShape}
 
 -- the operator with bucket j's kept readings added
-abbrev pub Adds : State → Columns → ℕ → Operator → Type 0
+abbrev pub Adds : Held → Columns → ℕ → Operator → Type 0
 Adds st x j next = next ≡ addAll (st .settings) (st .operator) (inBucket (st .settings .bucket) j (keptOf (view st x .lines)))
 
-module _ (st : State) (x : Columns) (j : ℕ) (next : Operator) (adds : Adds st x j next) where
+module _ (st : Held) (x : Columns) (j : ℕ) (next : Operator) (adds : Adds st x j next) where
   pub number-room : StateShape st x → next .number + meterCount < 2 ^ 32
   number-room shape =
-      let same : next .number ≡ st .operator .number = ap (λ (o : Operator). o .number) adds ∙ addAll-number (st .settings) (st .operator) _ in
+      let same : next .number ≡ st .operator .number =
+      ap (λ (o : Operator). o .number) adds ∙ addAll-number (st .settings) (st .operator) _ in
       omega (arith, shape .numbers .newest, shape .buckets .last)
 
   module _ (kind : ℕ) where
-    pub window-closed : closesWindow (st .settings .window) j ≡ true → worked (st .settings) kind j (view st x) ≡ close (st .settings) kind j next
+    pub window-closed :
+        closesWindow (st .settings .window) j ≡ true → worked (st .settings) kind j (view st x) ≡ close (st .settings) kind j next
     unfolding worked view
     window-closed e = rw adds (work-closes (st .settings) kind j _ (st .operator) e)
 
@@ -44,16 +49,26 @@ module _ (st : State) (x : Columns) (j : ℕ) (next : Operator) (adds : Adds st 
     window-open e = rw (work-goes-on (st .settings) kind j _ (st .operator) e) adds
 
 -- a bucket that closes no window gives nothing
-pub nothing-given : (st : State) (x : Columns) (kind j : ℕ) → closesWindow (st .settings .window) j ≡ false → worked (st .settings) kind j (view st x) .records ≡ []
+pub nothing-given :
+    (st : Held) (x : Columns) (kind j : ℕ) → closesWindow (st .settings .window) j ≡ false →
+    worked (st .settings) kind j (view st x) .records ≡ []
 unfolding worked view
 nothing-given st x kind j e = rw (work-goes-on (st .settings) kind j _ (st .operator) e)
 
 -- and leaves the area as it was
-pub area-untouched : (st : State) (x : Columns) (kind j : ℕ) (area : List ℕ) → closesWindow (st .settings .window) j ≡ false → area ≡ inFront (allBytes (worked (st .settings) kind j (view st x) .records)) area
+pub area-untouched :
+    (st : Held) (x : Columns) (kind j : ℕ) (area : List ℕ) → closesWindow (st .settings .window) j ≡ false →
+    area ≡ inFront (allBytes (worked (st .settings) kind j (view st x) .records)) area
 unfolding inFront allBytes
 area-untouched st x kind j area e = rw (nothing-given st x kind j e)
 
 -- a window gives no more results than there are meters
-pub few-results : (st : State) (kind j : ℕ) (o : Operator) → length (o .meters) ≡ meterCount → length (close (st .settings) kind j o .records) ≤ meterCount
-few-results st kind j o h =
-    rw (close-records (st .settings) kind j o) (omega (arith, window-results-length (st .settings) kind j o, givers-most (o .meters)))
+pub few-closed : (s : Settings) (kind j : ℕ) (o : Loaded) → length (close s kind j (operatorOf o) .records) ≤ meterCount
+few-closed s kind j o =
+    rw (close-records s kind j (operatorOf o))
+    (omega (
+      arith,
+      window-results-length s kind j (operatorOf o),
+      givers-most (operatorOf o .meters),
+      length-meters (o .counts) (o .sums) (o .lasts),
+    ))

@@ -12,18 +12,19 @@ use Rattle.record.specs.Layout.{allBytes}
 use Rattle.record.proofs.AllBytes.{length-allBytes}
 use Rattle.store.specs.Order.{inBucket}
 use Rattle.store.specs.Columns.{Columns}
-use Rattle.operator.specs.declared.Operator.{Operator}
-use Rattle.operator.specs.Meters.{meterCount}
+use Rattle.operator.specs.Meters.{Operator, meterCount}
 use Rattle.operator.proofs.Closing.{work-number}
 use Rattle.protocol.specs.Node.{keptOf}
 use Rattle.protocol.specs.Rules.{worked}
-use Rattle.node.specs.declared.State.{State}
+use Rattle.node.specs.Held.{Held}
 use Rattle.node.specs.Sizes.{areaBytes}
 use Rattle.node.specs.View.{view}
 use Rattle.node.proofs.Results.{length-work}
 
-module _ (st : State) (x : Columns) (kind j : ℕ) where
-  number-moves : worked (st .settings) kind j (view st x) .operator .number ≡ st .operator .number + length (worked (st .settings) kind j (view st x) .records)
+module _ (st : Held) (x : Columns) (kind j : ℕ) where
+  number-moves :
+      worked (st .settings) kind j (view st x) .operator .number ≡
+      st .operator .number + length (worked (st .settings) kind j (view st x) .records)
   unfolding worked view
   number-moves = work-number (st .settings) kind j (inBucket (st .settings .bucket) j (keptOf (view st x .lines))) (st .operator)
 
@@ -43,12 +44,17 @@ pub record Given (o next : Operator) (results : List Record) (area area′ : Lis
   pub same : length area′ ≡ length area
   pub room : (next .number - o .number) * recordBytes + recordBytes ≤ length area′
 
-pub work-given : (st : State) (x : Columns) (kind j : ℕ) (next : Operator) (area area′ : List ℕ) → length (st .operator .meters) ≡ meterCount → areaBytes ≤ length area → next ≡ worked (st .settings) kind j (view st x) .operator → area′ ≡ inFront (allBytes (worked (st .settings) kind j (view st x) .records)) area → Given (st .operator) next (worked (st .settings) kind j (view st x) .records) area area′
+pub work-given :
+    (st : Held) (x : Columns) (kind j : ℕ) (next : Operator) (area area′ : List ℕ) → length (st .operator .meters) ≡ meterCount →
+    areaBytes ≤ length area → next ≡ worked (st .settings) kind j (view st x) .operator →
+    area′ ≡ inFront (allBytes (worked (st .settings) kind j (view st x) .records)) area →
+    Given (st .operator) next (worked (st .settings) kind j (view st x) .records) area area′
 work-given st x kind j next area area′ meters room e g =
     let results : List Record = worked (st .settings) kind j (view st x) .records in
     let moved : next .number ≡ st .operator .number + length results = ap (λ (o : Operator). o .number) e ∙ number-moves st x kind j in
     let few : length results ≤ meterCount = few-results st x kind j meters in
-    let same : length area′ ≡ length area = ap length g ∙ length-inFront (allBytes results) area (omega (arith, length-allBytes results)) in
+    let same : length area′ ≡ length area =
+    ap length g ∙ length-inFront (allBytes results) area (omega (arith, length-allBytes results)) in
     record {
       later = omega arith;
       count = omega arith;

@@ -1,6 +1,5 @@
 -- Laws on a bucket's work.
-pub mod Fields
-pub mod Places
 pub mod BucketReadings
+pub mod Loading
 pub mod Closing
 pub mod Given

@@ -1,10 +1,11 @@
 -- Parts of the store as its functions are lent them and leave them. The contracts of the crates above pin them down.
-use Prim.Native.Nat.{ℕ, _-_}
-use mathlib.Core.List.{List, _++_, map}
+use Prim.Native.Nat.{ℕ, _+_, _-_}
+use mathlib.Core.List.{List, [], _∷_, _++_, map}
 use lib.ListN.{length, take, drop, replicate}
 use lib.Seq.{sets}
 use Rattle.store.specs.declared.Reading.{Reading}
-use Rattle.store.specs.Columns.{Columns, zeroed}
+use Rattle.store.specs.Sizes.{readingsPerLine}
+use Rattle.store.specs.Columns.{Columns, zeroed, rowsFrom}
 
 -- the store with these readings from a place on, and everything else as it was
 unfoldable pub withRowsAt : Columns → ℕ → List Reading → Columns
@@ -25,3 +26,8 @@ withKept x base n kept = withRowsAt x base (kept ++ replicate (n - length kept) 
 -- so many of a column's numbers from a place on
 unfoldable pub share : {A : Type 0} → ℕ → ℕ → List A → List A
 share base n xs = take n (drop base xs)
+
+-- the readings kept by each line, where the lines keep so many, the first share from `base` on
+unfoldable pub keptFrom : Columns → ℕ → List ℕ → List (List Reading)
+keptFrom x base [] = []
+keptFrom x base (n ∷ ns) = rowsFrom x base n ∷ keptFrom x (base + readingsPerLine) ns

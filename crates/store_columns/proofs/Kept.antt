@@ -15,14 +15,13 @@ use Rattle.store.specs.Sizes.{readingsPerLine}
 use Rattle.store.specs.Lists.{keep, someOf, allOf, Every}
 use Rattle.store.specs.Order.{Placed, isIn, gather}
 use Rattle.store.specs.Columns.{Columns, storeLength, rowAt, rowsFrom}
-use Rattle.store.specs.Parts.{share}
+use Rattle.store.specs.Parts.{share, keptFrom}
 use Rattle.store.proofs.Keeping.{some-map}
 use Rattle.store.proofs.Columns.{room}
 use Rattle.store.proofs.Gathering.{place}
 use Rattle.store_columns.specs.Tests.{someOfBoth, isLateDue}
 use Rattle.store_columns.specs.Shape.{rises, isReadingKind}
 use Rattle.store_places.specs.Places.{isTimeOf, placesWhere}
-use Rattle.store_columns.specs.Shares.{bucketPlaces}
 use Rattle.store_columns.proofs.Rows.{rows-where, ids-share, times-share, arrivals-share, kinds-share, meters-share}
 
 -- ---- a test on a field
@@ -77,6 +76,12 @@ module _ (x : Columns) (base n : ℕ) (h : base + n ≤ storeLength x) where
 
 -- ---- a bucket's readings
 
+-- bucket j's places in shares that keep so many readings each, line by line, the first share from `base` on
+unfoldable pub bucketPlaces : ℕ → ℕ → List ℕ → ℕ → List ℕ → List ℕ
+bucketPlaces length j times base [] = []
+bucketPlaces length j times base (n ∷ ns) =
+    placesWhere (isTimeOf true length j) base (share base n times) ++ bucketPlaces length j times (base + readingsPerLine) ns
+
 -- the rows at the places of bucket j's times
 rows-inside :
     (x : Columns) (base n bucket j : ℕ) → base + n ≤ storeLength x →
@@ -89,11 +94,6 @@ rows-inside x base n bucket j h = rows-where x (λ (r : Reading). r .time .0) 0 
 readings-placed : (line : ℕ) (rs : List Reading) → map (λ (q : Placed). q .reading) (map (place line) rs) ≡ rs
 readings-placed line [] = refl
 readings-placed line (r ∷ rs) = ap (λ (l : List Reading). r ∷ l) (readings-placed line rs)
-
--- the readings kept by each line, where the lines keep so many, the first share from `base` on
-unfoldable pub keptFrom : Columns → ℕ → List ℕ → List (List Reading)
-keptFrom x base [] = []
-keptFrom x base (n ∷ ns) = rowsFrom x base n ∷ keptFrom x (base + readingsPerLine) ns
 
 -- the rows at a bucket's places, in shares from `base` on, are the bucket's readings of the lines numbered from `line` on
 pub bucket-rows :

@@ -1,10 +1,8 @@
--- Laws on the store's columns: places zeroed, tests over a share; rows and their columns, what is kept, rows written, and a bucket's places
--- gathered.
+-- Laws on the store's columns: places zeroed, tests over a share; rows and their columns, what is kept, rows written, and a bucket's
+-- places.
 pub mod Zeroed
 pub mod Tests
 pub mod LateDue
 pub mod Rows
 pub mod Kept
 pub mod Written
-pub mod Stores
-pub mod BucketPlaces

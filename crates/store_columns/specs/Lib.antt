@@ -1,4 +1,3 @@
--- Definitions on the store's columns: tests over a share, and a bucket's places in the shares of all lines.
+-- Definitions on the store's columns: tests over a share.
 pub mod Shape
 pub mod Tests
-pub mod Shares

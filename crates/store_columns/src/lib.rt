@@ -1,22 +1,19 @@
-// The store in columns: places of one column zeroed, and tests over a share; then all six columns, a reading put into a place, places
-// zeroed, and a bucket's places in the shares of all lines.
+// The store in columns: places of one column zeroed, and tests over a share; then all six columns, a reading put into a place, and places
+// zeroed.
 ghost use mathlib.Core.Path.{_≡_};
 ghost use mathlib.Core.Bool.{_&&_};
 ghost use mathlib.Core.List.{List, [], _∷_};
-ghost use Prim.Native.Nat.{ℕ, _+_, _-_, _<_, _≤_, _*_};
+ghost use Prim.Native.Nat.{ℕ, _+_, _-_, _<_, _≤_};
 ghost use lib.Dec.{leb, ltb, eqb};
 ghost use lib.IntN.{pos};
 ghost use lib.ListN.{length, replicate};
 ghost use lib.Seq.{sets};
-ghost use Rattle.settings.specs.Limits.{maxLines};
 ghost use Rattle.journal.specs.Kinds.{letterT};
-ghost use Rattle.store.specs.Lists.{someOf, allOf, Every};
+ghost use Rattle.store.specs.Lists.{someOf, allOf};
 ghost use Rattle.store.specs.Parts.{share, withRowsAt};
 ghost use Rattle.store_columns.specs.Tests.{someOfBoth, isLateDue};
 ghost use Rattle.store_columns.specs.Shape.{rises, isReadingKind};
-ghost use Rattle.store.specs.Sizes.{readingsPerLine};
 ghost use Rattle.store.specs.Columns.{Columns, columnsOf, storeLength, zeroed};
-ghost use Rattle.store_columns.specs.Shares.{bucketPlaces};
 use clock::ArrivalTick;
 use clock::ReadingTime;
 use store::Reading;
@@ -260,24 +257,4 @@ pub fn zero(
 {
     zero_first(ids, times, arrivals, from, to);
     zero_others(values, kinds, meters, from, to);
-}
-
-// Puts the places of bucket j's readings in front of `places`, line by line, where line i + 1 keeps kept[i]; returns how many there are.
-pub fn bucket_places(times: &[u32], kept: &[u32], bucket: u32, j: u32, places: &mut [u16]) -> usize
-    requires { let all : ℕ = length (now kept) * readingsPerLine in
-        ⌜ (0 < bucket) × (length (now kept) ≤ maxLines) × Every (λ n. n ≤ readingsPerLine) (now kept)
-        × (all ≤ length (now times)) × (all ≤ length (now places)) ⌝ }
-    ensures { λ r.
-        let found : List ℕ = bucketPlaces bucket j (now (times .entry)) 0 (now (kept .entry)) in
-        ⌜ (r ≡ length found) × (now (places .exit) ≡ sets (now (places .entry)) 0 found) ⌝ }
-{
-    let mut i = 0;
-    let mut at = 0;
-    while i < kept.len() {
-        let n = kept[i] as usize;
-        let base = i * store::READINGS_PER_LINE;
-        at += store_places::select(times, base, n, bucket, j, true, &mut places[at..]);
-        i += 1;
-    }
-    at
 }

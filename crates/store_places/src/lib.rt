@@ -11,7 +11,7 @@ ghost use Rattle.store_places.specs.Places.{placesWhere, isTimeOf};
 use clock::ReadingTime;
 
 // Whether a time is one of bucket j, without a division.
-fn is_in(bucket: u32, j: u32, t: ReadingTime) -> bool
+pub fn is_in(bucket: u32, j: u32, t: ReadingTime) -> bool
     requires { ⌜ 0 < bucket ⌝ }
     ensures { λ r. ⌜ r ≡ eqb (bucketOf bucket t) j ⌝ }
 {

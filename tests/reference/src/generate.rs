@@ -6,6 +6,7 @@ mod day;
 mod display;
 mod filling;
 mod host;
+mod host_edge;
 mod host_fault;
 mod host_sent;
 mod journal;
@@ -17,7 +18,8 @@ mod workload;
 
 pub use aim::{any_call, fitting_call, spoil_call};
 pub use display::aimed_display_call;
-pub use host::{host_case, host_state, near_host_state, some_sum, Host, HostCase};
+pub use host::{edge_case, host_case, host_state, near_host_state, some_sum, Host, HostCase};
+pub use host_edge::{edges, Edge};
 pub use host_fault::{break_shape, FAULTS};
 pub use malformed::spoil_text;
 pub use random::Random;

@@ -5,9 +5,9 @@ mod common;
 use std::collections::BTreeMap;
 
 use common::literal::{literal_call, Outcome};
-use reference::generate::{aimed_display_call, host_case, host_state};
-use reference::generate::{Host, HostCase, Random, FAULTS};
-use reference::node::{call, make, rule, Input};
+use reference::generate::{aimed_display_call, edge_case, edges, host_case, host_state};
+use reference::generate::{Edge, Host, HostCase, Random, FAULTS};
+use reference::node::{call, make, rule, Head, Input, State};
 use reference::record::AREA_BYTES;
 use reference::text::{has_form, read_call, DisplayCall, Wish};
 
@@ -129,4 +129,64 @@ fn every_fault_gets_its_refusal() {
             }
         }
     }
+}
+
+/// At every bound of the lent arrays no refusal fits, one past it refusal 4; what is junk does not matter.
+#[test]
+fn every_edge_gets_its_answer() {
+    let mut random = Random::new(4);
+    for edge in edges() {
+        for _ in 0..40 {
+            let case = edge_case(&mut random, edge);
+            let quick = both_calls(&case);
+            assert!(edge.is_in(&case.host.state));
+            match edge.refusal() {
+                Some(refusal) => assert_eq!(quick.answer, refusal as u32, "{edge:?}"),
+                None => assert!(quick.answer != 3 && quick.answer != 4, "{edge:?}"),
+            }
+        }
+    }
+}
+
+/// Heads that no line has, and the meters' last values, do not matter to what is answered.
+#[test]
+fn junk_does_not_matter() {
+    let mut random = Random::new(6);
+    let is_junk = |edge: &Edge| edge.name() == "heads past lines" || edge.name() == "lasts";
+    for edge in edges().into_iter().filter(is_junk) {
+        for _ in 0..100 {
+            let case = edge_case(&mut random, edge);
+            let mut plain = case.clone();
+            let State {
+                settings,
+                heads,
+                operator,
+                checkpoint,
+                ..
+            } = &mut plain.host.state;
+            let lines = settings.lines as usize;
+            heads[lines..].fill(Head::default());
+            let meters = operator.meters.iter_mut().chain(&mut checkpoint.meters);
+            meters.for_each(|meter| meter.last = 0);
+            let (junk, plain) = (quick_call(&case), quick_call(&plain));
+            let answered = (plain.answer, plain.records);
+            assert_eq!((junk.answer, junk.records), answered, "{edge:?}");
+            let past = &case.host.state.heads[lines..];
+            assert_eq!(&junk.state.heads[lines..], past);
+        }
+    }
+}
+
+/// Some host-made call is at each edge.
+#[test]
+fn host_made_calls_reach_every_edge() {
+    let mut random = Random::new(5);
+    let mut left = edges();
+    for _ in 0..20_000 {
+        let case = host_case(&mut random);
+        if case.host.state.settings.within_limits() {
+            left.retain(|edge| !edge.is_in(&case.host.state));
+        }
+    }
+    assert_eq!(left, []);
 }

@@ -1,15 +1,17 @@
--- `call::call` meets its contract: a call that is refused changes nothing, and what an accepted one leaves is what `accept` ensures.
+-- `call::call` meets its contract: a call that is refused changes nothing, no array either, and what an accepted one leaves is what `accept` ensures.
 use mathlib.Core.Path.{_≡_, refl, sym, ap, subst, _∙_}
 use native.Mathlib.Omega.{arith}
 use borrow.Author.Needs.{needs}
 use Rattle.store.specs.Columns.{columnsOf}
 use Rattle.node.specs.declared.CallReply.{CallReply}
+use Rattle.node.specs.Held.{Held, Arrays, arraysOf, held}
 use Rattle.node.specs.View.{Lent, lentOf}
-use Rattle.node.specs.Calls.{calledOf, refusedWith, calledOn}
+use Rattle.node.specs.Calls.{Called, calledOf, refusedWith, calledOn}
 use Rattle.journal.specs.declared.CallRead.{CallRead}
 use Rattle.call_decision.specs.declared.Decision.{Decision}
 use Rattle.call_decision.specs.Deciding.{decidedOn}
 use Rattle.call_decision.proofs.Answers.{Passed, Answered, answered}
+use Rattle.call.proofs.Accepted.{accepted-answer}
 use Rattle.call.proofs.call.Statement.{statement}
 use Rattle.call.proofs.call.Tie as tie
 
@@ -23,24 +25,34 @@ store s =
     (s .args .meters .now))
     (s .args .sent .now)
 
+-- what is held
+abbrev arrays : tie.Start → Arrays
+arrays s = arraysOf (s .args .counts .now) (s .args .sums .now) (s .args .lasts .now) (s .args .heads .now)
+
+abbrev before : tie.Start → Held
+before s = held (s .args .state) (arrays s)
+
 -- what the text is read as
 abbrev reading : tie.After-decide → tie.After-read-call
-reading j = j .before .before .before .before .before .before .before .before
+reading j = j .before .before .before .before .before .before .before .before .before .before .before .before
 
 -- what is decided of the call, once it is decided
+abbrev begun : tie.After-read-call → tie.Start
+begun r = r .before .before .before .before .before .before .before .before .before
+
 abbrev asked : tie.After-decide → tie.Start
-asked j = reading j .before .before .before .before .before .before .before .before .before
+asked j = begun (reading j)
 
 abbrev Decided : tie.Start → Decision → Type 0
-Decided s r = Answered (s .args .state) (store s) (s .args .text .now) (s .args .area .now) r
+Decided s r = Answered (before s) (store s) (s .args .text .now) (s .args .area .now) r
 
 decided : (j : tie.After-decide) (r : Decision) → j .decide .result ≡ r → Decided (asked j) r
 decided j r e =
     let s = asked j in
     let same =
-    ap (λ (read : CallRead). decidedOn (s .args .state) (store s) read (s .args .area .now)) (reading j .read-call .ensures .0) in
+    ap (λ (read : CallRead). decidedOn (before s) (store s) read (s .args .area .now)) (reading j .read-call .ensures .0) in
     subst (Decided s) (sym (j .decide .ensures (s .args .area .now) (omega arith) ∙ same) ∙ e)
-    (answered (s .args .state) (store s) (s .args .text .now) (s .args .area .now))
+    (answered (before s) (store s) (s .args .text .now) (s .args .area .now))
 
 -- a refused call
 abbrev refusal : tie.After-decided → tie.Start
@@ -48,8 +60,8 @@ refusal r = asked (r .before .before)
 
 refused :
     (r : tie.After-decided) → let s = refusal r in
-    refusedWith (r .decided .given .0 .0) (s .args .state) (store s) (s .args .area .now) ≡
-    calledOn (s .args .state) (store s) (s .args .text .now) (s .args .area .now)
+    refusedWith (r .decided .given .0 .0) (before s) (store s) (s .args .area .now) ≡
+    calledOn (before s) (store s) (s .args .text .now) (s .args .area .now)
 unfolding Answered
 refused r = decided (r .before .before) _ (r .decided .given .1)
 
@@ -59,13 +71,13 @@ entry a = asked (a .before .before)
 
 passed :
     (a : tie.After-decided2) → let s = entry a in
-    Passed (s .args .state) (store s) (s .args .text .now) (s .args .area .now) (a .decided2 .given .0 .0)
+    Passed (before s) (store s) (s .args .text .now) (s .args .area .now) (a .decided2 .given .0 .0)
 unfolding Answered
 passed a = decided (a .before .before) _ (a .decided2 .given .1)
 
 -- and once it is done
-abbrev accepting : tie.After-accept-arg8 → tie.After-decided2
-accepting a = a .before .before .before .before .before .before .before .before .before
+abbrev accepting : tie.After-accept-arg12 → tie.After-decided2
+accepting a = a .before .before .before .before .before .before .before .before .before .before .before .before .before
 
 abbrev done : tie.After-slice-known14 → tie.After-accept
 done c = c .before .before .before .before .before .before .before .before .before .before .before .before .before .before .before
@@ -116,34 +128,44 @@ unfolding refusedWith
 returns c =
     let r = c .before .before in
     let s = refusal r in
-    ap (λ (q : CallReply). calledOf q (store s) (s .args .area .now)) (c .refused .ensures) ∙ refused r
+    (ap (λ (q : CallReply). calledOf q (arrays s) (store s) (s .args .area .now)) (c .refused .ensures) ∙ refused r, λ n. refl)
 
 same-length-8 : tie.Need-same-length-8
-same-length-8 c = done c .accept .kept .1 .0
+same-length-8 c = done c .accept .kept .1 .1 .1 .1 .1 .0
 
 same-length-9 : tie.Need-same-length-9
-same-length-9 c = done c .accept .kept .1 .1 .0
+same-length-9 c = done c .accept .kept .1 .1 .1 .1 .1 .1 .0
 
 same-length-10 : tie.Need-same-length-10
-same-length-10 c = done c .accept .kept .1 .1 .1 .0
+same-length-10 c = done c .accept .kept .1 .1 .1 .1 .1 .1 .1 .0
 
 same-length-11 : tie.Need-same-length-11
-same-length-11 c = done c .accept .kept .1 .1 .1 .1 .0
+same-length-11 c = done c .accept .kept .1 .1 .1 .1 .1 .1 .1 .1 .0
 
 same-length-12 : tie.Need-same-length-12
-same-length-12 c = done c .accept .kept .1 .1 .1 .1 .1 .0
+same-length-12 c = done c .accept .kept .1 .1 .1 .1 .1 .1 .1 .1 .1 .0
 
 same-length-13 : tie.Need-same-length-13
-same-length-13 c = done c .accept .kept .1 .1 .1 .1 .1 .1 .0
+same-length-13 c = done c .accept .kept .1 .1 .1 .1 .1 .1 .1 .1 .1 .1 .0
 
 same-length-14 : tie.Need-same-length-14
-same-length-14 c = done c .accept .kept .1 .1 .1 .1 .1 .1 .1 .0
+same-length-14 c = done c .accept .kept .1 .1 .1 .1 .1 .1 .1 .1 .1 .1 .1 .0
 
 same-length-15 : tie.Need-same-length-15
-same-length-15 c = done c .accept .kept .1 .1 .1 .1 .1 .1 .1 .1 .0
+same-length-15 c = done c .accept .kept .1 .1 .1 .1 .1 .1 .1 .1 .1 .1 .1 .1 .0
 
 returns-2 : tie.Need-returns-2
-returns-2 c = done c .accept .ensures ∙ passed (accepting (done c .before)) .done
+returns-2 c =
+    let d = done c in
+    let a = accepting (d .before) in
+    let s = entry a in (
+      d .accept .ensures ∙ passed a .done,
+      λ n.
+          absurd
+          (n
+          (ap (λ (q : Called). q .answer) (d .accept .ensures) ∙
+          accepted-answer (before s) (store s) (s .args .area .now) (a .decided2 .given .0 .0) (passed a .call))),
+    )
 
 pub call-spec : {M : Type 1} → statement M
 call-spec =

@@ -14,8 +14,10 @@ use Rattle.protocol.specs.Node.{Node}
 use Rattle.protocol.specs.Rules.{ruleOf}
 use Rattle.protocol.specs.Displays.{lacksPlaces}
 use Rattle.protocol.specs.Refusals.{firstFailed}
+use Rattle.node.specs.Held.{Held, arraysOf, held}
 use Rattle.node.specs.View.{Lent, lentOf, places, view}
 use Rattle.node.specs.Calls.{hostTests}
+use Rattle.call_decision.specs.Stores.{StepOf}
 use Rattle.call_decision.proofs.InOrder.{firstTests, answer-first, answer-15, answer-0}
 use Rattle.call_decision.proofs.Answers.{host-refused, text-refused, call-refused, call-accepted, RefusalReady, refusal-ready}
 use Rattle.call_decision.proofs.decide.Statement.{statement}
@@ -31,28 +33,32 @@ stores s =
     (s .args .meters .now))
     (s .args .sent .now)
 
+-- what is held
+abbrev whole : tie.Start → Held
+whole s = held (s .args .state) (arraysOf (s .args .counts .now) (s .args .sums .now) (s .args .lasts .now) (s .args .heads .now))
+
 abbrev seen : tie.Start → Node
-seen s = view (s .args .state) (stores s .readings)
+seen s = view (whole s) (stores s .readings)
 
 -- the host's tests, once they are made, on an area of the length that is given
 abbrev asked : tie.After-host-refusal → tie.Start
 asked h = h .before .before .before .before .before .before .before
 
 abbrev tests : tie.Start → List ℕ → ℕ
-tests s area = firstFailed (hostTests (s .args .state) (stores s) area)
+tests s area = firstFailed (hostTests (whole s) (stores s) area)
 
 host : (h : tie.After-host-refusal) (area : List ℕ) → length area ≡ asked h .args .room → h .host-refusal .result ≡ tests (asked h) area
-host h = h .host-refusal .ensures
+host h = h .host-refusal .ensures (asked h .args .lasts .now)
 
 passed : (e : tie.Else1) (area : List ℕ) → length area ≡ asked (e .before) .args .room → tests (asked (e .before)) area ≡ 0
 passed e area l = sym (host (e .before) area l) ∙ e .if1 .left
 
 -- there is such an area
-ready : (e : tie.Else1) → RefusalReady (asked (e .before) .args .state) (stores (asked (e .before)))
+ready : (e : tie.Else1) → RefusalReady (whole (asked (e .before))) (stores (asked (e .before)))
 ready e =
     let s = asked (e .before) in
     let area : List ℕ = replicate (s .args .room) 0 in
-    refusal-ready (s .args .state) (stores s) area (passed e area (length-replicate (s .args .room) 0))
+    refusal-ready (whole s) (stores s) area (passed e area (length-replicate (s .args .room) 0))
 
 -- the call that the text is read as
 abbrev past : tie.After-read → tie.Else1
@@ -68,8 +74,8 @@ read : (r : tie.After-read) → entry r .args .read ≡ CallRead.Accepted (call 
 read r = r .read .given .1
 
 -- its refusals, once they are asked for
-abbrev asking : tie.After-heads → tie.After-read
-asking h = h .before .before .before .before
+abbrev asking : tie.After-clock → tie.After-read
+asking c = c .before .before .before
 
 abbrev decided : tie.After-refusal → tie.After-read
 decided f = asking (f .before)
@@ -80,7 +86,7 @@ answer :
 unfolding view
 answer f =
     let s = entry (decided f) in
-    f .refusal .ensures (s .args .state) (stores s .readings) refl refl refl (ready (past (decided f)) .room)
+    f .refusal .ensures (whole s) (stores s .readings) refl refl refl (ready (past (decided f)) .room)
 
 -- its places, once none of the others fits
 abbrev asked-last : tie.After-lacks-places → tie.After-refusal
@@ -98,11 +104,28 @@ lacks p =
     isStep (kindOf (call r .kind)) &&
     lacksPlaces (s .args .state .settings) (seen s) (ruleOf (s .args .state .settings) (seen s) (call r .now))
 
+-- the store is one that a step can be done on
+step-of :
+    (e : tie.Else1) → let s = asked (e .before) in
+    StepOf (whole s) (s .args .times .now) (s .args .values .now) (s .args .arrivals .now) (s .args .meters .now) (stores s .readings)
+unfolding places
+step-of e =
+    let r = ready e in
+    record {
+      work = record { ofTimes = refl; ofValues = refl; ofMeters = refl; room = r .room; shape = r .shape };
+      ofArrivals = refl;
+    }
+
+found : (p : tie.After-lacks-places) → p .lacks-places .result ≡ lacks p
+found p =
+    let r = decided (asked-last p) in
+    p .lacks-places .ensures (stores (entry r) .readings) (step-of (past r))
+
 lacking : (t : tie.Then3) → lacks (t .before) ≡ true
-lacking t = sym (t .before .lacks-places .ensures) ∙ t .if3 .taken
+lacking t = sym (found (t .before)) ∙ t .if3 .taken
 
 enough : (e : tie.Else3) → lacks (e .before) ≡ false
-enough e = sym (e .before .lacks-places .ensures) ∙ e .if3 .left
+enough e = sym (found (e .before)) ∙ e .if3 .left
 
 -- ---- the needs
 
@@ -112,7 +135,7 @@ host-refusal-requires c κs = search needs
 returns : tie.Need-returns
 returns c area l =
     let s = asked (c .before) in
-    host-refused (s .args .state) (stores s) (s .args .read) area (host (c .before) area l) (c .if1 .taken)
+    host-refused (whole s) (stores s) (s .args .read) area (host (c .before) area l) (c .if1 .taken)
 
 enum-known-read : tie.Need-enum-known-read
 enum-known-read c = search needs
@@ -124,7 +147,7 @@ returns-2 : tie.Need-returns-2
 returns-2 c area l =
     let e = c .before .before in
     let s = asked (e .before) in
-    text-refused (s .args .state) (stores s) (s .args .read) area (passed e area l) (c .enum-told .given .1)
+    text-refused (whole s) (stores s) (s .args .read) area (passed e area l) (c .enum-told .given .1)
 
 refusal-requires : tie.Need-refusal-requires
 refusal-requires c κs =
@@ -137,19 +160,20 @@ returns-3 c area l =
     let r = decided f in
     let s = entry r in
     let found = answer f in
-    call-refused (s .args .state) (stores s) (s .args .read) area (passed (past r) area l) (call r) (read r)
+    call-refused (whole s) (stores s) (s .args .read) area (passed (past r) area l) (call r) (read r)
     (found ∙ answer-first (s .args .state .settings) (seen s) (call r) (λ z. c .if2 .taken (found ∙ z))) (λ z. omega arith)
 
 lacks-places-requires : tie.Need-lacks-places-requires
-unfolding places
-lacks-places-requires c κs = let r = ready (past (decided (c .before))) in (r .room, r .shape, r .displays)
+lacks-places-requires c κs =
+    let e = past (decided (c .before)) in
+    (record { store = stores (asked (e .before)) .readings; is = step-of e }, ready e .displays)
 
 returns-4 : tie.Need-returns-4
 returns-4 c area l =
     let p = c .before in
     let r = decided (asked-last p) in
     let s = entry r in
-    call-refused (s .args .state) (stores s) (s .args .read) area (passed (past r) area l) (call r) (read r)
+    call-refused (whole s) (stores s) (s .args .read) area (passed (past r) area l) (call r) (read r)
     (answer-15 (s .args .state .settings) (seen s) (call r) (none p) (lacking c)) (λ z. omega arith)
 
 returns-5 : tie.Need-returns-5
@@ -157,7 +181,7 @@ returns-5 c area l =
     let p = c .before in
     let r = decided (asked-last p) in
     let s = entry r in
-    call-accepted (s .args .state) (stores s) (s .args .read) area (passed (past r) area l) (call r) (read r)
+    call-accepted (whole s) (stores s) (s .args .read) area (passed (past r) area l) (call r) (read r)
     (answer-0 (s .args .state .settings) (seen s) (call r) (none p) (enough c))
 
 pub decide-spec : {M : Type 1} → statement M

@@ -2,13 +2,16 @@
 use Prim.Native.Nat.{ℕ, _+_, _-_, _≤_, min}
 use mathlib.Core.Path.{_≡_, refl, sym, _∙_, ap}
 use mathlib.Core.Logic.{⊎-elim}
+use mathlib.Core.List.{List, []}
 use native.Mathlib.Omega.{arith}
 use borrow.Author.Needs.{needs}
+use lib.IntN.{ℤ}
 use Rattle.store.specs.Columns.{columnsOf}
 use Rattle.retransmission.specs.Sizes.{fetchLimit}
 use Rattle.protocol.specs.Tests.{firstFailed}
 use Rattle.protocol.specs.Displays.{givenUpTo, answerToFetch}
 use Rattle.protocol.proofs.Displays.{fetch-fits}
+use Rattle.node.specs.Held.{Held, Arrays, arraysOf, held}
 use Rattle.node.specs.View.{Lent, lentOf, view}
 use Rattle.node.specs.declared.CallReply.{CallReply}
 use Rattle.node.specs.Calls.{calledOf, hostTests}
@@ -25,26 +28,34 @@ lent s =
     let a = s .args in
     lentOf (columnsOf (a .ids .now) (a .times .now) (a .values .now) (a .arrivals .now) (a .kinds .now) (a .meters .now)) (a .sent .now)
 
+-- what is held, by the values that the meters have last
+abbrev arrays : tie.Start → List (List ℤ) → Arrays
+arrays s lasts = arraysOf (s .args .counts .now) (s .args .sums .now) lasts (s .args .heads .now)
+
+abbrev whole : tie.Start → List (List ℤ) → Held
+whole s lasts = held (s .args .state) (arrays s lasts)
+
 -- the host's tests, once they are made
 abbrev asked : tie.After-host-refusal → tie.Start
 asked h = h .before .before .before .before .before .before .before .before
 
-host : (h : tie.After-host-refusal) →
-    let s = asked h in h .host-refusal .result ≡ firstFailed (hostTests (s .args .state) (lent s) (s .args .area .now))
-host h = h .host-refusal .ensures (asked h .args .area .now) (omega arith)
+host : (h : tie.After-host-refusal) (lasts : List (List ℤ)) →
+    let s = asked h in h .host-refusal .result ≡ firstFailed (hostTests (whole s lasts) (lent s) (s .args .area .now))
+host h lasts = h .host-refusal .ensures lasts (asked h .args .area .now) (omega arith)
 
 abbrev entry : tie.Else1 → tie.Start
 entry e = asked (e .before)
 
-passed : (e : tie.Else1) → let s = entry e in HostPassed (s .args .state) (lent s) (s .args .area .now)
-passed e = let s = entry e in host-passed (s .args .state) (lent s) (s .args .area .now) (sym (host (e .before)) ∙ e .if1 .left)
+passed : (e : tie.Else1) (lasts : List (List ℤ)) → let s = entry e in HostPassed (whole s lasts) (lent s) (s .args .area .now)
+passed e lasts =
+    let s = entry e in host-passed (whole s lasts) (lent s) (s .args .area .now) (sym (host (e .before) lasts) ∙ e .if1 .left)
 
-within : (e : tie.Else1) → Ready (entry e .args .state)
-within e = let s = entry e in ready (s .args .state) (lent s) (s .args .area .now) (passed e)
+within : (e : tie.Else1) → Ready (whole (entry e) [])
+within e = let s = entry e in ready (whole s []) (lent s) (s .args .area .now) (passed e [])
 
 -- the least id, once it is known
 abbrev seen : tie.After-struct-known → tie.Else1
-seen k = k .before .before .before .before
+seen k = k .before .before .before
 
 abbrev counted : tie.After-least → tie.Else1
 counted l = seen (l .before)
@@ -53,43 +64,43 @@ counted l = seen (l .before)
 abbrev past : tie.After-fetch-answer → tie.Else1
 past a = counted (a .before)
 
-abbrev own : tie.Start → ℕ
-own s = let a = s .args in answerToFetch (a .state .settings) (view (a .state) (lent s .readings)) (a .display) (a .from)
+abbrev own : tie.Start → List (List ℤ) → ℕ
+own s lasts = let a = s .args in answerToFetch (a .state .settings) (view (whole s lasts) (lent s .readings)) (a .display) (a .from)
 
-answered : (a : tie.After-fetch-answer) → a .fetch-answer .result ≡ own (entry (past a))
+answered : (a : tie.After-fetch-answer) (lasts : List (List ℤ)) → a .fetch-answer .result ≡ own (entry (past a)) lasts
 unfolding view givenUpTo
-answered a =
+answered a lasts =
     let s = entry (past a) in
-    a .fetch-answer .ensures (s .args .state .settings) (view (s .args .state) (lent s .readings)) refl
+    a .fetch-answer .ensures (s .args .state .settings) (view (whole s lasts) (lent s .readings)) refl
     (sym (a .before .least .ensures)) refl
 
 -- an accepted one
 abbrev start : tie.Else2 → tie.Start
 start e = entry (past (e .before))
 
-accepted : (e : tie.Else2) → own (start e) ≡ 0
-accepted e = sym (answered (e .before)) ∙ e .if2 .left
+accepted : (e : tie.Else2) (lasts : List (List ℤ)) → own (start e) lasts ≡ 0
+accepted e lasts = sym (answered (e .before) lasts) ∙ e .if2 .left
 
 record Fetched (newest from : ℕ) : Type 0 where
   pub some : 1 ≤ from
   pub near : from ≤ newest + 1
 
-fits : (e : tie.Else2) → let a = start e .args in Fetched (a .state .checkpoint .number) (a .from)
+fits : (e : tie.Else2) → let a = start e .args in Fetched (a .state .«last_stable») (a .from)
 unfolding view
 fits e =
     let s = start e in
     let a = s .args in
-    let f = fetch-fits (a .state .settings) (view (a .state) (lent s .readings)) (a .display) (a .from) (accepted e) in
+    let f = fetch-fits (a .state .settings) (view (whole s []) (lent s .readings)) (a .display) (a .from) (accepted e []) in
     record { some = omega (arith, f .held); near = omega (arith, f .near) }
 
 -- how many results it gets
-abbrev whole : tie.Joined3 → tie.Start
-whole j = start (j .before)
+abbrev begun : tie.Joined3 → tie.Start
+begun j = start (j .before)
 
-count : (j : tie.Joined3) → let a = whole j .args in j .if3 .n ≡ min fetchLimit (a .state .checkpoint .number + 1 - a .from)
+count : (j : tie.Joined3) → let a = begun j .args in j .if3 .n ≡ min fetchLimit (a .state .«last_stable» + 1 - a .from)
 count j =
-    let a = whole j .args in
-    let left = a .state .checkpoint .number + 1 - a .from in
+    let a = begun j .args in
+    let left = a .state .«last_stable» + 1 - a .from in
     ⊎-elim
     (λ w. w .1 ∙ (let z : fetchLimit ≡ min fetchLimit left = omega (arith, w .0 .taken) in z))
     (λ w. w .1 ∙ (let z : left ≡ min fetchLimit left = omega (arith, w .0 .left) in z))
@@ -111,11 +122,12 @@ refused-requires : tie.Need-refused-requires
 refused-requires c κs = search needs
 
 returns : tie.Need-returns
-returns c =
+returns c lasts =
     let t = c .before in
     let s = asked (t .before) in
-    ap (λ (r : CallReply). calledOf r (lent s) (s .args .area .now)) (c .refused .ensures) ∙
-    fetch-host-refused (s .args .state) (lent s) (s .args .area .now) (s .args .display) (s .args .from) (host (t .before)) (t .if1 .taken)
+    ap (λ (r : CallReply). calledOf r (arrays s lasts) (lent s) (s .args .area .now)) (c .refused .ensures) ∙
+    fetch-host-refused (whole s lasts) (lent s) (s .args .area .now) (s .args .display) (s .args .from) (host (t .before) lasts)
+    (t .if1 .taken)
 
 cast-displays : tie.Need-cast-displays
 cast-displays c = search needs
@@ -130,13 +142,13 @@ refused-requires-2 : tie.Need-refused-requires-2
 refused-requires-2 c κs = search needs
 
 returns-2 : tie.Need-returns-2
-returns-2 c =
+returns-2 c lasts =
     let t = c .before in
     let e = past (t .before) in
     let s = entry e in
-    ap (λ (r : CallReply). calledOf r (lent s) (s .args .area .now)) (c .refused2 .ensures) ∙
-    fetch-refused (s .args .state) (lent s) (s .args .area .now) (s .args .display) (s .args .from) (passed e) (answered (t .before))
-    (t .if2 .taken)
+    ap (λ (r : CallReply). calledOf r (arrays s lasts) (lent s) (s .args .area .now)) (c .refused2 .ensures) ∙
+    fetch-refused (whole s lasts) (lent s) (s .args .area .now) (s .args .display) (s .args .from) (passed e lasts)
+    (answered (t .before) lasts) (t .if2 .taken)
 
 add-n : tie.Need-add-n
 add-n c = omega (arith, within (past (c .before)) .newest)
@@ -153,18 +165,18 @@ sub-copy-out c = fits (c .before .before) .some
 copy-out-requires : tie.Need-copy-out-requires
 copy-out-requires c κs =
     let j = asking c in
-    let h = passed (past (j .before .before)) in
+    let h = passed (past (j .before .before)) [] in
     (h .sent, omega (arith, count j, h .bytes), omega (arith, count j, fits (j .before) .near, within (past (j .before .before)) .newest))
 
 same-length : tie.Need-same-length
 same-length c = laid c .copy-out .kept .1 .1 .1 .0
 
 returns-3 : tie.Need-returns-3
-returns-3 c =
+returns-3 c lasts =
     let j = asking (laid c .before) in
-    let s = whole j in
-    fetch-done (s .args .state) (lent s) (s .args .area .now) (s .args .display) (s .args .from) (passed (past (j .before .before)))
-    (accepted (j .before)) (count j) (laid c .copy-out .ensures)
+    let s = begun j in
+    fetch-done (whole s lasts) (lent s) (s .args .area .now) (s .args .display) (s .args .from) (passed (past (j .before .before)) lasts)
+    (accepted (j .before) lasts) (count j) (laid c .copy-out .ensures)
 
 pub fetch-spec : {M : Type 1} → statement M
 fetch-spec =

@@ -1,11 +1,10 @@
 -- `call_opening::closed_state` meets its contract, by that of `fresh_state`.
-use borrow.Author.Needs.{needs}
 use Rattle.node.specs.Opening.{closedState}
 use Rattle.call_opening.proofs.closed_state.Statement.{statement}
 use Rattle.call_opening.proofs.closed_state.Tie as tie
 
 fresh-state-requires : tie.Need-fresh-state-requires
-fresh-state-requires c κs = search needs
+fresh-state-requires c κs = tt
 
 returns : tie.Need-returns
 unfolding closedState

@@ -12,8 +12,9 @@ use Rattle.settings.specs.ReadLine.{settingsOf}
 use Rattle.store.specs.Sizes.{readingsPerLine}
 use Rattle.store.specs.Columns.{Columns, columnsOf, storeLength}
 use Rattle.retransmission.specs.Sizes.{heldBytes}
+use Rattle.node.specs.Held.{Held, Arrays, arraysOf, held}
 use Rattle.node.specs.View.{Lent, lentOf}
-use Rattle.node.specs.Opening.{isShort}
+use Rattle.node.specs.Opening.{isShort, Cleared}
 use Rattle.node.proofs.Opening.{not-short}
 use Rattle.call_opening.proofs.Openings.{opening-malformed, opening-outside, opening-short, opening-done}
 use Rattle.call_opening.proofs.open.Statement.{statement}
@@ -28,6 +29,13 @@ stores s =
     (columnsOf (s .args .ids .now) (s .args .times .now) (s .args .values .now) (s .args .arrivals .now) (s .args .kinds .now)
     (s .args .meters .now))
     (s .args .sent .now)
+
+abbrev arrays : tie.Start → Arrays
+arrays s = arraysOf (s .args .counts .now) (s .args .sums .now) (s .args .lasts .now) (s .args .heads .now)
+
+-- what is held
+abbrev box : tie.Start → Held
+box s = held (s .args .state) (arrays s)
 
 -- the text, once it is read
 abbrev asked : tie.After-read-settings → tie.Start
@@ -81,16 +89,29 @@ zeroedStore z =
 abbrev zeroed-before : tie.After-zero-u8-arg → tie.After-zero
 zeroed-before e = e .before .before .before .before .before .before .before .before .before .before .before .before
 
+-- and then the meters and the heads
+abbrev meters-cleared : tie.After-fresh-state → tie.After-clear
+meters-cleared c = c .before .before .before
+
 abbrev emptied : tie.After-fresh-state → tie.After-zero-u8
-emptied c = c .before .before .before
+emptied c = meters-cleared c .before .before .before .before .before .before
 
 abbrev zeroed : tie.After-fresh-state → tie.After-zero
 zeroed c = zeroed-before (emptied c .before)
 
+abbrev clearedArrays : tie.After-fresh-state → Arrays
+clearedArrays c =
+    let m = meters-cleared c in arraysOf (m .clear .last .0) (m .clear .last .1 .0) (m .clear .last .1 .1 .0) (c .before .clear2 .last .0)
+
+cleared : (c : tie.After-fresh-state) → Cleared (clearedArrays c)
+cleared c =
+    let m = meters-cleared c in
+    record { operator = m .clear .ensures .0; checkpoint = m .clear .ensures .1; heads = c .before .clear2 .ensures }
+
 -- ---- the needs
 
 read-settings-requires : tie.Need-read-settings-requires
-read-settings-requires c κs = search needs
+read-settings-requires c κs = tt
 
 enum-told : tie.Need-enum-told
 enum-told c = search needs
@@ -102,7 +123,7 @@ enum-known-read : tie.Need-enum-known-read
 enum-known-read c = search needs
 
 is-short-requires : tie.Need-is-short-requires
-is-short-requires c κs = search needs
+is-short-requires c κs = tt
 
 same-length : tie.Need-same-length
 same-length c = refl
@@ -126,7 +147,7 @@ returns : tie.Need-returns
 returns c =
     let r = measured (c .before) in
     let s = entry r in
-    opening-short (s .args .state) (stores s) (s .args .text .now) (settings r) (read r) (short c)
+    (opening-short (box s) (stores s) (s .args .text .now) (settings r) (read r) (short c), λ no. refl {a = arrays s})
 
 cast-end : tie.Need-cast-end
 cast-end c = search needs
@@ -140,20 +161,28 @@ zero-requires c κs = (omega arith, omega (arith, long (zeroing c) .0))
 zero-u8-requires : tie.Need-zero-u8-requires
 zero-u8-requires c κs = (omega arith, omega (arith, long (tested-before (zeroed-before c)) .1))
 
+clear-requires : tie.Need-clear-requires
+clear-requires c κs = tt
+
+clear-requires-2 : tie.Need-clear-requires-2
+clear-requires-2 c κs = tt
+
 fresh-state-requires : tie.Need-fresh-state-requires
-fresh-state-requires c κs = search needs
+fresh-state-requires c κs = tt
 
 returns-2 : tie.Need-returns-2
 returns-2 c =
     let t = c .before .before in
     let s = asked t in
-    opening-malformed (s .args .state) (stores s) (s .args .text .now) (sym (t .read-settings .ensures .0) ∙ c .enum-told .given .1)
+    let told = sym (t .read-settings .ensures .0) ∙ c .enum-told .given .1 in
+    (opening-malformed (box s) (stores s) (s .args .text .now) told, λ no. refl {a = arrays s})
 
 returns-3 : tie.Need-returns-3
 returns-3 c =
     let t = c .before .before in
     let s = asked t in
-    opening-outside (s .args .state) (stores s) (s .args .text .now) (sym (t .read-settings .ensures .0) ∙ c .enum-told2 .given .1)
+    let told = sym (t .read-settings .ensures .0) ∙ c .enum-told2 .given .1 in
+    (opening-outside (box s) (stores s) (s .args .text .now) told, λ no. refl {a = arrays s})
 
 same-length-7 : tie.Need-same-length-7
 same-length-7 c = zeroed c .zero .kept .0
@@ -181,9 +210,12 @@ returns-4 c =
     let z = zeroed c in
     let e = tested-before z in
     let r = measured (e .before) in
-    let s = entry r in
-    opening-done (s .args .state) (stores s) (s .args .text .now) (settings r) (read r) (room e) (c .fresh-state .ensures)
-    {y = zeroedStore z} (z .zero .ensures) {sent = emptied c .zero-u8 .last .0} (emptied c .zero-u8 .ensures)
+    let s = entry r in (
+      opening-done (box s) (stores s) (s .args .text .now) (settings r) (read r) (room e)
+          {fresh = held (c .fresh-state .result) (clearedArrays c)} (c .fresh-state .ensures (clearedArrays c) (cleared c))
+          {y = zeroedStore z} (z .zero .ensures) {sent = emptied c .zero-u8 .last .0} (emptied c .zero-u8 .ensures),
+      λ no. absurd {A = clearedArrays c ≡ arrays s} (no refl),
+    )
 
 pub open-spec : {M : Type 1} → statement M
 open-spec =
@@ -205,6 +237,8 @@ open-spec =
     mul-end
     zero-requires
     zero-u8-requires
+    clear-requires
+    clear-requires-2
     fresh-state-requires
     returns-2
     returns-3

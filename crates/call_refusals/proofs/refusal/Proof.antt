@@ -5,16 +5,12 @@ use mathlib.Core.Path.{_≡_, sym, _∙_, ap}
 use mathlib.Core.Bool.{true}
 use native.Mathlib.Omega.{arith}
 use borrow.Author.Needs.{needs}
-use lib.ListN.{length}
 use Rattle.settings.specs.declared.Settings.{Settings}
-use Rattle.settings.specs.Limits.{maxLines}
-use Rattle.operator.proofs.FromPlace.{length-mapped}
 use Rattle.protocol.specs.Kinds.{kindOf, isStep}
 use Rattle.protocol.specs.Refusals.{firstFailed, namedLine, callTests}
 use Rattle.node.specs.View.{view}
-use Rattle.node.proofs.Lines.{small-at}
 use Rattle.call_refusals.proofs.Halves.{names-line, step-passes, answer-early, answer-late}
-use Rattle.call_refusals.proofs.Lines.{viewed-line-stands}
+use Rattle.call_refusals.proofs.Lines.{kept-fits, viewed-line-stands}
 use Rattle.call_refusals.proofs.refusal.Statement.{statement}
 use Rattle.call_refusals.proofs.refusal.Tie as tie
 
@@ -46,7 +42,6 @@ record Named (s : tie.Start) : Type 0 where
   pub first : 1 ≤ s .args .k .line
   pub last : s .args .k .line ≤ s .args .s .lines
   pub below : s .args .k .line - 1 < s .args .s .lines
-  pub many : s .args .s .lines ≤ length (s .args .heads)
 
 named : (e : tie.Else2) → Named (whole e)
 named e =
@@ -54,8 +49,7 @@ named e =
     let a = s .args in
     let other = sym (e .before .is-step .ensures) ∙ e .if2 .left in
     let line = names-line (a .s) (a .clock) (a .k) (kindOf (a .k .kind)) (none (past (e .before))) other in
-    let long : length (a .heads) ≡ maxLines = search (needs, length-mapped) in
-    record { first = line .0; last = line .1; below = omega (arith, line); many = omega (arith, s .pre .0) }
+    record { first = line .0; last = line .1; below = omega (arith, line) }
 
 -- ---- the needs
 
@@ -88,7 +82,7 @@ named-line-refusal-requires c κs =
     let s = whole c in
     let a = s .args in
     let n = named c in
-    let small = small-at (a .s .lines) (a .heads) (a .k .line - 1) (s .pre .2) (n .below) (n .many) in
+    let small = kept-fits (a .s .lines) (a .heads .now) (a .k .line - 1) (s .pre .2) (n .below) (s .pre .0) in
     (n .first, omega (arith, n .last, s .pre .0), omega (arith, small, n .below, s .pre .1))
 
 returns-3 : tie.Need-returns-3
@@ -101,7 +95,7 @@ returns-3 c =
     let n = named p in
     let line = namedLine (view st x) (a .k) in
     c .named-line-refusal .ensures line
-    (viewed-line-stands x (a .s .lines) (a .heads) (a .k .line - 1) (s .pre .2) (n .below) (n .many) room st
+    (viewed-line-stands (a .s .lines) (a .heads .now) (a .k .line - 1) (s .pre .2) (n .below) (s .pre .0) st x room
     (ap (λ (s : Settings). s .lines) e) g h) ∙
     answer-late (a .s) (a .clock) line (a .k) (kindOf (a .k .kind)) (none (past (p .before)))
 

@@ -5,8 +5,10 @@ use mathlib.Core.Path.{_≡_, ap, _∙_}
 use lib.ListN.{length}
 use Rattle.area.specs.Laid.{inFront}
 use Rattle.operator.specs.Meters.{meterCount}
-use Rattle.operator.proofs.FromPlace.{length-mapped}
+use Rattle.operator.proofs.Loaded.{length-meters}
+use Rattle.operator_rows.specs.Rows.{metersIn}
 use Rattle.store.specs.Columns.{columnsOf}
+use Rattle.node.specs.Held.{Held, arraysOf, held}
 use Rattle.node.specs.View.{Lent, lentOf}
 use Rattle.node.specs.Calls.{Called, calledOf}
 use Rattle.node.proofs.Few.{Fewest}
@@ -18,9 +20,14 @@ use Rattle.playback.proofs.play_line.Tie as tie
 
 -- ---- what is known at the places on the way; each place names the one that it goes back to
 
--- an operator's array has its length
-long : (s : tie.Start) → length (s .args .state .operator .meters) ≡ meterCount
-long s = let owned = s .good .1 .1 .0 .1 .1 .0 .1 .1 .0 in search (needs, length-mapped)
+abbrev before : tie.Start → Held
+before s =
+    held (s .args .state) (arraysOf (s .args .counts .now) (s .args .sums .now) (s .args .lasts .now) (s .args .heads .now))
+
+-- the operator has all its meters
+long : (s : tie.Start) → length (before s .operator .meters) ≡ meterCount
+unfolding metersIn
+long s = length-meters _ _ _
 
 abbrev lent : tie.Start → Lent
 lent s =
@@ -30,14 +37,14 @@ lent s =
 -- what the call is to leave, and its records are few
 abbrev due : tie.Start → Called
 due s =
-    dispatched (s .args .mixed) (s .args .acknowledging) (s .args .state) (lent s) (s .args .text .now) (s .args .area .now)
+    dispatched (s .args .mixed) (s .args .acknowledging) (before s) (lent s) (s .args .text .now) (s .args .area .now)
 
 few : (s : tie.Start) → Fewest (s .args .area .now) (due s)
-few s = dispatched-few (s .args .state) (lent s) (s .args .area .now) (s .args .text .now) (s .args .acknowledging) (long s) (s .args .mixed)
+few s = dispatched-few (before s) (lent s) (s .args .area .now) (s .args .text .now) (s .args .acknowledging) (long s) (s .args .mixed)
 
 -- what it leaves
 abbrev entered : tie.After-make-call → tie.Start
-entered d = d .before .before .before .before .before .before .before .before .before .before .before .before .before .before .before .before .before .before
+entered d = d .before .before .before .before .before .before .before .before .before .before .before .before .before .before .before .before .before .before .before .before .before .before
 
 abbrev called : tie.After-put-reply-arg2 → tie.After-make-call
 called a = a .before .before .before .before .before .before .before .before .before .before .before .before .before .before .before .before .before .before .before
@@ -47,8 +54,9 @@ replied c = c .before .before
 
 abbrev made : tie.After-make-call → Called
 made d =
-    let l = d .make-call .last .1 .1 .1 in
-    calledOf (d .make-call .result) (lentOf (columnsOf (l .0) (l .1 .0) (l .1 .1 .0) (l .1 .1 .1 .0) (l .1 .1 .1 .1 .0)
+    let a = d .make-call .last .1 .1 .1 in
+    let l = a .1 .1 .1 .1 in
+    calledOf (d .make-call .result) (arraysOf (a .0) (a .1 .0) (a .1 .1 .0) (a .1 .1 .1 .0)) (lentOf (columnsOf (l .0) (l .1 .0) (l .1 .1 .0) (l .1 .1 .1 .0) (l .1 .1 .1 .1 .0)
     (l .1 .1 .1 .1 .1 .0)) (l .1 .1 .1 .1 .1 .1 .0)) (l .1 .1 .1 .1 .1 .1 .1 .1 .0)
 
 left : (d : tie.After-make-call) → made d ≡ due (entered d)
@@ -65,31 +73,31 @@ put-reply-requires c κs =
     let s = entered d in
     let few = few s in
     let same = ap (λ (q : Called). q .records) (left d) in
-    (s .pre, omega (arith, same, few .0), omega (arith, same, few .1, d .make-call .kept .1 .1 .1 .1 .1 .1 .1 .1 .1 .1 .1 .0))
+    (s .pre, omega (arith, same, few .0), omega (arith, same, few .1, d .make-call .kept .1 .1 .1 .1 .1 .1 .1 .1 .1 .1 .1 .1 .1 .1 .1 .0))
 
 same-length : tie.Need-same-length
-same-length c = called (replied c .before) .make-call .kept .1 .1 .1 .0
+same-length c = called (replied c .before) .make-call .kept .1 .1 .1 .1 .1 .1 .1 .0
 
 same-length-2 : tie.Need-same-length-2
-same-length-2 c = called (replied c .before) .make-call .kept .1 .1 .1 .1 .0
+same-length-2 c = called (replied c .before) .make-call .kept .1 .1 .1 .1 .1 .1 .1 .1 .0
 
 same-length-3 : tie.Need-same-length-3
-same-length-3 c = called (replied c .before) .make-call .kept .1 .1 .1 .1 .1 .0
+same-length-3 c = called (replied c .before) .make-call .kept .1 .1 .1 .1 .1 .1 .1 .1 .1 .0
 
 same-length-4 : tie.Need-same-length-4
-same-length-4 c = called (replied c .before) .make-call .kept .1 .1 .1 .1 .1 .1 .0
+same-length-4 c = called (replied c .before) .make-call .kept .1 .1 .1 .1 .1 .1 .1 .1 .1 .1 .0
 
 same-length-5 : tie.Need-same-length-5
-same-length-5 c = called (replied c .before) .make-call .kept .1 .1 .1 .1 .1 .1 .1 .0
+same-length-5 c = called (replied c .before) .make-call .kept .1 .1 .1 .1 .1 .1 .1 .1 .1 .1 .1 .0
 
 same-length-6 : tie.Need-same-length-6
-same-length-6 c = called (replied c .before) .make-call .kept .1 .1 .1 .1 .1 .1 .1 .1 .0
+same-length-6 c = called (replied c .before) .make-call .kept .1 .1 .1 .1 .1 .1 .1 .1 .1 .1 .1 .1 .0
 
 same-length-7 : tie.Need-same-length-7
-same-length-7 c = called (replied c .before) .make-call .kept .1 .1 .1 .1 .1 .1 .1 .1 .1 .0
+same-length-7 c = called (replied c .before) .make-call .kept .1 .1 .1 .1 .1 .1 .1 .1 .1 .1 .1 .1 .1 .0
 
 same-length-8 : tie.Need-same-length-8
-same-length-8 c = called (replied c .before) .make-call .kept .1 .1 .1 .1 .1 .1 .1 .1 .1 .1 .1 .0
+same-length-8 c = called (replied c .before) .make-call .kept .1 .1 .1 .1 .1 .1 .1 .1 .1 .1 .1 .1 .1 .1 .1 .0
 
 same-length-9 : tie.Need-same-length-9
 same-length-9 c = replied c .put-reply .kept .0

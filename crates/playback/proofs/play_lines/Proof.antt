@@ -5,6 +5,7 @@ use mathlib.Core.Path.{_≡_, refl, sym, subst, _∙_}
 use Prim.Native.Nat.{ℕ}
 use lib.ListN.{length}
 use Rattle.store.specs.Columns.{columnsOf}
+use Rattle.node.specs.Held.{arraysOf, held}
 use Rattle.node.specs.View.{lentOf}
 use Rattle.playback_cursor.specs.Cut.{Lies}
 use Rattle.playback.specs.Run.{standing}
@@ -13,11 +14,11 @@ use Rattle.playback.proofs.play_lines.Statement.{statement}
 use Rattle.playback.proofs.play_lines.Tie as tie
 
 abbrev Inv-loop : tie.InvT-loop
-Inv-loop mixed acknowledging state₀ ids₀ times₀ values₀ arrivals₀ kinds₀ meters₀ sent₀ area₀ buf₀ out₀ cursor₀ turns₀ state ids times values arrivals kinds meters sent area buf out cursor turns =
+Inv-loop mixed acknowledging state₀ counts₀ sums₀ lasts₀ heads₀ ids₀ times₀ values₀ arrivals₀ kinds₀ meters₀ sent₀ area₀ buf₀ out₀ cursor₀ turns₀ state counts sums lasts heads ids times values arrivals kinds meters sent area buf out cursor turns =
     Lies buf (length out) cursor ×
     Counted mixed acknowledging
-    (standing state₀ (lentOf (columnsOf ids₀ times₀ values₀ arrivals₀ kinds₀ meters₀) sent₀) area₀ buf₀ out₀ cursor₀)
-    (standing state (lentOf (columnsOf ids times values arrivals kinds meters) sent) area buf out cursor) turns ×
+    (standing (held state₀ (arraysOf counts₀ sums₀ lasts₀ heads₀)) (lentOf (columnsOf ids₀ times₀ values₀ arrivals₀ kinds₀ meters₀) sent₀) area₀ buf₀ out₀ cursor₀)
+    (standing (held state (arraysOf counts sums lasts heads)) (lentOf (columnsOf ids times values arrivals kinds meters) sent) area buf out cursor) turns ×
     (length ids ≡ length ids₀) ×
     (length times ≡ length times₀) ×
     (length values ≡ length values₀) ×
@@ -30,7 +31,7 @@ Inv-loop mixed acknowledging state₀ ids₀ times₀ values₀ arrivals₀ kind
     (length out ≡ length out₀)
 
 abbrev μ-loop : tie.MeasureT-loop
-μ-loop mixed acknowledging state₀ ids₀ times₀ values₀ arrivals₀ kinds₀ meters₀ sent₀ area₀ buf₀ out₀ cursor₀ turns₀ state ids times values arrivals kinds meters sent area buf out cursor turns =
+μ-loop mixed acknowledging state₀ counts₀ sums₀ lasts₀ heads₀ ids₀ times₀ values₀ arrivals₀ kinds₀ meters₀ sent₀ area₀ buf₀ out₀ cursor₀ turns₀ state counts sums lasts heads ids times values arrivals kinds meters sent area buf out cursor turns =
     turns
 
 -- ---- the places: the loop, and the turn in it
@@ -38,8 +39,8 @@ abbrev μ-loop : tie.MeasureT-loop
 abbrev entered : tie.After-turns-left Inv-loop μ-loop → tie.Start Inv-loop μ-loop
 entered l = l .before .before .before .before .before .before .before .before .before .before
 
-abbrev looped : tie.After-play-turn-arg10 Inv-loop μ-loop → tie.In-loop Inv-loop μ-loop
-looped a = a .before .before .before .before .before .before .before .before .before .before
+abbrev looped : tie.After-play-turn-arg14 Inv-loop μ-loop → tie.In-loop Inv-loop μ-loop
+looped a = a .before .before .before .before .before .before .before .before .before .before .before .before .before .before
 
 abbrev turned : tie.After-cursor Inv-loop μ-loop → tie.After-play-turn Inv-loop μ-loop
 turned c = c .before .before .before .before .before .before .before .before .before .before .before .before .before .before .before .before .before .before .before .before .before
@@ -68,9 +69,9 @@ loop-again c =
     let t = turned (c .before) in
     let l = looped (t .before) .before .loop in
     let i = l .inv in
-    let k = t .play-turn .kept .1 .1 .1 in
+    let k = t .play-turn .kept .1 .1 .1 .1 .1 .1 .1 in
     let e = t .play-turn .ensures in (
-      subst (λ (n : ℕ). Lies (t .play-turn .last .1 .1 .1 .1 .1 .1 .1 .1 .1 .1 .1 .0) n (t .play-turn .result .cursor))
+      subst (λ (n : ℕ). Lies (t .play-turn .last .1 .1 .1 .1 .1 .1 .1 .1 .1 .1 .1 .1 .1 .1 .1 .0) n (t .play-turn .result .cursor))
           (sym (k .1 .1 .1 .1 .1 .1 .1 .1 .1 .0)) (e .onward .lies),
       counted-more (i .1) _ (omega (arith, looped (t .before) .loop-test)) e (c .turns-left2 .ensures),
       k .0 ∙ i .2,

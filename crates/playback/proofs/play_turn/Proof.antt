@@ -8,6 +8,7 @@ use Prim.Native.Nat.{ℕ, _+_, _-_, _≤_}
 use lib.ListN.{length}
 use borrow.Rule.Slice.PartMut.{putMid, same-len-mid}
 use Rattle.store.specs.Columns.{columnsOf}
+use Rattle.node.specs.Held.{arraysOf, held}
 use Rattle.node.specs.View.{lentOf}
 use Rattle.node.specs.Calls.{Called}
 use Rattle.playback_dispatch.specs.Dispatch.{dispatched}
@@ -26,8 +27,8 @@ entered k = k .before .before .before .before .before .before .before .before .b
 abbrev begun : tie.After-next-line → tie.Start
 begun n = entered (n .before .before .before)
 
-abbrev lined : tie.After-play-line-arg8 → tie.After-next-line
-lined a = a .before .before .before .before .before .before .before .before
+abbrev lined : tie.After-play-line-arg12 → tie.After-next-line
+lined a = a .before .before .before .before .before .before .before .before .before .before .before .before
 
 abbrev cut : tie.After-play-line → tie.After-next-line
 cut p = lined (p .before .before)
@@ -46,21 +47,22 @@ call s text =
     let a = s .args in
     let lent = lentOf (columnsOf (a .ids .now) (a .times .now) (a .values .now) (a .arrivals .now) (a .kinds .now) (a .meters .now))
     (a .sent .now) in
-    dispatched (a .mixed) (a .acknowledging) (a .state) lent text (a .area .now)
+    dispatched (a .mixed) (a .acknowledging)
+    (held (a .state) (arraysOf (a .counts .now) (a .sums .now) (a .lasts .now) (a .heads .now))) lent text (a .area .now)
 
 -- the output behind the reply is as long as it was
 abbrev output : tie.After-play-line → List ℕ
 output p =
     let out = begun (cut p) .args .out .now in
     let used = begun (cut p) .args .cursor .used in
-    putMid used (length out - used) out (p .play-line .last .1 .1 .1 .1 .1 .1 .1 .1 .1 .1 .1 .1 .0)
+    putMid used (length out - used) out (p .play-line .last .1 .1 .1 .1 .1 .1 .1 .1 .1 .1 .1 .1 .1 .1 .1 .1 .0)
 
 same-output : (p : tie.After-play-line) → length (output p) ≡ length (begun (cut p) .args .out .now)
 same-output p =
     let out = begun (cut p) .args .out .now in
     let used = begun (cut p) .args .cursor .used in
-    same-len-mid used (length out - used) out (p .play-line .last .1 .1 .1 .1 .1 .1 .1 .1 .1 .1 .1 .1 .0)
-    (p .play-line .kept .1 .1 .1 .1 .1 .1 .1 .1 .1 .1 .1 .1 .0)
+    same-len-mid used (length out - used) out (p .play-line .last .1 .1 .1 .1 .1 .1 .1 .1 .1 .1 .1 .1 .1 .1 .1 .1 .0)
+    (p .play-line .kept .1 .1 .1 .1 .1 .1 .1 .1 .1 .1 .1 .1 .1 .1 .1 .1 .0)
 
 -- and the cursor behind both is one to go on from
 ready : (p : tie.After-play-line) →
@@ -69,8 +71,8 @@ ready : (p : tie.After-play-line) →
 ready p =
     let s = begun (cut p) in
     ready-replied (s .args .cursor) (s .args .buf .now) (s .args .out .now) (cut p .next-line .result .now) (cut p .next-line .ensures .0)
-    (s .pre) (p .play-line .result .used) (p .play-line .last .1 .1 .1 .1 .1 .1 .1 .1 .1 .1 .1 .1 .0) _
-    (p .play-line .ensures .used) (p .play-line .ensures .text) (p .play-line .kept .1 .1 .1 .1 .1 .1 .1 .1 .1 .1 .1 .1 .0)
+    (s .pre) (p .play-line .result .used) (p .play-line .last .1 .1 .1 .1 .1 .1 .1 .1 .1 .1 .1 .1 .1 .1 .1 .1 .0) _
+    (p .play-line .ensures .used) (p .play-line .ensures .text) (p .play-line .kept .1 .1 .1 .1 .1 .1 .1 .1 .1 .1 .1 .1 .1 .1 .1 .1 .0)
 
 -- ---- the needs
 
@@ -106,28 +108,28 @@ onward-requires : tie.Need-onward-requires
 onward-requires c κs = ready (played c)
 
 same-length : tie.Need-same-length
-same-length c = played (onward c .before) .play-line .kept .1 .1 .1 .0
+same-length c = played (onward c .before) .play-line .kept .1 .1 .1 .1 .1 .1 .1 .0
 
 same-length-2 : tie.Need-same-length-2
-same-length-2 c = played (onward c .before) .play-line .kept .1 .1 .1 .1 .0
+same-length-2 c = played (onward c .before) .play-line .kept .1 .1 .1 .1 .1 .1 .1 .1 .0
 
 same-length-3 : tie.Need-same-length-3
-same-length-3 c = played (onward c .before) .play-line .kept .1 .1 .1 .1 .1 .0
+same-length-3 c = played (onward c .before) .play-line .kept .1 .1 .1 .1 .1 .1 .1 .1 .1 .0
 
 same-length-4 : tie.Need-same-length-4
-same-length-4 c = played (onward c .before) .play-line .kept .1 .1 .1 .1 .1 .1 .0
+same-length-4 c = played (onward c .before) .play-line .kept .1 .1 .1 .1 .1 .1 .1 .1 .1 .1 .0
 
 same-length-5 : tie.Need-same-length-5
-same-length-5 c = played (onward c .before) .play-line .kept .1 .1 .1 .1 .1 .1 .1 .0
+same-length-5 c = played (onward c .before) .play-line .kept .1 .1 .1 .1 .1 .1 .1 .1 .1 .1 .1 .0
 
 same-length-6 : tie.Need-same-length-6
-same-length-6 c = played (onward c .before) .play-line .kept .1 .1 .1 .1 .1 .1 .1 .1 .0
+same-length-6 c = played (onward c .before) .play-line .kept .1 .1 .1 .1 .1 .1 .1 .1 .1 .1 .1 .1 .0
 
 same-length-7 : tie.Need-same-length-7
-same-length-7 c = played (onward c .before) .play-line .kept .1 .1 .1 .1 .1 .1 .1 .1 .1 .0
+same-length-7 c = played (onward c .before) .play-line .kept .1 .1 .1 .1 .1 .1 .1 .1 .1 .1 .1 .1 .1 .0
 
 same-length-8 : tie.Need-same-length-8
-same-length-8 c = played (onward c .before) .play-line .kept .1 .1 .1 .1 .1 .1 .1 .1 .1 .1 .1 .0
+same-length-8 c = played (onward c .before) .play-line .kept .1 .1 .1 .1 .1 .1 .1 .1 .1 .1 .1 .1 .1 .1 .1 .0
 
 same-length-9 : tie.Need-same-length-9
 same-length-9 c = onward c .onward .kept .1 .1 .1 .0
@@ -141,7 +143,7 @@ returns c =
     let p = played (o .before) in
     let s = begun (cut p) in
     turned (call s) (s .args .cursor) (s .args .buf .now) (s .args .out .now) (cut p .next-line .result .now) (cut p .next-line .ensures .0)
-    (p .play-line .result) _ _ (p .play-line .last .1 .1 .1 .1 .1 .1 .1 .1 .1 .1 .1 .1 .0) (p .play-line .ensures) (same-output p)
+    (p .play-line .result) _ _ _ (p .play-line .last .1 .1 .1 .1 .1 .1 .1 .1 .1 .1 .1 .1 .1 .1 .1 .1 .0) (p .play-line .ensures) (same-output p)
     (o .onward .result) (o .onward .last .1 .1 .1 .0) (o .onward .ensures)
 
 pub play-turn-spec : {M : Type 1} → statement M

@@ -3,6 +3,13 @@
 use borrow.Author.Needs.{needs}
 use mathlib.Core.Path.{refl, sym, subst}
 use Prim.Native.Nat.{ℕ}
+use native.Mathlib.Omega.{arith}
+use Rattle.operator_meter.specs.Values.{noMeter}
+use Rattle.operator.specs.Loaded.{meterAt, metersFrom, metersOf}
+use Rattle.operator_rows.specs.Rows.{metersIn}
+use Rattle.protocol.specs.Node.{noLine}
+use Rattle.node.specs.Held.{headAt, headsFrom, headsOf, arraysOf}
+use Rattle.node.specs.View.{headOf}
 use Rattle.playback_cursor.specs.Cut.{Lies}
 use Rattle.playback.specs.Run.{zeroedStores}
 use Rattle.playback.proofs.Reached.{finished}
@@ -11,7 +18,7 @@ use Rattle.playback.proofs.run.Tie as tie
 
 -- each place names the one that it goes back to
 abbrev started : tie.After-out3 → tie.After-start
-started o = o .before .before .before .before .before .before .before .before .before .before .before .before .before .before .before .before .before .before .before
+started o = o .before .before .before .before .before .before .before .before .before .before .before .before .before .before .before .before .before .before .before .before .before .before .before
 
 abbrev played : tie.After-out4 → tie.After-play-lines
 played o = o .before .before .before .before .before .before .before .before .before .before
@@ -50,7 +57,8 @@ slice-aggregate-start-9 : tie.Need-slice-aggregate-start-9
 slice-aggregate-start-9 c = search needs
 
 start-requires : tie.Need-start-requires
-start-requires c κs = search needs
+unfolding metersIn metersOf metersFrom meterAt noMeter headsOf headsFrom headAt headOf noLine
+start-requires c κs = (omega arith, record { operator = refl; checkpoint = refl; heads = refl })
 
 slice-aggregate-play-lines : tie.Need-slice-aggregate-play-lines
 slice-aggregate-play-lines c = search needs
@@ -85,14 +93,15 @@ slice-aggregate-play-lines-10 c = search needs
 play-lines-requires : tie.Need-play-lines-requires
 play-lines-requires c κs =
     let s = started c .start in
-    subst (λ (n : ℕ). Lies (s .last .1 .1 .1 .1 .1 .1 .1 .0) n (s .result .cursor)) (sym (s .kept .1 .1 .1 .1 .1 .1 .1 .1 .0))
+    subst (λ (n : ℕ). Lies (s .last .1 .1 .1 .1 .1 .1 .1 .1 .1 .1 .1 .0) n (s .result .cursor)) (sym (s .kept .1 .1 .1 .1 .1 .1 .1 .1 .1 .1 .1 .1 .0))
     (s .ensures .onward .lies)
 
 returns : tie.Need-returns
 unfolding zeroedStores
 returns c =
     let p = played c in
-    finished (started (p .before) .start .ensures) (p .play-lines .ensures)
+    let l = p .play-lines .last .1 .1 .1 in
+    finished (p .play-lines .result) (arraysOf (l .0) (l .1 .0) (l .1 .1 .0) (l .1 .1 .1 .0)) (started (p .before) .start .ensures) (p .play-lines .ensures)
 
 pub run-spec : {M : Type 1} → statement M
 run-spec =

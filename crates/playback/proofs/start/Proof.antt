@@ -27,8 +27,8 @@ closed n = n .before .before .before
 abbrev fetched : tie.After-closed-state → tie.After-fetch
 fetched z = z .before .before .before
 
-abbrev lined : tie.After-play-settings-arg7 → tie.After-next-line
-lined a = a .before .before .before .before .before .before .before
+abbrev lined : tie.After-play-settings-arg11 → tie.After-next-line
+lined a = a .before .before .before .before .before .before .before .before .before .before .before
 
 abbrev cut : tie.After-play-settings → tie.After-next-line
 cut p = lined (p .before .before)
@@ -51,13 +51,13 @@ out f = entered (begin f) .args .out .now
 abbrev output : tie.After-play-settings → List ℕ
 output p =
     let used = first p .fetch .result .used in
-    putMid used (length (out (first p)) - used) (out (first p)) (p .play-settings .last .1 .1 .1 .1 .1 .1 .1 .1 .1 .0)
+    putMid used (length (out (first p)) - used) (out (first p)) (p .play-settings .last .1 .1 .1 .1 .1 .1 .1 .1 .1 .1 .1 .1 .1 .0)
 
 same-output : (p : tie.After-play-settings) → length (output p) ≡ length (out (first p))
 same-output p =
     let used = first p .fetch .result .used in
-    same-len-mid used (length (out (first p)) - used) (out (first p)) (p .play-settings .last .1 .1 .1 .1 .1 .1 .1 .1 .1 .0)
-    (p .play-settings .kept .1 .1 .1 .1 .1 .1 .1 .1 .1 .0)
+    same-len-mid used (length (out (first p)) - used) (out (first p)) (p .play-settings .last .1 .1 .1 .1 .1 .1 .1 .1 .1 .1 .1 .1 .1 .0)
+    (p .play-settings .kept .1 .1 .1 .1 .1 .1 .1 .1 .1 .1 .1 .1 .1 .0)
 
 -- and the cursor behind text and reply is one to go on from
 ready : (p : tie.After-play-settings) →
@@ -67,7 +67,8 @@ ready p =
     let f = first p .fetch in
     let g = p .play-settings in
     ready-replied (f .result) (f .last .1 .1 .0) (out (first p)) (cut p .next-line .result .now) (cut p .next-line .ensures .0)
-    (f .ensures .lies) (g .result .used) (g .last .1 .1 .1 .1 .1 .1 .1 .1 .1 .0) _ (g .ensures .used) (g .ensures .text) (g .kept .1 .1 .1 .1 .1 .1 .1 .1 .1 .0)
+    (f .ensures .lies) (g .result .used) (g .last .1 .1 .1 .1 .1 .1 .1 .1 .1 .1 .1 .1 .1 .0) _ (g .ensures .used) (g .ensures .text)
+    (g .kept .1 .1 .1 .1 .1 .1 .1 .1 .1 .1 .1 .1 .1 .0)
 
 -- ---- the needs
 
@@ -79,7 +80,7 @@ fetch-requires c κs =
     let b = c .before .before in
     let s = entered b in
     subst (Ready (s .args .buf .now) (length (s .args .out .now))) (sym (b .begin .ensures))
-    (ready-begin (s .args .buf .now) (length (s .args .out .now)) (s .pre))
+    (ready-begin (s .args .buf .now) (length (s .args .out .now)) (s .pre .0))
 
 closed-state-requires : tie.Need-closed-state-requires
 closed-state-requires c κs = tt
@@ -120,25 +121,25 @@ onward-requires : tie.Need-onward-requires
 onward-requires c κs = ready (played c)
 
 same-length : tie.Need-same-length
-same-length c = played (onward c .before) .play-settings .kept .1 .0
+same-length c = played (onward c .before) .play-settings .kept .1 .1 .1 .1 .1 .0
 
 same-length-2 : tie.Need-same-length-2
-same-length-2 c = played (onward c .before) .play-settings .kept .1 .1 .0
+same-length-2 c = played (onward c .before) .play-settings .kept .1 .1 .1 .1 .1 .1 .0
 
 same-length-3 : tie.Need-same-length-3
-same-length-3 c = played (onward c .before) .play-settings .kept .1 .1 .1 .0
+same-length-3 c = played (onward c .before) .play-settings .kept .1 .1 .1 .1 .1 .1 .1 .0
 
 same-length-4 : tie.Need-same-length-4
-same-length-4 c = played (onward c .before) .play-settings .kept .1 .1 .1 .1 .0
+same-length-4 c = played (onward c .before) .play-settings .kept .1 .1 .1 .1 .1 .1 .1 .1 .0
 
 same-length-5 : tie.Need-same-length-5
-same-length-5 c = played (onward c .before) .play-settings .kept .1 .1 .1 .1 .1 .0
+same-length-5 c = played (onward c .before) .play-settings .kept .1 .1 .1 .1 .1 .1 .1 .1 .1 .0
 
 same-length-6 : tie.Need-same-length-6
-same-length-6 c = played (onward c .before) .play-settings .kept .1 .1 .1 .1 .1 .1 .0
+same-length-6 c = played (onward c .before) .play-settings .kept .1 .1 .1 .1 .1 .1 .1 .1 .1 .1 .0
 
 same-length-7 : tie.Need-same-length-7
-same-length-7 c = played (onward c .before) .play-settings .kept .1 .1 .1 .1 .1 .1 .1 .0
+same-length-7 c = played (onward c .before) .play-settings .kept .1 .1 .1 .1 .1 .1 .1 .1 .1 .1 .1 .0
 
 same-length-8 : tie.Need-same-length-8
 same-length-8 c = onward c .onward .kept .1 .1 .1 .0 ∙ first (played (onward c .before)) .fetch .kept .1 .1 .0
@@ -154,8 +155,8 @@ returns c =
     let b = begin f in
     let z = closed (cut p) .closed-state in
     begun (entered b .args .buf .now) (out f) _ (b .begin .result) (b .begin .ensures) (f .fetch .result) (f .fetch .last .1 .1 .0)
-    (f .fetch .ensures) (z .result) (z .ensures) (cut p .next-line .result .now) (cut p .next-line .ensures .0)
-    (p .play-settings .result) _ (p .play-settings .last .1 .1 .1 .1 .1 .1 .1 .1 .1 .0) (p .play-settings .ensures) (same-output p)
+    (f .fetch .ensures) _ (z .ensures _ (entered b .pre .1)) (cut p .next-line .result .now) (cut p .next-line .ensures .0)
+    (p .play-settings .result) _ _ (p .play-settings .last .1 .1 .1 .1 .1 .1 .1 .1 .1 .1 .1 .1 .1 .0) (p .play-settings .ensures) (same-output p)
     (o .onward .result) (o .onward .last .1 .1 .1 .0) (o .onward .ensures)
 
 pub start-spec : {M : Type 1} → statement M

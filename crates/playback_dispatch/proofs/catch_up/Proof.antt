@@ -5,11 +5,13 @@ use mathlib.Core.List.{List}
 use mathlib.Core.Logic.{⊎-elim}
 use native.Mathlib.Omega.{arith}
 use borrow.Author.Needs.{needs}
+use lib.IntN.{ℤ}
 use lib.ListN.{length}
 use Rattle.settings.specs.Limits.{maxDisplays}
 use Rattle.store.specs.Columns.{columnsOf}
 use Rattle.node.specs.declared.CallReply.{CallReply}
 use Rattle.node.specs.Calls.{Called, calledOf}
+use Rattle.node.specs.Held.{arraysOf}
 use Rattle.node.specs.View.{lentOf}
 use Rattle.playback_dispatch.specs.Dispatch.{isBehind, caughtUp, allCaughtUp}
 use Rattle.playback_dispatch.proofs.CatchingUp.{up-to-date, was-behind, in-turn}
@@ -17,13 +19,15 @@ use Rattle.playback_dispatch.proofs.catch_up.Statement.{statement}
 use Rattle.playback_dispatch.proofs.catch_up.Tie as tie
 
 abbrev Inv-loop : tie.InvT-loop
-Inv-loop reply₀ ids times values arrivals kinds meters sent₀ area display₀ reply sent display =
+Inv-loop reply₀ counts sums heads ids times values arrivals kinds meters sent₀ area display₀ reply sent display =
     let readings = columnsOf ids times values arrivals kinds meters in
     (display ≤ maxDisplays) × (length sent ≡ length sent₀) ×
-    (calledOf reply (lentOf readings sent) area ≡ allCaughtUp display (calledOf reply₀ (lentOf readings sent₀) area))
+    ((lasts : List (List ℤ)) →
+    let arrays = arraysOf counts sums lasts heads in
+    calledOf reply arrays (lentOf readings sent) area ≡ allCaughtUp display (calledOf reply₀ arrays (lentOf readings sent₀) area))
 
 abbrev μ-loop : tie.MeasureT-loop
-μ-loop reply₀ ids times values arrivals kinds meters sent₀ area display₀ reply sent display = maxDisplays - display
+μ-loop reply₀ counts sums heads ids times values arrivals kinds meters sent₀ area display₀ reply sent display = maxDisplays - display
 
 -- ---- the places: the start, the loop, and where a display is tested
 
@@ -31,13 +35,13 @@ abbrev start : tie.At-loop Inv-loop μ-loop → tie.Start Inv-loop μ-loop
 start l = l .before .before .before .before .before .before .before .before
 
 abbrev looped : tie.After-struct-known Inv-loop μ-loop → tie.At-loop Inv-loop μ-loop
-looped t = t .before .before .before .before .before .before
+looped t = t .before .before .before .before .before
 
--- a reply with what is lent
-abbrev made : tie.Start Inv-loop μ-loop → CallReply → List ℕ → Called
-made s reply sent =
+-- a reply with what is lent, and any last values
+abbrev made : tie.Start Inv-loop μ-loop → List (List ℤ) → CallReply → List ℕ → Called
+made s lasts reply sent =
     let a = s .args in
-    calledOf reply
+    calledOf reply (arraysOf (a .counts .now) (a .sums .now) lasts (a .heads .now))
     (lentOf (columnsOf (a .ids .now) (a .times .now) (a .values .now) (a .arrivals .now) (a .kinds .now) (a .meters .now)) sent) (a .area .now)
 
 -- one turn: the display catches up
@@ -45,22 +49,27 @@ turned :
     (c : tie.Joined1 Inv-loop μ-loop) →
     let l = looped (c .before) in
     (length (c .if1 .sent) ≡ length (l .loop .sent)) ×
-    (made (start l) (c .if1 .reply) (c .if1 .sent) ≡ caughtUp (l .loop .display) (made (start l) (l .loop .reply) (l .loop .sent)))
+    ((lasts : List (List ℤ)) →
+    made (start l) lasts (c .if1 .reply) (c .if1 .sent) ≡
+    caughtUp (l .loop .display) (made (start l) lasts (l .loop .reply) (l .loop .sent)))
 unfolding isBehind
 turned c =
     let l = looped (c .before) in
-    let q = made (start l) (l .loop .reply) (l .loop .sent) in
+    let q : List (List ℤ) → Called = λ lasts. made (start l) lasts (l .loop .reply) (l .loop .sent) in
     ⊎-elim
     (λ w. (
-      ap length (w .7) ∙ w .2 .kept .1 .1 .1 .1 .1 .1 .1 .0,
-      (λ t. made (start l) (w .6 t) (w .7 t)) ∙ was-behind (l .loop .display) q _ (w .0 .taken) (w .2 .ensures),
+      ap length (w .7) ∙ w .2 .kept .1 .1 .1 .1 .1 .1 .1 .1 .1 .1 .0,
+      λ lasts. (λ t. made (start l) lasts (w .6 t) (w .7 t)) ∙ was-behind (l .loop .display) (q lasts) _ (w .0 .taken) (w .2 .ensures lasts),
     ))
-    (λ w. (ap length (w .2), (λ t. made (start l) (w .1 t) (w .2 t)) ∙ up-to-date (l .loop .display) q (w .0 .left)))
+    (λ w. (
+      ap length (w .2),
+      λ lasts. (λ t. made (start l) lasts (w .1 t) (w .2 t)) ∙ up-to-date (l .loop .display) (q lasts) (w .0 .left),
+    ))
     (c .if1 .came)
 
 loop-holds : tie.Need-loop-holds Inv-loop μ-loop
 unfolding allCaughtUp
-loop-holds c = (omega arith, refl, refl)
+loop-holds c = (omega arith, refl, λ lasts. refl)
 
 cast-if1 : tie.Need-cast-if1 Inv-loop μ-loop
 cast-if1 c = search needs
@@ -87,16 +96,16 @@ loop-again : tie.Need-loop-again Inv-loop μ-loop
 loop-again c =
     let l = looped (c .before) .loop in
     let turn = turned c in
-    (omega arith, turn .0 ∙ l .inv .1, in-turn (l .display) _ _ _ (turn .1) (l .inv .2))
+    (omega arith, turn .0 ∙ l .inv .1, λ lasts. in-turn (l .display) _ _ _ (turn .1 lasts) (l .inv .2 lasts))
 
 same-length : tie.Need-same-length Inv-loop μ-loop
 same-length c = c .before .loop .inv .1
 
 returns : tie.Need-returns Inv-loop μ-loop
-returns c =
+returns c lasts =
     let l = c .before .loop in
     let s = start (c .before) in
-    l .inv .2 ∙ ap (λ (n : ℕ). allCaughtUp n (made s (s .args .reply) (s .args .sent .now))) (omega arith)
+    l .inv .2 lasts ∙ ap (λ (n : ℕ). allCaughtUp n (made s lasts (s .args .reply) (s .args .sent .now))) (omega arith)
 
 pub catch-up-spec : {M : Type 1} → statement M
 catch-up-spec =

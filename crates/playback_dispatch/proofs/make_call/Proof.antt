@@ -3,6 +3,7 @@ use mathlib.Core.Path.{_≡_, refl, sym, _∙_}
 use mathlib.Core.Logic.{⊎-elim}
 use borrow.Author.Needs.{needs}
 use Rattle.store.specs.Columns.{columnsOf}
+use Rattle.node.specs.Held.{Held, arraysOf, held}
 use Rattle.node.specs.View.{Lent, lentOf}
 use Rattle.playback_dispatch.specs.Dispatch.{followed, dispatched}
 use Rattle.playback_dispatch.proofs.Dispatching.{as-journal-call, as-acknowledgement, as-fetch, as-no-command}
@@ -16,32 +17,43 @@ lent s =
     let a = s .args in
     lentOf (columnsOf (a .ids .now) (a .times .now) (a .values .now) (a .arrivals .now) (a .kinds .now) (a .meters .now)) (a .sent .now)
 
+abbrev before : tie.Start → Held
+before s =
+    let a = s .args in
+    held (a .state) (arraysOf (a .counts .now) (a .sums .now) (a .lasts .now) (a .heads .now))
+
 abbrev entry : tie.After-read-command → tie.Start
 entry r = r .before .before .before .before .before .before .before .before .before .before
 
 abbrev acknowledged : tie.After-acknowledge → tie.After-display
-acknowledged d = d .before .before .before .before .before .before .before .before .before .before
+acknowledged d = d .before .before .before .before .before .before .before .before .before .before .before .before .before
 
 abbrev fetched : tie.After-fetch → tie.After-display2
-fetched d = d .before .before .before .before .before .before .before .before .before .before
+fetched d = d .before .before .before .before .before .before .before .before .before .before .before .before .before
 
 abbrev left : tie.After-slice-known16 → tie.After-call-journal
 left c = c .before .before .before .before .before .before .before .before .before .before .before .before .before .before .before
 
+abbrev opened : tie.Joined1 → tie.Start
+opened j = j .before .before .before .before .before .before .before .before .before
+
+abbrev journaling : tie.After-call-journal → tie.Joined1
+journaling d = d .before .before .before .before .before .before .before .before .before .before .before .before .before
+
 -- no display's line, or none is taken for one
 journal :
     (j : tie.Joined1) →
-    let s = j .before .before .before .before .before .before .before .before .before in
+    let s = opened j in
     let a = s .args in
-    followed (a .acknowledging) (a .state) (lent s) (a .text .now) (a .area .now) ≡
-    dispatched (a .mixed) (a .acknowledging) (a .state) (lent s) (a .text .now) (a .area .now)
+    followed (a .acknowledging) (before s) (lent s) (a .text .now) (a .area .now) ≡
+    dispatched (a .mixed) (a .acknowledging) (before s) (lent s) (a .text .now) (a .area .now)
 journal j =
-    let s = j .before .before .before .before .before .before .before .before .before in
+    let s = opened j in
     let a = s .args in
     ⊎-elim
-    (λ w. as-no-command (a .mixed) (a .acknowledging) (a .state) (lent s) (a .text .now) (a .area .now) (w .0 .taken)
+    (λ w. as-no-command (a .mixed) (a .acknowledging) (before s) (lent s) (a .text .now) (a .area .now) (w .0 .taken)
     (sym (w .1 .ensures .0) ∙ w .3 .given .1))
-    (λ w. as-journal-call (a .mixed) (a .acknowledging) (a .state) (lent s) (a .text .now) (a .area .now) (w .left))
+    (λ w. as-journal-call (a .mixed) (a .acknowledging) (before s) (lent s) (a .text .now) (a .area .now) (w .left))
     (j .if1 .came)
 
 -- ---- the needs
@@ -74,7 +86,7 @@ same-length-6 : tie.Need-same-length-6
 same-length-6 c = refl
 
 same-length-7 : tie.Need-same-length-7
-same-length-7 c = c .before .before .acknowledge .kept .1 .1 .1 .1 .1 .1 .1 .0
+same-length-7 c = c .before .before .acknowledge .kept .1 .1 .1 .1 .1 .1 .1 .1 .1 .1 .0
 
 same-length-8 : tie.Need-same-length-8
 same-length-8 c = refl
@@ -85,8 +97,8 @@ returns c =
     let w = acknowledged d in
     let r = w .before .before in
     let a = entry r .args in
-    d .acknowledge .ensures ∙
-    as-acknowledgement (a .mixed) (a .acknowledging) (a .state) (lent (entry r)) (a .text .now) (a .area .now) (r .before .if1 .taken) _ _
+    d .acknowledge .ensures (a .lasts .now) ∙
+    as-acknowledgement (a .mixed) (a .acknowledging) (before (entry r)) (lent (entry r)) (a .text .now) (a .area .now) (r .before .if1 .taken) _ _
     (sym (r .read-command .ensures .0) ∙ w .display .given .1)
 
 enum-known-display-2 : tie.Need-enum-known-display-2
@@ -117,7 +129,7 @@ same-length-15 : tie.Need-same-length-15
 same-length-15 c = refl
 
 same-length-16 : tie.Need-same-length-16
-same-length-16 c = c .before .before .fetch .kept .1 .1 .1 .1 .1 .1 .1 .1 .1 .1 .0
+same-length-16 c = c .before .before .fetch .kept .1 .1 .1 .1 .1 .1 .1 .1 .1 .1 .1 .1 .1 .0
 
 returns-2 : tie.Need-returns-2
 returns-2 c =
@@ -125,8 +137,8 @@ returns-2 c =
     let w = fetched d in
     let r = w .before .before in
     let a = entry r .args in
-    d .fetch .ensures ∙
-    as-fetch (a .mixed) (a .acknowledging) (a .state) (lent (entry r)) (a .text .now) (a .area .now) (r .before .if1 .taken) _ _
+    d .fetch .ensures (a .lasts .now) ∙
+    as-fetch (a .mixed) (a .acknowledging) (before (entry r)) (lent (entry r)) (a .text .now) (a .area .now) (r .before .if1 .taken) _ _
     (sym (r .read-command .ensures .0) ∙ w .display2 .given .1)
 
 enum-told : tie.Need-enum-told
@@ -136,31 +148,31 @@ call-journal-requires : tie.Need-call-journal-requires
 call-journal-requires c κs = search needs
 
 same-length-17 : tie.Need-same-length-17
-same-length-17 c = left c .call-journal .kept .1 .1 .0
+same-length-17 c = left c .call-journal .kept .1 .1 .1 .1 .1 .1 .0
 
 same-length-18 : tie.Need-same-length-18
-same-length-18 c = left c .call-journal .kept .1 .1 .1 .0
+same-length-18 c = left c .call-journal .kept .1 .1 .1 .1 .1 .1 .1 .0
 
 same-length-19 : tie.Need-same-length-19
-same-length-19 c = left c .call-journal .kept .1 .1 .1 .1 .0
+same-length-19 c = left c .call-journal .kept .1 .1 .1 .1 .1 .1 .1 .1 .0
 
 same-length-20 : tie.Need-same-length-20
-same-length-20 c = left c .call-journal .kept .1 .1 .1 .1 .1 .0
+same-length-20 c = left c .call-journal .kept .1 .1 .1 .1 .1 .1 .1 .1 .1 .0
 
 same-length-21 : tie.Need-same-length-21
-same-length-21 c = left c .call-journal .kept .1 .1 .1 .1 .1 .1 .0
+same-length-21 c = left c .call-journal .kept .1 .1 .1 .1 .1 .1 .1 .1 .1 .1 .0
 
 same-length-22 : tie.Need-same-length-22
-same-length-22 c = left c .call-journal .kept .1 .1 .1 .1 .1 .1 .1 .0
+same-length-22 c = left c .call-journal .kept .1 .1 .1 .1 .1 .1 .1 .1 .1 .1 .1 .0
 
 same-length-23 : tie.Need-same-length-23
-same-length-23 c = left c .call-journal .kept .1 .1 .1 .1 .1 .1 .1 .1 .0
+same-length-23 c = left c .call-journal .kept .1 .1 .1 .1 .1 .1 .1 .1 .1 .1 .1 .1 .0
 
 same-length-24 : tie.Need-same-length-24
-same-length-24 c = left c .call-journal .kept .1 .1 .1 .1 .1 .1 .1 .1 .1 .1 .0
+same-length-24 c = left c .call-journal .kept .1 .1 .1 .1 .1 .1 .1 .1 .1 .1 .1 .1 .1 .1 .0
 
 returns-3 : tie.Need-returns-3
-returns-3 c = left c .call-journal .ensures ∙ journal (left c .before .before .before .before .before .before .before .before .before)
+returns-3 c = left c .call-journal .ensures ∙ journal (journaling (left c))
 
 pub make-call-spec : {M : Type 1} → statement M
 make-call-spec =

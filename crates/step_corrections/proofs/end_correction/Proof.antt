@@ -26,7 +26,7 @@ same-length c = laid c .put-record .kept .0
 
 returns : tie.Need-returns
 unfolding act putState nodeAlone headsWith
-returns c =
+returns c x =
     let put = laid c in
     record {
       state = rw (c .with-phase .ensures, none-in-front);

@@ -1,7 +1,7 @@
 -- `step_stable::remove` meets its contract: the loop takes the lines one by one, and what is left comes to the same.
 use Prim.Native.Nat.{_*_, _-_, _≤_, _<_}
-use mathlib.Core.Path.{_≡_, _∙_}
-use mathlib.Core.List.{[]}
+use mathlib.Core.Path.{_≡_, sym, _∙_}
+use mathlib.Core.List.{List, []}
 use native.Mathlib.Omega.{arith}
 use borrow.Author.Needs.{needs}
 use lib.ListN.{length, getD}
@@ -9,9 +9,11 @@ use Rattle.settings.specs.Limits.{maxLines}
 use Rattle.store.specs.Sizes.{readingsPerLine}
 use Rattle.store.specs.Columns.{Columns, columnsOf, storeLength, rows}
 use Rattle.store_columns.proofs.Written.{storeLength-same}
-use Rattle.operator.proofs.FromPlace.{length-mapped}
 use Rattle.protocol.specs.Node.{noLine}
+use Rattle.node.specs.declared.LineHead.{LineHead}
+use Rattle.node.specs.Held.{headsOf}
 use Rattle.node.specs.View.{headOf}
+use Rattle.node_heads.proofs.Heads.{length-heads, head-of}
 use Rattle.step_stable.proofs.Removed.{
   Removing,
   length-others,
@@ -26,11 +28,13 @@ use Rattle.step_stable.proofs.remove.Statement.{statement}
 use Rattle.step_stable.proofs.remove.Tie as tie
 
 abbrev Inv-loop : tie.InvT-loop
-Inv-loop s ids₀ times₀ values₀ arrivals₀ kinds₀ meters₀ j next₀ i₀ ids times values arrivals kinds meters next i =
-    Removing s j next₀ (columnsOf ids₀ times₀ values₀ arrivals₀ kinds₀ meters₀) next (columnsOf ids times values arrivals kinds meters) i
+Inv-loop s heads₀ ids₀ times₀ values₀ arrivals₀ kinds₀ meters₀ j i₀ heads ids times values arrivals kinds meters i =
+    Removing s j (headsOf heads₀) (columnsOf ids₀ times₀ values₀ arrivals₀ kinds₀ meters₀) (headsOf heads)
+    (columnsOf ids times values arrivals kinds meters)
+    i
 
 abbrev μ-loop : tie.MeasureT-loop
-μ-loop s ids₀ times₀ values₀ arrivals₀ kinds₀ meters₀ j next₀ i₀ ids times values arrivals kinds meters next i = s .lines - i
+μ-loop s heads₀ ids₀ times₀ values₀ arrivals₀ kinds₀ meters₀ j i₀ heads ids times values arrivals kinds meters i = s .lines - i
 
 -- ---- what is known where the function begins, and in a turn of the loop; each place names the one that it goes back to
 
@@ -39,11 +43,11 @@ store s =
     columnsOf (s .args .ids .now) (s .args .times .now) (s .args .values .now) (s .args .arrivals .now) (s .args .kinds .now)
     (s .args .meters .now)
 
-all-heads : (s : tie.Start Inv-loop μ-loop) → length (s .args .heads) ≡ maxLines
-all-heads s = search (needs, length-mapped)
+abbrev heads₀ : tie.Start Inv-loop μ-loop → List LineHead
+heads₀ s = headsOf (s .args .heads .now)
 
-enough-heads : (s : tie.Start Inv-loop μ-loop) → s .args .s .lines ≤ length (s .args .heads)
-enough-heads s = omega (arith, all-heads s, s .pre .0)
+enough-heads : (s : tie.Start Inv-loop μ-loop) → s .args .s .lines ≤ length (heads₀ s)
+enough-heads s = omega (arith, length-heads (s .args .heads .now), s .pre .0)
 
 abbrev entered : tie.After-slice-known5 Inv-loop μ-loop → tie.Start Inv-loop μ-loop
 entered c = c .before .before .before .before .before
@@ -61,19 +65,37 @@ turn t = t .before .before
 below : (t : tie.Then1 Inv-loop μ-loop) → turn t .loop .i < begin (turn t) .args .s .lines
 below t = t .if1 .taken
 
--- line i keeps no more readings than its share has places
-small : (t : tie.Then1 Inv-loop μ-loop) → getD (turn t .loop .next) (turn t .loop .i) (headOf noLine) .kept ≤ readingsPerLine
-small t =
+among : (t : tie.Then1 Inv-loop μ-loop) → turn t .loop .i < maxLines
+among t = omega (arith, below t, begin (turn t) .pre .0)
+
+-- the line's head is read
+abbrev taken : tie.After-head-at Inv-loop μ-loop → tie.Then1 Inv-loop μ-loop
+taken c = c .before .before
+
+own :
+    (c : tie.After-head-at Inv-loop μ-loop) → let l = turn (taken c) .loop in
+    c .head-at .result ≡ getD (headsOf (l .heads)) (l .i) (headOf noLine)
+own c = let l = turn (taken c) .loop in c .head-at .ensures ∙ sym (head-of (l .heads) (l .i) (among (taken c)))
+
+-- the line keeps no more readings than its share has places
+small : (c : tie.After-head-at Inv-loop μ-loop) → c .head-at .result .kept ≤ readingsPerLine
+small c =
+    let t = taken c in
     let l = turn t .loop in
     let s = begin (turn t) in
-    own-small (s .args .s) (s .args .j) (s .args .heads) (store s) (l .next) (now (turn t)) (l .i) (l .inv) (headOf noLine) (below t)
+    own-small (s .args .s) (s .args .j) (heads₀ s) (store s) (headsOf (l .heads)) (now (turn t)) (l .i) (l .inv) (headOf noLine)
+    (c .head-at .result) (own c) (below t)
 
 -- its share is asked to close up, and has
-abbrev asked : tie.After-remove-bucket-arg6 Inv-loop μ-loop → tie.Then1 Inv-loop μ-loop
-asked c = c .before .before .before .before .before .before .before .before
+abbrev asked : tie.After-remove-bucket-arg6 Inv-loop μ-loop → tie.After-head-at Inv-loop μ-loop
+asked c = c .before .before .before .before .before .before .before
 
 abbrev removed : tie.After-slice-known10 Inv-loop μ-loop → tie.After-remove-bucket Inv-loop μ-loop
 removed c = c .before .before .before .before .before .before .before .before .before .before .before
+
+-- where the head is laid back
+abbrev lent : tie.After-set-head-arg Inv-loop μ-loop → tie.After-remove-bucket Inv-loop μ-loop
+lent c = removed (c .before)
 
 abbrev closedUp : tie.After-remove-bucket Inv-loop μ-loop → Columns
 closedUp d =
@@ -83,16 +105,13 @@ closedUp d =
 -- ---- the needs
 
 loop-holds : tie.Need-loop-holds Inv-loop μ-loop
-loop-holds c = let s = entered c in removing-start (s .args .s) (s .args .j) (s .args .heads) (store s) (enough-heads s) (s .pre .3)
+loop-holds c = let s = entered c in removing-start (s .args .s) (s .args .j) (heads₀ s) (store s) (enough-heads s) (s .pre .3)
 
 cast-if1 : tie.Need-cast-if1 Inv-loop μ-loop
 cast-if1 c = search needs
 
-mul-h : tie.Need-mul-h Inv-loop μ-loop
-mul-h c = search needs
-
-array-copy-out-h : tie.Need-array-copy-out-h Inv-loop μ-loop
-array-copy-out-h c = search (needs, length-mapped)
+head-at-requires : tie.Need-head-at-requires Inv-loop μ-loop
+head-at-requires c κs = among (c .before)
 
 cast-n : tie.Need-cast-n Inv-loop μ-loop
 cast-n c = search needs
@@ -101,49 +120,46 @@ mul-base : tie.Need-mul-base Inv-loop μ-loop
 mul-base c = search needs
 
 remove-bucket-requires : tie.Need-remove-bucket-requires Inv-loop μ-loop
-unfolding headOf noLine
 remove-bucket-requires c κs =
-    let t = asked c in
+    let a = asked c in
+    let t = taken a in
     let s = begin (turn t) in
     let room : s .args .s .lines * readingsPerLine ≤ storeLength (now (turn t)) =
     omega (arith, s .pre .2, storeLength-same (now (turn t)) (store s) (turn t .loop .inv .lengths)) in
-    (s .pre .1, small t, omega (arith, small t), omega (arith, room, small t, below t))
+    (s .pre .1, small a, omega (arith, small a), omega (arith, room, small a, below t))
 
 cast-h : tie.Need-cast-h Inv-loop μ-loop
-unfolding headOf noLine
 cast-h c =
     let d = removed c in
-    let t = asked (d .before) in
-    let l = turn t .loop in
-    let a = begin (turn t) .args in
+    let a = asked (d .before) in
+    let l = turn (taken a) in
+    let s = begin l .args in
     omega (
       arith,
       d .remove-bucket .ensures .0,
-      small t,
-      length-others (a .s) (a .j) (now (turn t)) (l .i * readingsPerLine) 0 (getD (l .next) (l .i) (headOf noLine)) [] (small t),
+      small a,
+      length-others (s .s) (s .j) (now l) (l .loop .i * readingsPerLine) 0 (a .head-at .result) [] (small a),
     )
 
-mul-next : tie.Need-mul-next Inv-loop μ-loop
-mul-next c = search needs
-
-array-set-from-next : tie.Need-array-set-from-next Inv-loop μ-loop
-array-set-from-next c = search (needs, length-mapped)
+set-head-requires : tie.Need-set-head-requires Inv-loop μ-loop
+set-head-requires c κs = among (taken (asked (lent c .before)))
 
 add-i : tie.Need-add-i Inv-loop μ-loop
-add-i c = search needs
+add-i c = omega (arith, among (taken (asked (lent (c .before) .before))))
 
 loop-less : tie.Need-loop-less Inv-loop μ-loop
-loop-less c = omega (arith, below (asked (removed c .before)))
+loop-less c = omega (arith, below (taken (asked (lent (c .before) .before))))
 
 loop-again : tie.Need-loop-again Inv-loop μ-loop
-unfolding headOf noLine
 loop-again c =
-    let d = removed c in
-    let t = asked (d .before) in
+    let d = lent (c .before) in
+    let a = asked (d .before) in
+    let t = taken a in
     let l = turn t .loop in
     let s = begin (turn t) in
-    removing-turn (s .args .s) (s .args .j) (s .args .heads) (store s) (l .next) (now (turn t)) (l .i) (l .inv) (headOf noLine) (below t)
-    (d .remove-bucket .result) (closedUp d) (d .remove-bucket .ensures .0) (d .remove-bucket .ensures .1)
+    removing-turn (s .args .s) (s .args .j) (heads₀ s) (store s) (headsOf (l .heads)) (now (turn t)) (l .i) (l .inv) (headOf noLine)
+    (a .head-at .result) (own a) (below t) (d .remove-bucket .result) _ (closedUp d) (c .set-head .ensures)
+    (d .remove-bucket .ensures .0) (d .remove-bucket .ensures .1)
 
 -- no line is left
 abbrev done : tie.Else1 Inv-loop μ-loop → tie.At-loop Inv-loop μ-loop
@@ -173,11 +189,12 @@ returns c =
     let l = done c .loop in
     let s = begin (done c) in
     let a = s .args in
+    let hs = headsOf (l .heads) in
     record {
-      lineHeads = removing-heads (a .s) (a .j) (a .heads) (store s) (l .next) (now (done c)) (l .i) (l .inv) (c .if1 .left);
+      lineHeads = removing-heads (a .s) (a .j) (heads₀ s) (store s) hs (now (done c)) (l .i) (l .inv) (c .if1 .left);
       columns =
-          removing-store (a .s) (a .j) (a .heads) (store s) (l .next) (now (done c)) (l .i) (l .inv) (c .if1 .left) ∙
-          store-front (a .s) (a .j) (a .heads) (store s) (enough-heads s) (s .pre .3) (s .pre .2);
+          removing-store (a .s) (a .j) (heads₀ s) (store s) hs (now (done c)) (l .i) (l .inv) (c .if1 .left) ∙
+          store-front (a .s) (a .j) (heads₀ s) (store s) (enough-heads s) (s .pre .3) (s .pre .2);
     }
 
 pub remove-spec : {M : Type 1} → statement M
@@ -188,14 +205,12 @@ remove-spec =
     μ-loop
     loop-holds
     cast-if1
-    mul-h
-    array-copy-out-h
+    head-at-requires
     cast-n
     mul-base
     remove-bucket-requires
     cast-h
-    mul-next
-    array-set-from-next
+    set-head-requires
     add-i
     loop-less
     loop-again

@@ -13,15 +13,18 @@ use Rattle.journal.specs.Kinds.{letterS, letterB}
 use Rattle.record.specs.Sizes.{recordBytes}
 use Rattle.record.specs.Markers.{marker}
 use Rattle.record.proofs.Stores.{record-lent}
-use Rattle.store.specs.Columns.{Columns, columnsOf}
-use Rattle.operator.specs.Meters.{meterCount}
+use Rattle.store.specs.Columns.{Columns}
+use Rattle.operator.specs.Meters.{Operator, meterCount}
 use Rattle.operator.specs.Work.{Worked}
-use Rattle.operator.proofs.FromPlace.{length-mapped}
+use Rattle.operator.proofs.Loaded.{length-meters}
+use Rattle.operator_rows.specs.Rows.{rowsOf, operatorRow, metersIn}
 use Rattle.protocol.specs.Rules.{worked}
+use Rattle.node.specs.Held.{Held, arraysOf, held}
 use Rattle.node.specs.View.{view}
 use Rattle.node.proofs.Limits.{limits-hold}
 use Rattle.node.proofs.Shape.{state-facts}
 use Rattle.node.proofs.Times.{start-fits, stable-start-fits}
+use Rattle.step_work.specs.Stores.{StoreOf}
 use Rattle.step_work.proofs.Given.{Given, work-given}
 use Rattle.step_stable.proofs.Boundary.{goes-on-done, closes-done}
 use Rattle.step_stable.proofs.stable_records.Statement.{statement}
@@ -29,43 +32,62 @@ use Rattle.step_stable.proofs.stable_records.Tie as tie
 
 -- ---- what is known where the function begins
 
+abbrev all : tie.Start → Held
+all s =
+    let a = s .args in
+    held (a .state) (arraysOf (a .counts .now) (a .sums .now) (a .lasts .now) (a .heads .now))
+
+-- a store with the lent columns; there is one
+abbrev Store : tie.Start → Columns → Type 0
+Store s = StoreOf (all s) (s .args .times .now) (s .args .values .now) (s .args .meters .now)
+
 abbrev store : tie.Start → Columns
-store s =
-    columnsOf (s .args .ids .now) (s .args .times .now) (s .args .values .now) (s .args .arrivals .now) (s .args .kinds .now)
-    (s .args .meters .now)
+store s = s .pre .0 .store
 
 some-window : (s : tie.Start) → 1 ≤ s .args .state .settings .window
-some-window s = limits-hold (s .args .state .settings) (state-facts (s .args .state) (store s) (s .pre .1) .limits) .someWindow
+some-window s = limits-hold (s .args .state .settings) (state-facts (all s) (store s) (s .pre .0 .is .shape) .limits) .someWindow
 
--- the operator's array has its length
-all-meters : (s : tie.Start) → length (s .args .state .operator .meters) ≡ meterCount
-all-meters s = let owned = s .good .0 .1 .1 .0 .1 .1 .0 in search (needs, length-mapped)
+all-meters : (s : tie.Start) → length (all s .operator .meters) ≡ meterCount
+unfolding metersIn
+all-meters s = length-meters _ _ _
 
-abbrev done : tie.Start → Worked
-done s = worked (s .args .state .settings) letterS (s .args .state .c) (view (s .args .state) (store s))
+abbrev done : tie.Start → Columns → Worked
+done s x = worked (s .args .state .settings) letterS (s .args .state .c) (view (all s) x)
 
 -- ---- the bucket worked, its results counted, the window's test; each place names the one that it goes back to
 
-abbrev start : tie.After-work-arg → tie.Start
-start c = c .before .before .before .before .before .before .before .before .before
+abbrev start : tie.After-work-arg4 → tie.Start
+start c = c .before .before .before .before .before .before .before .before
 
 abbrev begin : tie.After-work → tie.Start
 begin c = start (c .before)
 
--- the area once the bucket is worked
+-- the operator and the area once the bucket is worked
+abbrev next : tie.After-work → Operator
+next c =
+    let lent = c .work .last .1 in
+    record { meters = metersIn operatorRow (rowsOf (lent .0) (lent .1 .0) (lent .1 .1 .0)); number = c .work .result }
+
 abbrev laid : tie.After-work → List ℕ
-laid c = c .work .last .1 .1 .1 .1 .1 .1 .1 .1 .1 .0
+laid c = c .work .last .1 .1 .1 .1 .1 .1 .1 .1 .1 .1 .0
 
 given :
-    (c : tie.After-work) → let s = begin c in
-    Given (s .args .state .operator) (c .work .result) (done s .records) (s .args .area .now) (laid c)
-given c =
+    (c : tie.After-work) (x : Columns) → let s = begin c in
+    Store s x → Given (all s .operator) (next c) (done s x .records) (s .args .area .now) (laid c)
+given c x is =
     let s = begin c in
-    work-given (s .args .state) (store s) letterS (s .args .state .c) (c .work .result) (s .args .area .now) _ (all-meters s) (s .pre .2)
-    (c .work .ensures .0) (c .work .ensures .1)
+    let all-done = c .work .ensures .1 x is in
+    work-given (all s) x letterS (s .args .state .c) (next c) (s .args .area .now) _ (all-meters s) (s .pre .1) (all-done .0)
+    (all-done .1)
 
-abbrev counted : tie.After-struct-known2 → tie.After-work
-counted c = c .before .before .before .before
+-- of the store that there is
+some :
+    (c : tie.After-work) → let s = begin c in
+    Given (all s .operator) (next c) (done s (store s) .records) (s .args .area .now) (laid c)
+some c = given c (store (begin c)) (begin c .pre .0 .is)
+
+abbrev counted : tie.After-struct-known → tie.After-work
+counted c = c .before .before .before
 
 abbrev asked : tie.After-closes-window → tie.After-work
 asked c = counted (c .before)
@@ -84,8 +106,12 @@ ended c = c .before
 abbrev closing : tie.After-marker → tie.Else1
 closing c = ended c .before
 
+-- where the boundary is made, the bucket was worked
+abbrev behind : tie.After-marker → tie.After-work
+behind c = asked (closing c .before)
+
 boundary :
-    (c : tie.After-marker) → let s = begin (asked (closing c .before)) in
+    (c : tie.After-marker) → let s = begin (behind c) in
     c .marker .result ≡ marker letterB 0 (record { 0 = bucketEnd (s .args .state .settings .bucket) (s .args .state .c) })
 boundary c = c .marker .ensures ∙ ap (λ (t : ℕ). marker letterB 0 (record { 0 = t })) (ended c .bucket-end .ensures)
 
@@ -101,57 +127,57 @@ work-requires : tie.Need-work-requires
 work-requires c κs =
     let s = start c in
     let st = s .args .state in
-    let begins = stable-start-fits (st .settings .bucket) (st .c) (s .pre .3) in
-    (s .pre .0, s .pre .1, s .pre .2, start-fits (st .settings .bucket) (st .settings .window) (st .c) (some-window s) begins)
+    let begins = stable-start-fits (st .settings .bucket) (st .c) (s .pre .2) in
+    (s .pre .0, s .pre .1, start-fits (st .settings .bucket) (st .settings .window) (st .c) (some-window s) begins)
 
 sub-results : tie.Need-sub-results
-sub-results c = given (counted c) .later
+sub-results c = some (counted c) .later
 
 cast-records : tie.Need-cast-records
-cast-records c = let g = given (counted c) in omega (arith, g .count, g .few)
+cast-records c = let g = some (counted c) in omega (arith, g .count, g .few)
 
 closes-window-requires : tie.Need-closes-window-requires
 closes-window-requires c κs = omega (arith, some-window (begin (counted c)))
 
 same-length : tie.Need-same-length
-same-length c = asked (c .before) .work .kept .1 .1 .1 .1 .1 .1 .1 .1 .1 .0
+same-length c = asked (c .before) .work .kept .1 .1 .1 .1 .1 .1 .1 .1 .1 .1 .0
 
 returns : tie.Need-returns
 returns c =
     let w = asked (c .before) in
-    let s = begin w in
-    goes-on-done (s .args .state) (store s) (s .args .area .now) (w .work .result) (laid w) (given w) (w .work .ensures .0)
-    (w .work .ensures .1)
-    (goes-on c)
+    let s = begin w in (
+      w .work .ensures .0,
+      λ (x : Columns) (is : Store s x).
+          goes-on-done (all s) x (s .args .area .now) (next w) (laid w) (given w x is) (w .work .ensures .1 x is .0)
+          (w .work .ensures .1 x is .1) (goes-on c),
+    )
 
 bucket-end-requires : tie.Need-bucket-end-requires
 bucket-end-requires c κs = search needs
 
-cast-end : tie.Need-cast-t24
+cast-end : tie.Need-cast-t27
 cast-end c = search needs
 
 marker-requires : tie.Need-marker-requires
 marker-requires c κs = search needs
 
 mul-at : tie.Need-mul-at
-mul-at c = let g = given (asked (closing c .before)) in omega (arith, g .count, g .few)
+mul-at c = let g = some (behind c) in omega (arith, g .count, g .few)
 
 sub-put-record : tie.Need-sub-put-record
-sub-put-record c = omega (arith, given (asked (closing c .before)) .room)
+sub-put-record c = omega (arith, some (behind c) .room)
 
 part-put-record-start : tie.Need-part-put-record-start
-part-put-record-start c = let room = given (asked (closing c .before)) .room in search needs
+part-put-record-start c = let room = some (behind c) .room in search needs
 
 part-put-record-end : tie.Need-part-put-record-end
-part-put-record-end c = let room = given (asked (closing c .before)) .room in search needs
+part-put-record-end c = let room = some (behind c) .room in search needs
 
 put-record-requires : tie.Need-put-record-requires
-put-record-requires c κs =
-    let room = given (asked (closing (c .before) .before)) .room in
-    simp (length-take, length-drop) (omega (arith, room))
+put-record-requires c κs = simp (length-take, length-drop) (omega (arith, some (behind (c .before)) .room))
 
 add-with-boundary : tie.Need-add-with-boundary
-add-with-boundary c = let g = given (asked (closing (made (put c)) .before)) in omega (arith, g .count, g .few)
+add-with-boundary c = let g = some (behind (made (put c))) in omega (arith, g .count, g .few)
 
 same-length-2 : tie.Need-same-length-2
 same-length-2 c = search needs
@@ -160,13 +186,15 @@ returns-2 : tie.Need-returns-2
 returns-2 c =
     let p = put c in
     let m = made p in
-    let w = asked (closing m .before) in
+    let w = behind m in
     let s = begin w in
-    let at : ℕ = (w .work .result .number - s .args .state .operator .number) * recordBytes in
-    closes-done (s .args .state) (store s) (s .args .area .now) (w .work .result) (laid w) (given w) (w .work .ensures .0)
-    (w .work .ensures .1)
-    (closes (closing m)) _ (m .marker .result) (boundary m)
-    (record-lent (laid w) (p .put-record .last .0) (m .marker .result) at (p .put-record .ensures))
+    let at : ℕ = (w .work .result - s .args .state .newest) * recordBytes in (
+      w .work .ensures .0,
+      λ (x : Columns) (is : Store s x).
+          closes-done (all s) x (s .args .area .now) (next w) (laid w) (given w x is) (w .work .ensures .1 x is .0)
+          (w .work .ensures .1 x is .1) (closes (closing m)) _ (m .marker .result) (boundary m)
+          (record-lent (laid w) (p .put-record .last .0) (m .marker .result) at (p .put-record .ensures)),
+    )
 
 pub stable-records-spec : {M : Type 1} → statement M
 stable-records-spec =

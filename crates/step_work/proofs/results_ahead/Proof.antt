@@ -7,25 +7,22 @@ use borrow.Author.Needs.{needs}
 use borrow.Author.Tests.{not-true, not-false}
 use lib.ListN.{length}
 use Rattle.clock.specs.Windows.{closesWindow}
-use Rattle.store.specs.Columns.{Columns, columnsOf}
-use Rattle.operator.specs.Meters.{meterCount}
+use Rattle.operator.specs.Loaded.{operatorOf}
 use Rattle.operator.specs.Work.{Worked}
-use Rattle.operator.proofs.FromPlace.{length-mapped}
+use Rattle.node.specs.Held.{Held, arraysOf, held}
 use Rattle.node.proofs.Limits.{limits-hold}
 use Rattle.node.proofs.Shape.{state-facts}
-use Rattle.step_work.proofs.Closing.{window-closed, nothing-given, few-results}
+use Rattle.step_work.proofs.Closing.{window-closed, nothing-given, few-closed}
 use Rattle.step_work.proofs.results_ahead.Statement.{statement}
 use Rattle.step_work.proofs.results_ahead.Tie as tie
 
 -- ---- where the function begins, and the window's test
 
-abbrev store : tie.Start → Columns
-store s =
-    columnsOf (s .args .ids .now) (s .args .times .now) (s .args .values .now) (s .args .arrivals .now) (s .args .kinds .now)
-    (s .args .meters .now)
+abbrev all : tie.Start → Held
+all s = held (s .args .state) (arraysOf (s .args .counts .now) (s .args .sums .now) (s .args .lasts .now) (s .args .heads .now))
 
 abbrev start : tie.After-settings → tie.Start
-start c = c .before .before .before .before .before .before
+start c = c .before .before .before
 
 abbrev begin : tie.After-closes-window → tie.Start
 begin c = start (c .before)
@@ -40,19 +37,16 @@ closes e = sym (e .before .closes-window .ensures) ∙ not-false _ (e .if1 .left
 abbrev closing : tie.After-added → tie.Else1
 closing c = c .before
 
-all-meters : (c : tie.After-added) → length (c .added .result .meters) ≡ meterCount
-all-meters c = search (needs, length-mapped)
-
 -- ---- the needs
 
 closes-window-requires : tie.Need-closes-window-requires
 closes-window-requires c κs =
     let s = start c in
-    omega (arith, limits-hold (s .args .state .settings) (state-facts (s .args .state) (store s) (s .pre .1) .limits) .someWindow)
+    let shape = state-facts (all s) (s .pre .store) (s .pre .is .shape) in
+    omega (arith, limits-hold (s .args .state .settings) (shape .limits) .someWindow)
 
 returns : tie.Need-returns
-returns c kind =
-    let s = begin (c .before) in ap length (sym (nothing-given (s .args .state) (store s) kind (s .args .j) (goes-on c)))
+returns c x is kind = let s = begin (c .before) in ap length (sym (nothing-given (all s) x kind (s .args .j) (goes-on c)))
 
 added-requires : tie.Need-added-requires
 added-requires c κs = search needs
@@ -67,16 +61,16 @@ cast-result c =
     omega (
       arith,
       c .results-ahead .ensures (s .args .state .settings) 0 (s .args .j),
-      few-results (s .args .state) 0 (s .args .j) (a .added .result) (all-meters a),
+      few-closed (s .args .state .settings) 0 (s .args .j) (a .added .result),
     )
 
 returns-2 : tie.Need-returns-2
-returns-2 c kind =
+returns-2 c x is kind =
     let a = c .before in
     let s = begin (closing a .before) in
     c .results-ahead .ensures (s .args .state .settings) kind (s .args .j) ∙
     sym (ap (λ (w : Worked). length (w .records))
-    (window-closed (s .args .state) (store s) (s .args .j) (a .added .result) (a .added .ensures .0) kind (closes (closing a))))
+    (window-closed (all s) x (s .args .j) (operatorOf (a .added .result)) (a .added .ensures .1 x is) kind (closes (closing a))))
 
 pub results-ahead-spec : {M : Type 1} → statement M
 results-ahead-spec =

@@ -41,19 +41,19 @@ fn spoiled_heat(number: usize, heats: &[MeterHeat], base: u64) -> (u64, Vec<Mete
 pub(super) fn of_box(number: usize, question: &BoxQuestion) -> String {
     let state = &question.host.state;
     let mut text = format!("-- {}, c {}\n", state.word.name(), state.c);
-    let lent = format!("box-{number}");
-    let columns = question.columns.literal();
-    let body = format!(
-        "record {{ state = {}; lent = lentOf ({columns}) [] }}",
+    let (arrays, columns) = (format!("arrays-{number}"), format!("columns-{number}"));
+    text += &definition(&arrays, "Arrays", &value::arrays(state));
+    text += &definition(&columns, "Columns", &question.columns.literal());
+    let handed = format!(
+        "state = {}; arrays = {arrays}; lent = lentOf {columns} []",
         value::state(state)
     );
-    text += &definition(&lent, "Box", &body);
     let mut ask = |name: &str, open: &[MeterHeat], kept: &[MeterHeat], parts: &str| {
         let (open, kept) = (meter_heats(open), meter_heats(kept));
         let case = format!("{name}-case-{number}");
-        let body = format!("record {{ box = {lent}; openDue = {open}; keptDue = {kept} }}");
+        let body = format!("record {{ {handed}; openDue = {open}; keptDue = {kept} }}");
         text += &definition(&case, "BoxCase", &body);
-        text += &format!("{name}-{number} : onBox {case} ≡ {parts}\nunfolding onBoxQuickly\n{name}-{number} = by-rows {case} ({parts}) refl\n\n");
+        text += &format!("{name}-{number} : onHeats {case} ≡ {parts}\nunfolding onHeatsQuickly\n{name}-{number} = by-rows {case} ({parts}) refl\n\n");
     };
     ask("heat", &question.open, &question.kept, "[]");
     if number.is_multiple_of(4) {

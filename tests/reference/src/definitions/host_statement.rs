@@ -23,7 +23,8 @@ const OPENING_PLACES: usize = 6;
 fn lent(number: usize, question: &HostQuestion) -> String {
     let loan = &question.loan;
     let name = |part: &str| format!("{part}-{number}");
-    definition(&name("columns"), "Columns", &loan.columns.literal())
+    definition(&name("arrays"), "Arrays", &value::arrays(&loan.state))
+        + &definition(&name("columns"), "Columns", &loan.columns.literal())
         + &definition(&name("places"), "ℕ", &sent::places(&loan.sent))
         + &definition(&name("area"), "List ℕ", &bytes(&loan.area))
 }
@@ -45,7 +46,7 @@ fn due(number: usize, question: &HostQuestion, left: &Left, most: usize) -> Stri
         "record {{ answer = {}; records = {}; state = {}; columns = {columns}; places = {}; behind = {}; area = {area} }}",
         left.answer,
         left.records,
-        value::state(&after.state),
+        value::held(&after.state),
         sent::due(number, question, left, most),
         sent::behind(&after.sent),
     )
@@ -69,7 +70,7 @@ fn input(number: usize, question: &HostQuestion) -> String {
 fn asked(number: usize, question: &HostQuestion, left: &Left, name: &str, parts: &str) -> String {
     let (loan, case) = (&question.loan, format!("{name}-case-{number}"));
     let common = format!(
-        "state = {}; columns = columns-{number}; input = {}; left = {}",
+        "state = {}; arrays = arrays-{number}; columns = columns-{number}; input = {}; left = {}",
         value::state(&loan.state),
         input(number, question),
         due(number, question, left, CALL_PLACES),
@@ -112,12 +113,12 @@ pub(super) fn of_call(number: usize, question: &HostQuestion) -> String {
 }
 
 /// A wrong answer, with the number of the part in which it is wrong: a comparison must find it. Of the
-/// eleven, the first two are for an opening too.
+/// twelve, the first two are for an opening too.
 fn spoiled(number: usize, left: &Left) -> Option<(u64, Left)> {
     let mut left = left.clone();
     let loan = &mut left.loan;
     let Columns { ids, meters, .. } = &mut loan.columns;
-    let part = match number % 11 {
+    let part = match number % 12 {
         0 => {
             *loan.sent.iter_mut().take(SENT_BYTES).last()? ^= 1;
             21
@@ -158,9 +159,13 @@ fn spoiled(number: usize, left: &Left) -> Option<(u64, Left)> {
             *ids.last_mut()? ^= 1;
             13
         }
-        _ => {
+        10 => {
             meters.pop()?;
             18
+        }
+        _ => {
+            loan.state.operator.meters[0].sum ^= 1;
+            9
         }
     };
     Some((part, left))
@@ -176,7 +181,7 @@ pub(super) fn of_opening(number: usize, question: &HostQuestion) -> String {
     };
     let body = |left: &Left| {
         format!(
-            "record {{ state = {}; columns = columns-{number}; sent = {store}; text = {}; left = {} }}",
+            "record {{ state = {}; arrays = arrays-{number}; columns = columns-{number}; sent = {store}; text = {}; left = {} }}",
             value::state(&loan.state),
             bytes(&question.text),
             due(number, question, left, OPENING_PLACES),
@@ -188,7 +193,7 @@ pub(super) fn of_opening(number: usize, question: &HostQuestion) -> String {
         let (case, name) = (format!("{name}-case-{number}"), format!("{name}-{number}"));
         text += &definition(&case, "OpeningCase", &body(left));
         text +=
-            &format!("{name} : onOpening {case} ≡ {parts}\nunfolding onOpening\n{name} = refl\n\n");
+            &format!("{name} : onOpening {case} ≡ {parts}\nunfolding onOpeningQuickly\n{name} = by-arrays {case} ({parts}) refl\n\n");
     };
     ask("opening", &question.left, "[]");
     let wrong = spoiled(number / OPENING_CONTROLS % 2, &question.left);

@@ -37,6 +37,12 @@ pub(super) fn signed_words(list: &[i32]) -> String {
     self::list("signedWords", &elements, 8)
 }
 
+/// A list of signed 64-bit numbers.
+pub(super) fn signed_longs(list: &[i64]) -> String {
+    let elements: Vec<u128> = list.iter().map(|&long| u128::from(long as u64)).collect();
+    self::list("signedLongs", &elements, 16)
+}
+
 /// A signed number.
 pub(super) fn integer(number: impl Into<i128>) -> String {
     let number = number.into();
@@ -58,7 +64,7 @@ pub(super) fn spelled_list(numbers: &[u64]) -> String {
 
 #[cfg(test)]
 mod tests {
-    use super::{bytes, integer, packed, signed_words};
+    use super::{bytes, integer, packed, signed_longs, signed_words};
 
     #[test]
     fn packing() {
@@ -66,6 +72,7 @@ mod tests {
         assert_eq!(packed(&[], 8), "0");
         assert_eq!(bytes(&[0, 0]), "bytes 2 0");
         assert_eq!(signed_words(&[-1, 1]), "signedWords 2 0x1ffffffff");
+        assert_eq!(signed_longs(&[-2, 0]), "signedLongs 2 0xfffffffffffffffe");
         assert_eq!(integer(-1), "negsuc 0");
         assert_eq!(integer(i64::MIN), "negsuc 9223372036854775807");
         assert_eq!(integer(0), "pos 0");

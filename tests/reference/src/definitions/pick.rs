@@ -3,10 +3,10 @@
 
 use super::columns::Columns;
 use super::question::{HostQuestion, Loan, NodeQuestion};
-use super::tally::{Tally, DISPLAY_SORTS, JOURNAL_SORTS};
+use super::tally::{Tally, DISPLAY_SORTS, JOURNAL_SORTS, OPENING_SORTS};
 use super::texts::settings_text;
-use crate::generate::{aimed_display_call, fitting_call, host_case, host_state, input_for};
-use crate::generate::{spoil_call, Host, HostCase, Kind, Random};
+use crate::generate::{aimed_display_call, edge_case, edges, fitting_call, host_case, host_state};
+use crate::generate::{input_for, spoil_call, Edge, Host, HostCase, Kind, Random};
 use crate::node::{bucket_of, make, open, Input, Lent, Reading, State, Store};
 use crate::node::{LINES, SENT_BYTES, SHARE};
 use crate::playback::Mode;
@@ -106,6 +106,57 @@ pub(super) fn display_calls(
         questions.extend(question.filter(|asked| tally.takes(asked.sort, count, DISPLAY_SORTS)));
     }
     questions
+}
+
+/// Host-made calls on states at the edges of the lent arrays, one edge after the other from some edge
+/// on; enough calls have all.
+pub(super) fn edge_calls(
+    random: &mut Random,
+    count: usize,
+    tally: &mut Tally,
+) -> Vec<HostQuestion> {
+    let edges = edges();
+    let start = random.below(edges.len() as u64) as usize;
+    let mut questions = Vec::new();
+    for &edge in edges.iter().cycle().skip(start).take(count) {
+        let question = edge_question(random, edge);
+        tally.note(question.sort);
+        questions.push(question);
+    }
+    if count >= edges.len() {
+        let missing = missing_edges(&questions);
+        assert!(missing.is_empty(), "no call at {missing:?}");
+    }
+    questions
+}
+
+/// A call at an edge, with no short store, so that refusal 4 is not passed by; most often on few lines,
+/// which antt reads quickly.
+fn edge_question(random: &mut Random, edge: Edge) -> HostQuestion {
+    loop {
+        let cases = [(); 3].map(|()| edge_case(random, edge));
+        let least = cases
+            .into_iter()
+            .min_by_key(|case| case.host.lent.store.len());
+        let question = least.and_then(|case| host_question(random, case));
+        if let Some(mut question) = question {
+            if question.left.answer != Refusal::StoreShort as u32 {
+                question.sort = edge.name();
+                return question;
+            }
+        }
+    }
+}
+
+/// The edges that no question's state is at with the answer that is due there.
+fn missing_edges(questions: &[HostQuestion]) -> Vec<Edge> {
+    let is_asked = |edge: &Edge| {
+        questions.iter().any(|asked| {
+            let shapeless = asked.left.answer == Refusal::OutOfShape as u32;
+            edge.is_in(&asked.loan.state) && shapeless == edge.refusal().is_some()
+        })
+    };
+    edges().into_iter().filter(|edge| !is_asked(edge)).collect()
 }
 
 /// A journal's settings line and its other lines.
@@ -266,10 +317,10 @@ fn play_nodes(
     }
 }
 
-/// Openings with texts and stores of every kind.
+/// Openings with texts and stores of every kind, no sort far above the others.
 pub(super) fn openings(random: &mut Random, count: usize, tally: &mut Tally) -> Vec<HostQuestion> {
     let mut questions = Vec::new();
-    for _ in 0..count {
+    while questions.len() < count {
         let host = host_state(random);
         let text = settings_text(random);
         let lines = read_settings(&text).map_or(2, |settings| settings.lines);
@@ -297,8 +348,28 @@ pub(super) fn openings(random: &mut Random, count: usize, tally: &mut Tally) -> 
             area: Vec::new(),
         };
         let question = HostQuestion::of_opening(loan, text);
-        tally.note(question.sort);
-        questions.push(question);
+        if tally.takes(question.sort, count, OPENING_SORTS) {
+            questions.push(question);
+        }
     }
     questions
+}
+
+#[cfg(test)]
+mod tests {
+    use super::*;
+
+    /// As many calls as there are edges are at each of them; without those that are refused, every edge
+    /// past a bound is missing.
+    #[test]
+    fn every_edge_is_asked() {
+        for seed in 0..5 {
+            let (mut random, mut tally) = (Random::new(seed), Tally::default());
+            let mut questions = edge_calls(&mut random, edges().len(), &mut tally);
+            assert_eq!(missing_edges(&questions), []);
+            questions.retain(|asked| asked.left.answer != Refusal::OutOfShape as u32);
+            let past = edges().into_iter().filter(|edge| edge.refusal().is_some());
+            assert_eq!(missing_edges(&questions), past.collect::<Vec<Edge>>());
+        }
+    }
 }

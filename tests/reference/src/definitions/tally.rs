@@ -11,6 +11,8 @@ use crate::text::{Call, DisplayCall, Wish, BOUNDARY, DONE, STABLE, TENTATIVE, UN
 pub(super) const JOURNAL_SORTS: usize = 26;
 /// The sorts of a display's calls of either kind: refusals 3, 4, 5, 16, 17, and three accepted.
 pub(super) const DISPLAY_SORTS: usize = 8;
+/// The sorts of openings: accepted, refusals 1 to 3.
+pub(super) const OPENING_SORTS: usize = 4;
 
 /// How many cases there are of each sort.
 #[derive(Clone, Debug, Default)]

@@ -1,7 +1,7 @@
 //! States, nodes, calls and records in antt's writing.
 
-use super::literal::{integer, list, spelled_list};
-use crate::node::{Head, Operator, Reading, State, Word, SHARE};
+use super::literal::{integer, list, signed_longs, signed_words, spelled_list, words};
+use crate::node::{Head, Meter, Operator, Reading, State, Word, SHARE};
 use crate::record::Record;
 use crate::text::{Call, Settings};
 
@@ -53,7 +53,7 @@ fn heads(heads: &[Head]) -> String {
     list("heads", &packed, 32)
 }
 
-/// The fields that a state and a node have alike.
+/// The fields that what is held and a node have alike.
 fn common(state: &State) -> String {
     format!(
         "operator = {}; checkpoint = {}; clock = record {{ 0 = {} }}; c = {}; p = {}; phase = {}",
@@ -66,7 +66,53 @@ fn common(state: &State) -> String {
     )
 }
 
+/// A state as its host hands it over: what is no array.
 pub(super) fn state(state: &State) -> String {
+    format!(
+        "record {{ settings = {}; clock = record {{ 0 = {} }}; c = {}; p = {}; phase = {}; newest = {}; «last_stable» = {}; acknowledged = {} }}",
+        settings(&state.settings),
+        state.clock,
+        state.c,
+        state.p,
+        phase(state.word),
+        state.operator.newest,
+        state.checkpoint.newest,
+        spelled_list(&state.acknowledged),
+    )
+}
+
+/// The arrays that its host lends with a state: the rows of the operator and of the checkpoint, and the
+/// numbers of the heads.
+pub(super) fn arrays(state: &State) -> String {
+    let rows = |row: fn(&[Meter]) -> String| {
+        let [operator, checkpoint] = [&state.operator, &state.checkpoint];
+        format!(
+            "({} ∷ {} ∷ [])",
+            row(&operator.meters),
+            row(&checkpoint.meters)
+        )
+    };
+    let counts = |meters: &[Meter]| words(&column(meters, |meter| meter.count));
+    let sums = |meters: &[Meter]| signed_longs(&column(meters, |meter| meter.sum));
+    let lasts = |meters: &[Meter]| signed_words(&column(meters, |meter| meter.last));
+    let numbers = |head: &Head| [head.boundary, head.last_id, head.last_stable_id, head.kept];
+    let heads: Vec<u32> = state.heads.iter().flat_map(numbers).collect();
+    format!(
+        "arraysOf {} {} {} ({})",
+        rows(counts),
+        rows(sums),
+        rows(lasts),
+        words(&heads),
+    )
+}
+
+/// One number of each meter.
+fn column<T>(meters: &[Meter], number: fn(&Meter) -> T) -> Vec<T> {
+    meters.iter().map(number).collect()
+}
+
+/// What a state and its arrays hold, as the definitions have it.
+pub(super) fn held(state: &State) -> String {
     format!(
         "record {{ {}; acknowledged = {}; heads = {}; settings = {} }}",
         common(state),

@@ -20,9 +20,10 @@ use crate::text::Wish;
 const FILE_CASES: usize = 100;
 
 /// The hand-written files: names and texts.
-const LAWS: [(&str, &str); 8] = [
+const LAWS: [(&str, &str); 9] = [
     ("Packed", include_str!("laws/Packed.antt.txt")),
     ("Rows", include_str!("laws/Rows.antt.txt")),
+    ("Arrays", include_str!("laws/Arrays.antt.txt")),
     ("Ring", include_str!("laws/Ring.antt.txt")),
     ("Stores", include_str!("laws/Stores.antt.txt")),
     ("Quick", include_str!("laws/Quick.antt.txt")),
@@ -75,6 +76,9 @@ fn sets(seed: u64, count: usize) -> Vec<Set> {
     vec![
         set(("host-made calls", "Host"), call, |tally| {
             pick::host_calls(random, host, tally)
+        }),
+        set(("calls at the arrays' edges", "Edge"), call, |tally| {
+            pick::edge_calls(random, host, tally)
         }),
         set(("journal calls", "Journal"), call, |tally| {
             pick::journal_calls(random, count / 3, tally)

@@ -2,6 +2,7 @@
 
 use super::aim::{fitting_call, spoil_call};
 use super::display::aimed_display_call;
+use super::host_edge::{edges, Edge};
 use super::host_fault::break_shape;
 use super::host_sent::fill_sent;
 use super::malformed::spoil_text;
@@ -49,9 +50,35 @@ impl HostCase {
     }
 }
 
-/// A host-made call; about every third state or store is broken in one place.
+/// A host-made call; about every third state or store is broken in one place, and some are at an edge
+/// of the lent arrays.
 pub fn host_case(random: &mut Random) -> HostCase {
+    if random.once_in(10) {
+        let edge = random.pick(&edges());
+        return edge_case(random, edge);
+    }
+    let host = host_state(random);
+    let mut case = case_on(random, host);
+    if random.once_in(3) {
+        case.fault = Some(break_shape(random, &mut case.host));
+    }
+    case
+}
+
+/// A host-made call on a state at an edge of the lent arrays and otherwise in shape.
+pub fn edge_case(random: &mut Random, edge: Edge) -> HostCase {
     let mut host = host_state(random);
+    while !edge.put(random, &mut host) {
+        host = host_state(random);
+    }
+    HostCase {
+        fault: edge.refusal(),
+        ..case_on(random, host)
+    }
+}
+
+/// A call on a state and stores, most often one that fits them.
+fn case_on(random: &mut Random, host: Host) -> HostCase {
     let mut call = fitting_call(random, &host.state, &host.lent.store);
     for _ in 0..random.pick(&[0, 0, 0, 0, 1, 2]) {
         spoil_call(random, &host.state, &host.lent.store, &mut call);
@@ -68,17 +95,12 @@ pub fn host_case(random: &mut Random) -> HostCase {
         1 => AREA_BYTES + random.below(100) as usize,
         _ => AREA_BYTES,
     };
-    let area = (0..length).map(|_| random.bits() as u8).collect();
-    let mut fault = None;
-    if random.once_in(3) {
-        fault = Some(break_shape(random, &mut host));
-    }
     HostCase {
         host,
         text,
         display,
-        area,
-        fault,
+        area: (0..length).map(|_| random.bits() as u8).collect(),
+        fault: None,
     }
 }
 
@@ -253,7 +275,7 @@ fn some_head(random: &mut Random, state: &State, stable: bool) -> Head {
 }
 
 /// Readings with rising ids, about the buckets that matter and in no order of times.
-fn fill_share(random: &mut Random, state: &State, share: &mut [Reading]) {
+pub(super) fn fill_share(random: &mut Random, state: &State, share: &mut [Reading]) {
     let count = share.len() as u64;
     let any = random.below(1 << 31);
     let start = random.pick(&[0, 1, u64::from(u32::MAX) + 1 - count, any]);

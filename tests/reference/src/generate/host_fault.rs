@@ -205,9 +205,10 @@ fn newest_numbering(random: &mut Random, host: &mut Host) -> Option<Refusal> {
     SHAPE
 }
 
-/// Some meter of the operator or of the checkpoint.
+/// Some meter of the operator or of the checkpoint, often the first or the last.
 fn some_meter<'a>(random: &mut Random, host: &'a mut Host) -> &'a mut Meter {
-    let number = random.below(64) as usize;
+    let any = random.below(64) as usize;
+    let number = random.pick(&[0, 63, any, any]);
     if random.once_in(2) {
         &mut host.state.operator.meters[number]
     } else {

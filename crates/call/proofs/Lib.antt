@@ -1,0 +1,2 @@
+-- Laws on a call's answer.
+pub mod Accepted

@@ -1,0 +1,2 @@
+-- Tests of the lent meters.
+pub mod Places

@@ -1,0 +1,149 @@
+// Refusal 4's bounds over the meters of operator and checkpoint.
+ghost use mathlib.Core.Path.{_≡_};
+ghost use mathlib.Core.Bool.{_&&_};
+ghost use mathlib.Core.List.{List};
+ghost use Prim.Native.Nat.{_<_, _^_};
+ghost use lib.Dec.{ltb};
+ghost use lib.IntN.{ℤ};
+ghost use Rattle.store.specs.Lists.{allOf};
+ghost use Rattle.operator_meter.specs.Bounds.{meterOk};
+ghost use Rattle.operator.specs.Meters.{meterCount};
+ghost use Rattle.operator_rows.specs.Rows.{Rows, rowsOf, operatorRow, checkpointRow, metersIn};
+ghost use Rattle.operator_bounds.specs.Places.{allBelow, countsZeroAt, sumsZeroAt, countsEqualAt, sumsEqualAt};
+ghost use Rattle.operator_bounds.specs.Places.{rowsEmpty, rowsEqual};
+use operator::METERS;
+use operator_rows::CHECKPOINT;
+use operator_rows::OPERATOR;
+use operator_rows::ROWS;
+
+// What a word's highest bit counts.
+const HIGHEST_BIT: u64 = 9_223_372_036_854_775_808;
+
+// A word whose highest bit is clear exactly if a meter with this count and sum is within its bounds: it is set in the first part where the
+// count is over its limit, in the second where the sum is below the lowest of so many values, in the third where it is above the highest.
+// No branch, so that the compiler takes meters side by side.
+fn beyond(count: u32, sum: i64) -> u64
+    ensures { λ r. ⌜ ((last : ℤ) → ltb r (2 ^ 63) ≡ meterOk (record { sum = sum; count = count; last = last })) ⌝ }
+{
+    let n = count as u64;
+    let bits = signed::bits64(sum);
+    let left = std::num::wrapping_sub_u64(operator_meter::COUNT_LIMIT as u64, n);
+    let above_lowest = std::num::wrapping_add_u64(2_147_483_648 * n, bits);
+    let below_highest = std::num::wrapping_sub_u64(2_147_483_647 * n, bits);
+    left | (above_lowest | below_highest)
+}
+
+// Whether every meter of a row is within its bounds. Every one is looked at, so that the loop has no way out but its end.
+fn is_row_within_bounds(
+    counts: &[[u32; METERS]; ROWS],
+    sums: &[[i64; METERS]; ROWS],
+    row: usize,
+) -> bool
+    requires { ⌜ row < 2 ⌝ }
+    ensures { λ r. ⌜ ((lasts : List (List ℤ)) → (let rows : Rows = rowsOf (now (counts .entry)) (now (sums .entry)) lasts in
+        r ≡ allOf meterOk (metersIn row rows))) ⌝ }
+{
+    let mut all = 0u64;
+    let mut i = 0usize;
+    while i < METERS {
+        let sum = sums[row][i];
+        all = all | beyond(counts[row][i], sum);
+        i = i + 1;
+    }
+    all < HIGHEST_BIT
+}
+
+// Whether every count of both rows is 0. Counts and sums have a loop each, without a way out but its end, so that the compiler takes as
+// many places side by side as their width allows.
+fn are_counts_zero(counts: &[[u32; METERS]; ROWS]) -> bool
+    ensures { λ r. ⌜ r ≡ allBelow (countsZeroAt (now (counts .entry))) meterCount ⌝ }
+{
+    let mut any = 0u32;
+    let mut place = 0usize;
+    while place < METERS {
+        any = any | (counts[OPERATOR][place] | counts[CHECKPOINT][place]);
+        place = place + 1;
+    }
+    any == 0
+}
+
+// Whether every sum of both rows is 0.
+fn are_sums_zero(sums: &[[i64; METERS]; ROWS]) -> bool
+    ensures { λ r. ⌜ r ≡ allBelow (sumsZeroAt (now (sums .entry))) meterCount ⌝ }
+{
+    let mut any = 0u64;
+    let mut place = 0usize;
+    while place < METERS {
+        let first = sums[OPERATOR][place];
+        let second = sums[CHECKPOINT][place];
+        any = any | (signed::bits64(first) | signed::bits64(second));
+        place = place + 1;
+    }
+    any == 0
+}
+
+// Whether the checkpoint's counts are the operator's.
+fn are_counts_equal(counts: &[[u32; METERS]; ROWS]) -> bool
+    ensures { λ r. ⌜ r ≡ allBelow (countsEqualAt (now (counts .entry))) meterCount ⌝ }
+{
+    let mut apart = 0u32;
+    let mut place = 0usize;
+    while place < METERS {
+        apart = apart | (counts[OPERATOR][place] ^ counts[CHECKPOINT][place]);
+        place = place + 1;
+    }
+    apart == 0
+}
+
+// Whether the checkpoint's sums are the operator's.
+fn are_sums_equal(sums: &[[i64; METERS]; ROWS]) -> bool
+    ensures { λ r. ⌜ r ≡ allBelow (sumsEqualAt (now (sums .entry))) meterCount ⌝ }
+{
+    let mut apart = 0u64;
+    let mut place = 0usize;
+    while place < METERS {
+        let first = sums[OPERATOR][place];
+        let second = sums[CHECKPOINT][place];
+        apart = apart | (signed::bits64(first) ^ signed::bits64(second));
+        place = place + 1;
+    }
+    apart == 0
+}
+
+// Whether no meter of operator and checkpoint has a count or a sum, as between windows.
+fn are_rows_empty(counts: &[[u32; METERS]; ROWS], sums: &[[i64; METERS]; ROWS]) -> bool
+    ensures { λ r. ⌜ r ≡ rowsEmpty (now (counts .entry)) (now (sums .entry)) ⌝ }
+{
+    if !are_counts_zero(counts) {
+        return false;
+    }
+    are_sums_zero(sums)
+}
+
+// Whether counts and sums of the checkpoint are the operator's, as while no tentative work is out.
+fn are_rows_equal(counts: &[[u32; METERS]; ROWS], sums: &[[i64; METERS]; ROWS]) -> bool
+    ensures { λ r. ⌜ r ≡ rowsEqual (now (counts .entry)) (now (sums .entry)) ⌝ }
+{
+    if !are_counts_equal(counts) {
+        return false;
+    }
+    are_sums_equal(sums)
+}
+
+// Whether every meter of operator and checkpoint is within its bounds. Empty rows are; and where the operator's row is, a checkpoint equal
+// to it needs no look.
+pub fn are_within_bounds(counts: &[[u32; METERS]; ROWS], sums: &[[i64; METERS]; ROWS]) -> bool
+    ensures { λ r. ⌜ ((lasts : List (List ℤ)) → (let rows : Rows = rowsOf (now (counts .entry)) (now (sums .entry)) lasts in
+        r ≡ (allOf meterOk (metersIn operatorRow rows) && allOf meterOk (metersIn checkpointRow rows)))) ⌝ }
+{
+    if are_rows_empty(counts, sums) {
+        return true;
+    }
+    if !is_row_within_bounds(counts, sums, OPERATOR) {
+        return false;
+    }
+    if are_rows_equal(counts, sums) {
+        return true;
+    }
+    is_row_within_bounds(counts, sums, CHECKPOINT)
+}

@@ -1,3 +1,0 @@
--- Laws on readings added in one pass.
-pub mod Pass
-pub mod Turns

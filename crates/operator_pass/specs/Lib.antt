@@ -1,2 +1,0 @@
--- Definitions on readings added in one pass.
-pub mod Pass

@@ -1,0 +1,2 @@
+-- The meters of operator and checkpoint as they are lent.
+pub mod Rows

@@ -1,0 +1,2 @@
+-- The store that a bucket is worked from.
+pub mod Stores
