@@ -17,11 +17,11 @@ use Rattle.consistency.specs.Accounts.{Account}
 use Rattle.consistency.specs.Demand.{isOpened, settingsIn, accountOf, failureFreeRecords, failureFreeBytes}
 use Rattle.consistency.specs.SentBack.{lastIn, leastIn, newestIn, placeIn, Stored, FetchedFrom, Quiet, IsStep, LacksPlaces, boxAfter}
 use Rattle.consistency.proofs.SentBack.{sentBack}
 use Rattle.consistency_examples.specs.Given.{bytesIn, storeOf, call}
-use Rattle.consistency_examples.specs.SentBack.{handed, worked, first, second, third, acknowledges, fetches, two, one, late, then, sent}
-use Rattle.consistency_examples.specs.SentBack.{readingsIn, readingsTo, crowded, step, Resent}
+use Rattle.retransmission_examples.specs.SentBack.{handed, worked, first, second, third, acknowledges, fetches, two, one, late, then, sent}
+use Rattle.retransmission_examples.specs.SentBack.{readingsIn, readingsTo, crowded, step, Resent}
 use Rattle.consistency_examples.proofs.Surely.{surely, ran, box-is, account-is, call-is}
 use Rattle.consistency_examples.proofs.Computed.{ranFrom}
 
 opened : isOpened handed
 unfolding bytesIn storeOf handed isOpened ranFrom

@@ -1,0 +1,2 @@
+-- That run computed, and the theorem applied to it.
+pub mod SentBack
