@@ -18,8 +18,8 @@ use Rattle.consistency.specs.Demand.{opening, boxOf}
 use Rattle.consistency.proofs.Runs.{left-append}
 use Rattle.playback_dispatch.specs.Dispatch.{isBehind, caughtUp, allCaughtUp, followed, commanded, dispatched}
 use Rattle.playback_cursor.specs.Cut.{textAt}
-use Rattle.playback.specs.declared.Started.{Started}
-use Rattle.playback.specs.Start.{Begun}
+use Rattle.playback_start.specs.declared.Started.{Started}
+use Rattle.playback_start.specs.Start.{Begun}
 use Rattle.playback.specs.Run.{Standing, standing, Turn, Turns, PlayedOut, zeroedStores, handedWith, Reached, Finished}
 
 -- ---- no call, one, and one list behind another

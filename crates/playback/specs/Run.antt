@@ -20,9 +20,9 @@ use Rattle.consistency.specs.Demand.{Handed, boxOf}
 use Rattle.playback_dispatch.specs.Dispatch.{dispatched}
 use Rattle.playback_cursor.specs.declared.Cursor.{Cursor}
 use Rattle.playback_cursor.specs.Cut.{textAt}
-use Rattle.playback.specs.declared.Started.{Started}
-use Rattle.playback.specs.Start.{Begun}
-use Rattle.playback.specs.Turn.{Turned}
+use Rattle.playback_start.specs.declared.Started.{Started}
+use Rattle.playback_start.specs.Start.{Begun}
+use Rattle.playback_turn.specs.Turn.{Turned}
 
 -- ---- turns
 

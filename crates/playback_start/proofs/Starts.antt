@@ -19,9 +19,9 @@ use Rattle.node.specs.Opening.{Opened, closedState, openedOn}
 use Rattle.playback_reply.specs.Reply.{openingText, longestReply}
 use Rattle.playback_cursor.specs.declared.Cursor.{Cursor}
 use Rattle.playback_cursor.specs.Cut.{holdsLine, part, textAt, allRead, Ready, Unplayed, over, failed, endless, Fetched, Followed}
-use Rattle.playback.specs.declared.Played.{Played}
-use Rattle.playback.specs.Replied.{Answered}
-use Rattle.playback.specs.Start.{lastIf, Begun}
+use Rattle.playback_start.specs.declared.Played.{Played}
+use Rattle.playback_start.specs.Answered.{Answered}
+use Rattle.playback_start.specs.Start.{lastIf, Begun}
 
 -- ---- the first text
 

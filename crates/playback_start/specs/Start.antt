@@ -12,7 +12,7 @@ use Rattle.node.specs.Opening.{closedState, openedOn}
 use Rattle.playback_reply.specs.Reply.{openingText}
 use Rattle.playback_cursor.specs.declared.Cursor.{Cursor}
 use Rattle.playback_cursor.specs.Cut.{textAt, allRead, Fetched, Followed}
-use Rattle.playback.specs.declared.Started.{Started}
+use Rattle.playback_start.specs.declared.Started.{Started}
 
 -- the cursor, whose text is the last one too if this holds
 abbrev pub lastIf : Bool → Cursor → Cursor

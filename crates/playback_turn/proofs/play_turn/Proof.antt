@@ -1,4 +1,4 @@
--- `playback::play_turn` meets its contract: the text lies within the buffer and its reply has room in the output; what comes out is put
+-- `playback_turn::play_turn` meets its contract: the text lies within the buffer and its reply has room in the output; what comes out is put
 -- together from what the parts ensure.
 use native.Mathlib.Omega.{arith}
 use borrow.Author.Needs.{needs}
@@ -14,10 +14,10 @@ use Rattle.node.specs.Calls.{Called}
 use Rattle.playback_dispatch.specs.Dispatch.{dispatched}
 use Rattle.playback_cursor.specs.Cut.{Ready, replied}
 use Rattle.playback_cursor.proofs.Cuts.{length-part}
-use Rattle.playback.proofs.Fronts.{ready-replied}
-use Rattle.playback.proofs.Turns.{turned}
-use Rattle.playback.proofs.play_turn.Statement.{statement}
-use Rattle.playback.proofs.play_turn.Tie as tie
+use Rattle.playback_start.proofs.Fronts.{ready-replied}
+use Rattle.playback_turn.proofs.Turns.{turned}
+use Rattle.playback_turn.proofs.play_turn.Statement.{statement}
+use Rattle.playback_turn.proofs.play_turn.Tie as tie
 
 -- ---- the places, each named by the one that it goes back to
 

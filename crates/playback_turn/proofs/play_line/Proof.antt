@@ -1,4 +1,4 @@
--- `playback::play_line` meets its contract: what the call leaves is handed on, and its reply stands in front of the output.
+-- `playback_turn::play_line` meets its contract: what the call leaves is handed on, and its reply stands in front of the output.
 use native.Mathlib.Omega.{arith}
 use borrow.Author.Needs.{needs}
 use mathlib.Core.Path.{_≡_, ap, _∙_}
@@ -15,8 +15,8 @@ use Rattle.node.proofs.Few.{Fewest}
 use Rattle.playback_dispatch.specs.Dispatch.{dispatched}
 use Rattle.playback_dispatch.proofs.Few.{dispatched-few}
 use Rattle.playback_reply.specs.Reply.{replyText}
-use Rattle.playback.proofs.play_line.Statement.{statement}
-use Rattle.playback.proofs.play_line.Tie as tie
+use Rattle.playback_turn.proofs.play_line.Statement.{statement}
+use Rattle.playback_turn.proofs.play_line.Tie as tie
 
 -- ---- what is known at the places on the way; each place names the one that it goes back to
 

@@ -15,7 +15,7 @@ use Rattle.playback_reply.specs.Put.{PutInFront}
 use Rattle.playback_cursor.specs.declared.Cursor.{Cursor}
 use Rattle.playback_cursor.specs.Cut.{part, textAt, replied, Stands, Ready, Lies}
 use Rattle.playback_cursor.proofs.Cuts.{part-used}
-use Rattle.playback.specs.Replied.{Answered}
+use Rattle.playback_start.specs.Answered.{Answered}
 
 -- what is laid in front of an area that stays as long as it was is no longer than it
 front-within : (t l : List ℕ) {used : ℕ} {m : List ℕ} → (used ≡ length t) × (m ≡ inFront t l) → length m ≡ length l → used ≤ length l

@@ -1,8 +1,8 @@
--- `playback::play_settings` meets its contract: what the opening leaves is handed on, and its text is written.
+-- `playback_start::play_settings` meets its contract: what the opening leaves is handed on, and its text is written.
 use borrow.Author.Needs.{needs}
-use Rattle.playback.proofs.Fronts.{opening-laid}
-use Rattle.playback.proofs.play_settings.Statement.{statement}
-use Rattle.playback.proofs.play_settings.Tie as tie
+use Rattle.playback_start.proofs.Fronts.{opening-laid}
+use Rattle.playback_start.proofs.play_settings.Statement.{statement}
+use Rattle.playback_start.proofs.play_settings.Tie as tie
 
 -- each place names the one that it goes back to
 abbrev entered : tie.After-open → tie.Start

@@ -1,4 +1,4 @@
--- `playback::start` meets its contract: the settings' text lies within the buffer and their reply has room in the output, and what is left of
+-- `playback_start::start` meets its contract: the settings' text lies within the buffer and their reply has room in the output, and what is left of
 -- both is what the first journal line asks for. What comes out is put together from what the parts ensure.
 use native.Mathlib.Omega.{arith}
 use mathlib.Core.Path.{_≡_, sym, subst, _∙_}
@@ -8,10 +8,10 @@ use lib.ListN.{length}
 use borrow.Rule.Slice.PartMut.{putMid, same-len-mid}
 use Rattle.playback_cursor.specs.Cut.{Ready, replied}
 use Rattle.playback_cursor.proofs.Cuts.{length-part}
-use Rattle.playback.proofs.Fronts.{ready-replied}
-use Rattle.playback.proofs.Starts.{ready-begin, begun}
-use Rattle.playback.proofs.start.Statement.{statement}
-use Rattle.playback.proofs.start.Tie as tie
+use Rattle.playback_start.proofs.Fronts.{ready-replied}
+use Rattle.playback_start.proofs.Starts.{ready-begin, begun}
+use Rattle.playback_start.proofs.start.Statement.{statement}
+use Rattle.playback_start.proofs.start.Tie as tie
 
 -- ---- the places, each named by the one that it goes back to
 

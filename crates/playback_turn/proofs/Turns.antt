@@ -11,9 +11,9 @@ use Rattle.node.specs.Calls.{Called}
 use Rattle.playback_reply.specs.Reply.{replyText}
 use Rattle.playback_cursor.specs.declared.Cursor.{Cursor}
 use Rattle.playback_cursor.specs.Cut.{part, textAt, Followed}
-use Rattle.playback.specs.declared.Played.{Played}
-use Rattle.playback.specs.Replied.{Replied}
-use Rattle.playback.specs.Turn.{Turned}
+use Rattle.playback_start.specs.declared.Played.{Played}
+use Rattle.playback_turn.specs.Replied.{Replied}
+use Rattle.playback_turn.specs.Turn.{Turned}
 
 -- the call f of a text was played, and the cursor went on behind its reply
 pub turned :

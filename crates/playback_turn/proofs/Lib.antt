@@ -1,0 +1,2 @@
+-- Laws on a turn.
+pub mod Turns

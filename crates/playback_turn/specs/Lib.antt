@@ -1,0 +1,3 @@
+-- What a text that is played leaves, and one turn.
+pub mod Replied
+pub mod Turn
