@@ -1,6 +1,6 @@
 -- A window closed, and a bucket worked: the meters are cleared, readings come first, and the numbering goes on by the number of records.
 use Prim.Native.Nat.{ℕ, _+_, _<_}
-use mathlib.Core.Path.{_≡_, refl, ap}
+use mathlib.Core.Path.{_≡_, ap}
 use mathlib.Core.Bool.{true, false, cond}
 use mathlib.Core.List.{List, []}
 use native.Mathlib.Omega.{arith}
@@ -27,10 +27,6 @@ module _ (s : Settings) (kind j : ℕ) (o : Operator) where
   pub window-results-length : length (windowResults s kind j o) ≡ givers (o .meters)
   unfolding windowResults
   window-results-length = results-length kind _ 0 (o .number) (o .meters)
-
-  pub close-records : close s kind j o .records ≡ windowResults s kind j o
-  unfolding close
-  close-records = refl
 
 module _ (s : Settings) (kind j : ℕ) (rs : List Placed) (o : Operator) where
   pub work-closes : closesWindow (s .window) j ≡ true → work s kind j rs o ≡ close s kind j (addAll s o rs)

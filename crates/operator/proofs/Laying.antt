@@ -18,15 +18,16 @@ use Rattle.record.specs.Layout.{bytesOf, allBytes}
 use Rattle.record.proofs.BytesOf.{length-bytesOf}
 use Rattle.record.proofs.AllBytes.{length-allBytes}
 use Rattle.operator_meter.specs.declared.Meter.{Meter}
-use Rattle.operator.specs.declared.NextResult.the-variants as NextResult
+use Rattle.marks.specs.declared.NextMark.the-variants as NextMark
+use Rattle.marks.specs.Marks.{nextMarked}
 use Rattle.operator.specs.Meters.{Operator, meterCount, clear}
 use Rattle.operator_meter.specs.Values.{noMeter}
 use Rattle.operator.specs.Results.{result, results}
-use Rattle.operator.specs.Parts.{nextResult}
+use Rattle.operator.specs.Parts.{marksOf}
 use Rattle.operator.specs.Work.{windowResults, close}
 use Rattle.operator.proofs.Results.{givers, givers-most, results-length}
 use Rattle.operator.proofs.Closing.{window-results-length}
-use Rattle.operator.proofs.NextResults.{next-at, results-next, results-nothing}
+use Rattle.operator.proofs.NextResults.{next-gives, results-next, results-nothing}
 
 -- bytes written over an area are laid there
 written : (area bytes : List ℕ) (at : ℕ) → at + length bytes ≤ length area → take at area ++ bytes ++ drop (at + length bytes) area ≡ laid area at bytes
@@ -38,29 +39,32 @@ module _ (kind : ℕ) (start : ReadingTime) (ms : List Meter) where
   unfoldable pub rest : ℕ → ℕ → List ℕ
   rest from number = allBytes (results kind start from number (drop from ms))
 
-  givers-next : (from n i : ℕ) → nextResult from ms ≡ NextResult.At i → givers (drop from ms) ≡ suc (givers (drop (suc i) ms))
-  givers-next from n i e =
-      sym (results-length kind start from n (drop from ms)) ∙
-      ap length (results-next kind start ms from n i e) ∙
-      ap suc (results-length kind start (suc i) (suc n) (drop (suc i) ms))
-
-  givers-nothing : (from n : ℕ) → nextResult from ms ≡ NextResult.Nothing → givers (drop from ms) ≡ 0
-  givers-nothing from n e =
-      sym (results-length kind start from n (drop from ms)) ∙ ap length (results-nothing kind start ms from n e)
-
-  rest-next : (from n i : ℕ) → nextResult from ms ≡ NextResult.At i → rest from n ≡ bytesOf (result kind start i (suc n) (getD ms i noMeter)) ++ rest (suc i) (suc n)
-  unfolding rest allBytes
-  rest-next from n i e = ap allBytes (results-next kind start ms from n i e)
-
-  rest-nothing : (from n : ℕ) → nextResult from ms ≡ NextResult.Nothing → rest from n ≡ []
-  unfolding rest allBytes
-  rest-nothing from n e = ap allBytes (results-nothing kind start ms from n e)
-
   length-rest : (from n : ℕ) → length (rest from n) ≡ recordBytes * givers (drop from ms)
   unfolding rest
   length-rest from n =
       length-allBytes (results kind start from n (drop from ms)) ∙
       ap (λ (k : ℕ). recordBytes * k) (results-length kind start from n (drop from ms))
+
+  -- for the list of all meters
+  module _ (sized : length ms ≡ meterCount) where
+    givers-next : (from n i : ℕ) → nextMarked (marksOf ms) from ≡ NextMark.At i → givers (drop from ms) ≡ suc (givers (drop (suc i) ms))
+    givers-next from n i e =
+        sym (results-length kind start from n (drop from ms)) ∙
+        ap length (results-next kind start ms sized from n i e) ∙
+        ap suc (results-length kind start (suc i) (suc n) (drop (suc i) ms))
+
+    givers-nothing : (from n : ℕ) → nextMarked (marksOf ms) from ≡ NextMark.Nothing → givers (drop from ms) ≡ 0
+    givers-nothing from n e =
+        sym (results-length kind start from n (drop from ms)) ∙ ap length (results-nothing kind start ms sized from n e)
+
+    rest-next : (from n i : ℕ) → nextMarked (marksOf ms) from ≡ NextMark.At i
+        → rest from n ≡ bytesOf (result kind start i (suc n) (getD ms i noMeter)) ++ rest (suc i) (suc n)
+    unfolding rest allBytes
+    rest-next from n i e = ap allBytes (results-next kind start ms sized from n i e)
+
+    rest-nothing : (from n : ℕ) → nextMarked (marksOf ms) from ≡ NextMark.Nothing → rest from n ≡ []
+    unfolding rest allBytes
+    rest-nothing from n e = ap allBytes (results-nothing kind start ms sized from n e)
 
 -- the area, the newest number, the place behind the last byte and the next meter, where the area held `area₀` and the number was `number₀`
 pub record Laying (kind : ℕ) (start : ReadingTime) (ms : List Meter) (area₀ : List ℕ) (number₀ : ℕ) (area : List ℕ) (number at from : ℕ) : Type 0 where
@@ -91,10 +95,10 @@ module _ (kind : ℕ) (start : ReadingTime) (ms : List Meter) (area₀ : List �
       }
 
   module _ (area : List ℕ) (number at from : ℕ) (v : Laying kind start ms area₀ number₀ area number at from) where
-    pub room-next : (i : ℕ) → nextResult from ms ≡ NextResult.At i → RoomFor i number₀ area number at from
+    pub room-next : (i : ℕ) → nextMarked (marksOf ms) from ≡ NextMark.At i → RoomFor i number₀ area number at from
     room-next i e =
-        let g = next-at ms from i .0 e in
-        let k = givers-next kind start ms from number i e in
+        let g = next-gives ms (v .whole) from i e in
+        let k = givers-next kind start ms (v .whole) from number i e in
         let most = givers-most ms in
         record {
           above = g .above;
@@ -103,10 +107,13 @@ module _ (kind : ℕ) (start : ReadingTime) (ms : List Meter) (area₀ : List �
           bytes = omega (arith, v .places, v .whole, v .size);
         }
 
-    pub laying-next : (i : ℕ) → nextResult from ms ≡ NextResult.At i → (r : Record) → r ≡ result kind start i (number + 1) (getD ms i noMeter) → (next : List ℕ) → next ≡ take at area ++ bytesOf r ++ drop (at + recordBytes) area → Laying kind start ms area₀ number₀ next (number + 1) (at + recordBytes) (i + 1)
+    pub laying-next : (i : ℕ) → nextMarked (marksOf ms) from ≡ NextMark.At i
+        → (r : Record) → r ≡ result kind start i (number + 1) (getD ms i noMeter)
+        → (next : List ℕ) → next ≡ take at area ++ bytesOf r ++ drop (at + recordBytes) area
+        → Laying kind start ms area₀ number₀ next (number + 1) (at + recordBytes) (i + 1)
     laying-next i e r q next p =
         let room = room-next i e in
-        let k = givers-next kind start ms from number i e in
+        let k = givers-next kind start ms (v .whole) from number i e in
         let size = length-bytesOf r in
         let one : next ≡ laid area at (bytesOf r) =
         p ∙
@@ -114,7 +121,7 @@ module _ (kind : ℕ) (start : ReadingTime) (ms : List Meter) (area₀ : List �
         written area (bytesOf r) at (omega (arith, room .bytes)) in
         let its : r ≡ result kind start i (suc number) (getD ms i noMeter) = rw add-one at q in
         let more : rest kind start ms from number ≡ bytesOf r ++ rest kind start ms (suc i) (suc number) =
-        rest-next kind start ms from number i e ∙
+        rest-next kind start ms (v .whole) from number i e ∙
         ap (λ (x : Record). bytesOf x ++ rest kind start ms (suc i) (suc number)) (sym its) in
         rw (add-one i, add-one number)
         (record {
@@ -130,10 +137,11 @@ module _ (kind : ℕ) (start : ReadingTime) (ms : List Meter) (area₀ : List �
               v .bytes;
         })
 
-    pub laying-ends : nextResult from ms ≡ NextResult.Nothing → (number ≡ number₀ + givers ms) × (area ≡ inFront (rest kind start ms 0 number₀) area₀)
+    pub laying-ends : nextMarked (marksOf ms) from ≡ NextMark.Nothing
+        → (number ≡ number₀ + givers ms) × (area ≡ inFront (rest kind start ms 0 number₀) area₀)
     laying-ends e =
-        let none = rest-nothing kind start ms from number e in (
-          omega (arith, v .numbers, givers-nothing kind start ms from number e),
+        let none = rest-nothing kind start ms (v .whole) from number e in (
+          omega (arith, v .numbers, givers-nothing kind start ms (v .whole) from number e),
           sym (laid-none area at) ∙ ap (laid area at) (sym none) ∙ v .bytes,
         )
 

@@ -11,18 +11,19 @@ ghost use Rattle.record.specs.Sizes.{recordBytes};
 ghost use Rattle.record.specs.Layout.{allBytes};
 ghost use Rattle.store.specs.Lists.{Every};
 ghost use Rattle.operator.specs.Meters.{meterCount, clear};
-ghost use Rattle.operator.specs.Parts.{nextResult};
+ghost use Rattle.operator.specs.Parts.{marksOf};
 ghost use Rattle.operator.specs.Results.{result};
 ghost use Rattle.operator.specs.Work.{Worked, close};
 ghost use Rattle.operator.specs.Loaded.{operatorOf};
 ghost use Rattle.operator.specs.Bucket.{Addable, BucketAdded};
 use clock::ReadingTime;
+use marks::NextMark;
 use operator_meter::Meter;
 use record::Record;
 use settings::Settings;
 
-// How many meters there are.
-pub const METERS: usize = 64;
+// How many meters there are: as many as there are places for marks.
+pub const METERS: usize = marks::PLACES;
 
 // The same as the limit of a byte that names a meter.
 pub const METER_LIMIT: u8 = METERS as u8;
@@ -33,12 +34,6 @@ pub struct Operator {
     pub counts: [u32; METERS],
     pub lasts: [i32; METERS],
     pub number: u64,
-}
-
-// The next meter with a result.
-enum NextResult {
-    At(usize),
-    Nothing,
 }
 
 // The result of a meter.
@@ -114,39 +109,35 @@ impl Operator {
         self
     }
 
-    // How many results a window closed now would give.
-    pub fn results_ahead(self) -> u64
-        ensures { λ r. ⌜ ((s : Limits) → (kind : ℕ) → (j : ℕ) → r ≡ length (close s kind j (operatorOf self) .records)) ⌝ }
+    // A mark for each meter with a result.
+    pub fn marks(self) -> [u64; marks::WORDS]
+        ensures { λ r. ⌜ r ≡ marksOf (operatorOf self .meters) ⌝ }
     {
-        let mut n = 0;
-        let mut i = 0;
-        while i < METERS {
-            if 0 < self.counts[i] {
-                n += 1;
-            }
-            i += 1;
-        }
-        n
+        let counts = self.counts;
+        marks::marks_of(counts)
     }
 
-    // The next meter at or above `from` with a result.
-    fn next_result(self, mut from: usize) -> NextResult
-        ensures { λ r. ⌜ r ≡ nextResult from (operatorOf self .meters) ⌝ }
+    // How many results a window closed now would give.
+    pub fn results_ahead(self) -> u32
+        ensures { λ r. ⌜ ((s : Limits) → (kind : ℕ) → (j : ℕ) → r ≡ length (close s kind j (operatorOf self) .records)) ⌝ }
     {
-        while from < METERS {
-            if 0 < self.counts[from] {
-                return NextResult::At(from);
-            }
-            from += 1;
-        }
-        NextResult::Nothing
+        let marked = self.marks();
+        marks::marked_count(marked)
     }
 
     // Closes the window that bucket j ends: lays its results down from the area's first byte on, numbers on behind them, clears the meters.
-    // How many results there are is the difference of the numberings.
-    pub fn close(mut self, s: Settings, kind: u8, j: u32, area: &mut [u8]) -> Operator
-        requires { ⌜ (meterCount * recordBytes ≤ length (now area)) × (windowStart (s .bucket) (s .window) j < 2 ^ 32) ×
-            (self .number + meterCount < 2 ^ 32) × Every (λ m. InRange (m .sum) (m .count)) (operatorOf self .meters) ⌝ }
+    // It goes by the marks of the meters with a result. How many results there are is the difference of the numberings.
+    pub fn close(
+        mut self,
+        s: Settings,
+        marked: [u64; marks::WORDS],
+        kind: u8,
+        j: u32,
+        area: &mut [u8],
+    ) -> Operator
+        requires { ⌜ (marked ≡ marksOf (operatorOf self .meters)) × (meterCount * recordBytes ≤ length (now area)) ×
+            (windowStart (s .bucket) (s .window) j < 2 ^ 32) × (self .number + meterCount < 2 ^ 32) ×
+            Every (λ m. InRange (m .sum) (m .count)) (operatorOf self .meters) ⌝ }
         ensures { λ r.
             let done : Worked = close s kind j (operatorOf self) in
             ⌜ (operatorOf r ≡ done .operator) × (now (area .exit) ≡ inFront (allBytes (done .records)) (now (area .entry))) ⌝ }
@@ -155,7 +146,7 @@ impl Operator {
         let mut number = self.number;
         let mut at = 0;
         let mut from = 0;
-        while let NextResult::At(i) = self.next_result(from) {
+        while let NextMark::At(i) = marks::next_marked(marked, from) {
             number += 1;
             let sum = self.sums[i];
             let last = self.lasts[i];

@@ -1,25 +1,19 @@
 -- A bucket's work where its readings are added: a window that it closes is closed, otherwise nothing is given. The numbering has room for a
--- window's results, and these are no more than there are meters. By the laws on closing and on the shape.
-use Prim.Native.Nat.{ℕ, _+_, _≤_, _<_, _^_}
+-- window's results. By the laws on closing and on the shape.
+use Prim.Native.Nat.{ℕ, _+_, _<_, _^_}
 use mathlib.Core.Path.{_≡_, _∙_, ap}
 use mathlib.Core.Bool.{true, false}
 use mathlib.Core.List.{List, []}
 use native.Mathlib.Omega.{arith}
-use lib.ListN.{length}
 use Rattle.area.specs.Laid.{inFront}
 use Rattle.clock.specs.Windows.{closesWindow}
-use Rattle.settings.specs.declared.Settings.{Settings}
 use Rattle.record.specs.Layout.{allBytes}
 use Rattle.store.specs.Order.{inBucket}
 use Rattle.store.specs.Columns.{Columns}
 use Rattle.operator.specs.Meters.{Operator, meterCount, addAll}
-use Rattle.operator.specs.declared.Operator.{Operator as Loaded}
-use Rattle.operator.specs.Loaded.{operatorOf}
 use Rattle.operator.specs.Work.{close}
-use Rattle.operator.proofs.Loaded.{length-meters}
 use Rattle.operator.proofs.Adding.{addAll-number}
-use Rattle.operator.proofs.Results.{givers-most}
-use Rattle.operator.proofs.Closing.{window-results-length, close-records, work-closes, work-goes-on}
+use Rattle.operator.proofs.Closing.{work-closes, work-goes-on}
 use Rattle.protocol.specs.Node.{keptOf}
 use Rattle.protocol.specs.Rules.{worked}
 use Rattle.node.specs.Held.{Held}
@@ -61,14 +55,3 @@ pub area-untouched :
     area ≡ inFront (allBytes (worked (st .settings) kind j (view st x) .records)) area
 unfolding inFront allBytes
 area-untouched st x kind j area e = rw (nothing-given st x kind j e)
-
--- a window gives no more results than there are meters
-pub few-closed : (s : Settings) (kind j : ℕ) (o : Loaded) → length (close s kind j (operatorOf o) .records) ≤ meterCount
-few-closed s kind j o =
-    rw (close-records s kind j (operatorOf o))
-    (omega (
-      arith,
-      window-results-length s kind j (operatorOf o),
-      givers-most (operatorOf o .meters),
-      length-meters (o .counts) (o .sums) (o .lasts),
-    ))

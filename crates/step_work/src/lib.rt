@@ -83,7 +83,8 @@ pub fn work(
     let settings = state.settings;
     let next = added(state, counts, sums, lasts, heads, times, values, meters, j);
     if clock::closes_window(settings.window, j) {
-        let closed = next.close(settings, kind, j, area);
+        let marked = next.marks();
+        let closed = next.close(settings, marked, kind, j, area);
         operator_rows::lay(closed, counts, sums, lasts);
         return closed.number;
     }
@@ -116,5 +117,5 @@ pub fn results_ahead(
         return 0;
     }
     let next = added(state, counts, sums, lasts, heads, times, values, meters, j);
-    next.results_ahead() as u32
+    next.results_ahead()
 }

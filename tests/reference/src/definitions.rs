@@ -7,6 +7,7 @@ mod heat_statement;
 mod heats;
 mod host_statement;
 mod literal;
+mod marks;
 mod means;
 mod pick;
 mod question;

@@ -12,7 +12,7 @@ use Rattle.operator.specs.Work.{Worked}
 use Rattle.node.specs.Held.{Held, arraysOf, held}
 use Rattle.node.proofs.Limits.{limits-hold}
 use Rattle.node.proofs.Shape.{state-facts}
-use Rattle.step_work.proofs.Closing.{window-closed, nothing-given, few-closed}
+use Rattle.step_work.proofs.Closing.{window-closed, nothing-given}
 use Rattle.step_work.proofs.results_ahead.Statement.{statement}
 use Rattle.step_work.proofs.results_ahead.Tie as tie
 
@@ -54,16 +54,6 @@ added-requires c κs = search needs
 results-ahead-requires : tie.Need-results-ahead-requires
 results-ahead-requires c κs = tt
 
-cast-result : tie.Need-cast-result
-cast-result c =
-    let a = c .before in
-    let s = begin (closing a .before) in
-    omega (
-      arith,
-      c .results-ahead .ensures (s .args .state .settings) 0 (s .args .j),
-      few-closed (s .args .state .settings) 0 (s .args .j) (a .added .result),
-    )
-
 returns-2 : tie.Need-returns-2
 returns-2 c x is kind =
     let a = c .before in
@@ -80,5 +70,4 @@ results-ahead-spec =
     returns
     added-requires
     results-ahead-requires
-    cast-result
     returns-2)

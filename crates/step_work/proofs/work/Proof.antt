@@ -51,8 +51,11 @@ goes-on e = sym (e .before .closes-window .ensures) ∙ e .if1 .left
 
 -- ---- the window closed, and the operator laid back
 
-abbrev closing : tie.After-close → tie.Then1
-closing c = c .before .before
+abbrev marked : tie.After-close → tie.After-marks
+marked c = c .before .before
+
+abbrev closing : tie.After-marks → tie.Then1
+closing c = c .before
 
 abbrev closed : tie.After-lay → tie.After-close
 closed c = c .before .before .before .before .before .before
@@ -76,10 +79,15 @@ closes-window-requires c κs =
     let s = begin c in
     omega (arith, limits-hold (s .args .state .settings) (shape s .limits) .someWindow)
 
+marks-requires : tie.Need-marks-requires
+marks-requires c κs = tt
+
 close-requires : tie.Need-close-requires
 close-requires c κs =
-    let a = asked (c .before .before) in
+    let m = c .before in
+    let a = asked (closing m .before) in
     let s = begin a in (
+      m .marks .ensures,
       omega (arith, s .pre .1),
       s .pre .2,
       number-room (all s) (some s) (s .args .j) (operatorOf (a .added .result)) (adds a (some s) (s .pre .0 .is)) (shape s),
@@ -95,7 +103,7 @@ same-length c = search needs
 returns : tie.Need-returns
 returns c =
     let done = closed c in
-    let t = closing done in
+    let t = closing (marked done) in
     let a = asked (t .before) in
     let s = begin a in (
       c .lay .ensures .1,
@@ -123,4 +131,4 @@ returns-2 c =
 pub work-spec : {M : Type 1} → statement M
 work-spec =
     tie.close
-    (tie.spec added-requires closes-window-requires close-requires lay-requires same-length returns lay-requires-2 returns-2)
+    (tie.spec added-requires closes-window-requires marks-requires close-requires lay-requires same-length returns lay-requires-2 returns-2)

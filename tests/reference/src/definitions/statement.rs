@@ -1,6 +1,7 @@
 //! The equations in antt's writing, one for each question on nodes, numbers and texts.
 
 use super::literal::{bytes, integer, spelled_list};
+use super::marks::Marks;
 use super::question::NodeQuestion;
 use super::value;
 use crate::generate::Host;
@@ -43,6 +44,22 @@ pub(super) fn of_mean(number: usize, sum: i64, count: u32) -> String {
         "-- {sum}/{count}\nmean-{number} : meanOf ({}) {count} ≡ {}\nunfolding meanOf\nmean-{number} = refl\n\n",
         integer(sum),
         integer(mean(sum, count)),
+    )
+}
+
+/// The next marked place from one on, and how many are marked.
+pub(super) fn of_marks(number: usize, search: &Marks) -> String {
+    let next = match search.next() {
+        Some(place) => format!("NextMark.At {place}"),
+        None => "NextMark.Nothing".to_string(),
+    };
+    let (from, words) = (search.from, spelled_list(&search.words));
+    let found = format!(
+        "record {{ next = {next}; count = {} }}",
+        search.places().len()
+    );
+    format!(
+        "-- the next mark from {from} on\nmark-{number} : markedIn ({words}) {from} ≡ {found}\nunfolding markedIn\nmark-{number} = refl\n\n"
     )
 }
 

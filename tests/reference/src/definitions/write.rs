@@ -8,6 +8,7 @@ use super::counts::counts;
 use super::heat_statement::{of_box, of_paid};
 use super::heats;
 use super::host_statement::{of_call, of_opening};
+use super::marks::{marks, Marks};
 use super::means::means;
 use super::pick;
 use super::statement;
@@ -99,6 +100,11 @@ fn sets(seed: u64, count: usize) -> Vec<Set> {
             ("means", "Mean"),
             |number, &(sum, count): &(i64, u32)| statement::of_mean(number, sum, count),
             |tally| means(random, 2 * count, tally),
+        ),
+        set(
+            ("searches of marks", "Mark"),
+            |number, search: &Marks| statement::of_marks(number, search),
+            |tally| marks(random, count, tally),
         ),
         set(
             ("steps to settle", "Steps"),

@@ -12,24 +12,27 @@ use Rattle.signed.specs.Range.{InRange}
 use Rattle.record.proofs.Stores.{record-lent}
 use Rattle.store.proofs.Pairs.{every-index}
 use Rattle.operator_meter.specs.declared.Meter.{Meter}
-use Rattle.operator.specs.declared.NextResult.the-variants as NextResult
+use Rattle.marks.specs.declared.NextMark.{NextMark}
+use Rattle.marks.specs.declared.NextMark.the-variants as NextMark
+use Rattle.marks.specs.Marks.{nextMarked}
 use Rattle.operator_meter.specs.Values.{noMeter}
 use Rattle.operator.specs.Meters.{Operator, meterCount}
-use Rattle.operator.specs.Parts.{nextResult}
+use Rattle.operator.specs.Parts.{marksOf}
 use Rattle.operator.specs.Loaded.{operatorOf}
 use Rattle.operator.proofs.Loaded.{length-meters}
 use Rattle.operator.proofs.Owned.{signed-owned-32, signed-owned-64}
 use Rattle.operator.proofs.FromColumns.{read, meter-read}
-use Rattle.operator.proofs.Laying.{Laying, RoomFor, laying-begins, room-next, laying-next, laying-ends, rest-of-window, close-cleared}
+use Rattle.operator.proofs.Laying.{Laying, RoomFor, laying-begins, room-next, laying-next, laying-ends}
+use Rattle.operator.proofs.Laying.{rest-of-window, close-cleared}
 use Rattle.operator.proofs.Operator.close.Statement.{statement}
 use Rattle.operator.proofs.Operator.close.Tie as tie
 
 abbrev Inv-loop : tie.InvT-loop
-Inv-loop kind j area₀ self start number₀ at₀ from₀ area number at from =
+Inv-loop marked kind j area₀ self start number₀ at₀ from₀ area number at from =
     Laying kind start (operatorOf self .meters) area₀ (self .number) area number at from
 
 abbrev μ-loop : tie.MeasureT-loop
-μ-loop kind j area₀ self start number₀ at₀ from₀ area number at from = meterCount - from
+μ-loop marked kind j area₀ self start number₀ at₀ from₀ area number at from = meterCount - from
 
 -- ---- the places: the start, a turn's beginning, the next meter with a result found, its result made
 
@@ -55,16 +58,23 @@ operator c = operatorOf (begun c .args .t1)
 abbrev meter : tie.After-i Inv-loop μ-loop → ℕ
 meter c = c .i .given .0 .0
 
+-- what is found in the marks handed over is found in those of the meters
+is-marked : (c : tie.At-loop Inv-loop μ-loop) (r : NextMark) → r ≡ nextMarked (begun c .args .marked) (c .loop .from)
+    → nextMarked (marksOf (operator c .meters)) (c .loop .from) ≡ r
+is-marked c r e = ap (λ (words : List ℕ). nextMarked words (c .loop .from)) (sym (begun c .pre .0)) ∙ sym e
+
 -- a meter with a result was found, and there is room for its result
-is-next : (c : tie.After-i Inv-loop μ-loop) → nextResult (turned c .loop .from) (operator (turned c) .meters) ≡ NextResult.At (meter c)
-is-next c = sym (c .before .before .next-result .ensures) ∙ c .i .given .1
+is-next : (c : tie.After-i Inv-loop μ-loop)
+    → nextMarked (marksOf (operator (turned c) .meters)) (turned c .loop .from) ≡ NextMark.At (meter c)
+is-next c = is-marked (turned c) _ (c .before .before .next-marked .ensures .0) ∙ c .i .given .1
 
 room : (c : tie.After-i Inv-loop μ-loop) →
-    RoomFor (meter c) (operator (turned c) .number) (turned c .loop .area) (turned c .loop .number) (turned c .loop .at) (turned c .loop .from)
+    (let l = turned c .loop in RoomFor (meter c) (operator (turned c) .number) (l .area) (l .number) (l .at) (l .from))
 room c =
     let l = turned c .loop in
     let b = begun (turned c) in
-    room-next (b .args .kind) _ (operatorOf (b .args .t1) .meters) (b .args .area .now) (b .args .t1 .number) (b .pre .0) (l .area) (l .number)
+    let o = operator (turned c) in
+    room-next (b .args .kind) _ (o .meters) (b .args .area .now) (o .number) (b .pre .1) (l .area) (l .number)
     (l .at)
     (l .from)
     (l .inv)
@@ -86,18 +96,18 @@ is-read c =
 window-start-requires : tie.Need-window-start-requires Inv-loop μ-loop
 window-start-requires c κs = tt
 
-cast-t17 : tie.Need-cast-t17 Inv-loop μ-loop
-cast-t17 c = omega (arith, c .window-start .ensures)
+cast-t18 : tie.Need-cast-t18 Inv-loop μ-loop
+cast-t18 c = omega (arith, c .window-start .ensures)
 
 loop-holds : tie.Need-loop-holds Inv-loop μ-loop
 loop-holds c =
     let b = c .before .before in
     let o = b .args .t1 in
-    laying-begins (b .args .kind) _ (operatorOf o .meters) (b .args .area .now) (o .number) (b .pre .0)
+    laying-begins (b .args .kind) _ (operatorOf o .meters) (b .args .area .now) (o .number) (b .pre .1)
     (length-meters (o .counts) (o .sums) (o .lasts))
 
-next-result-requires : tie.Need-next-result-requires Inv-loop μ-loop
-next-result-requires c κs = tt
+next-marked-requires : tie.Need-next-marked-requires Inv-loop μ-loop
+next-marked-requires c κs = tt
 
 enum-known-i : tie.Need-enum-known-i Inv-loop μ-loop
 enum-known-i c = search needs
@@ -134,7 +144,7 @@ result-requires c κs =
     let inside : meter f < length ms = omega (arith, room f .below, turned f .loop .inv .whole) in (
       room f .below,
       subst (λ (m : Meter). InRange (m .sum) (m .count)) (sym (is-read f))
-          (every-index (λ (m : Meter). InRange (m .sum) (m .count)) ms (meter f) noMeter inside (b .pre .3)),
+          (every-index (λ (m : Meter). InRange (m .sum) (m .count)) ms (meter f) noMeter inside (b .pre .4)),
     )
 
 sub-put-record : tie.Need-sub-put-record Inv-loop μ-loop
@@ -167,7 +177,8 @@ loop-again c =
     let b = begun (turned f) in
     let done = made c .result in
     let start : ReadingTime = record { 0 = turned f .before .window-start .result } in
-    laying-next (b .args .kind) start (operatorOf (b .args .t1) .meters) (b .args .area .now) (b .args .t1 .number) (b .pre .0) (l .area) (l .number)
+    let o = operator (turned f) in
+    laying-next (b .args .kind) start (o .meters) (b .args .area .now) (o .number) (b .pre .1) (l .area) (l .number)
     (l .at)
     (l .from)
     (l .inv)
@@ -194,9 +205,11 @@ returns c =
     let a = b .args in
     let o = operatorOf (a .t1) in
     let w = ended c .before .window-start in
-    let none : nextResult (l .from) (o .meters) ≡ NextResult.Nothing = sym (c .before .before .before .next-result .ensures) ∙ c .before .enum-told .given .1 in
+    let none : nextMarked (marksOf (o .meters)) (l .from) ≡ NextMark.Nothing =
+    is-marked (ended c) _ (c .before .before .before .next-marked .ensures .0) ∙ c .before .enum-told .given .1 in
+    let start : ReadingTime = record { 0 = w .result } in
     let (number, bytes) =
-    laying-ends (a .kind) (record { 0 = w .result }) (o .meters) (a .area .now) (o .number) (b .pre .0) (l .area) (l .number) (l .at) (l .from) (l .inv) none in (
+    laying-ends (a .kind) start (o .meters) (a .area .now) (o .number) (b .pre .1) (l .area) (l .number) (l .at) (l .from) (l .inv) none in (
       c .clear .ensures ∙ close-cleared (a .s) (a .kind) (a .j) o (l .number) number,
       bytes ∙ ap (λ (x : List ℕ). inFront x (a .area .now)) (rest-of-window (a .s) (a .kind) (a .j) o (w .result) (w .ensures)),
     )
@@ -208,9 +221,9 @@ close-spec =
     Inv-loop
     μ-loop
     window-start-requires
-    cast-t17
+    cast-t18
     loop-holds
-    next-result-requires
+    next-marked-requires
     enum-known-i
     add-number
     mul-sum

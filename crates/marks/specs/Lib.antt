@@ -1,0 +1,4 @@
+-- Marks by the word.
+pub mod Words
+pub mod Marks
+pub mod Next
