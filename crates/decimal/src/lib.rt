@@ -162,7 +162,7 @@ fn fill_digits(out: &mut [u8], at: usize, end: usize, n: u64)
 }
 
 // Lays a number's digits over the area from `at` on; answers the place behind them.
-pub fn put_digits(out: &mut [u8], at: usize, n: u64) -> usize
+fn put_digits(out: &mut [u8], at: usize, n: u64) -> usize
     requires { ⌜ at + length (digits n) ≤ length (now out) ⌝ }
     ensures { λ r. ⌜ r ≡ at + length (digits n) ⌝ }
     ensures { λ _. ⌜ now (out .exit) ≡ laid (now (out .entry)) at (digits n) ⌝ }
