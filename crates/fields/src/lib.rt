@@ -9,7 +9,7 @@ ghost use Rattle.area.specs.Laid.{laid};
 ghost use Rattle.decimal.specs.Decimal.{decimal};
 ghost use Rattle.decimal.specs.Spelled.{widened};
 ghost use Rattle.fields.specs.Line.{holdsLine, nextLine};
-ghost use Rattle.fields.specs.Field.{startsWith, endsLine, numberField, integerField};
+ghost use Rattle.fields.specs.Field.{ShortKey, startsWith, endsLine, numberField, integerField};
 use decimal::Integer;
 use decimal::Number;
 use decimal::WideNumber;
@@ -86,6 +86,22 @@ pub fn has_key(s: &[u8], at: usize, key: &[u8]) -> bool
         i += 1;
     }
     true
+}
+
+// Whether a text begins with the bytes of a short key from `at` on: by the first four and the last four, each as one word.
+pub fn has_short_key(s: &[u8], at: usize, key: &[u8]) -> bool
+    requires { ⌜ ShortKey (now key) ⌝ }
+    ensures { λ r. ⌜ r ≡ startsWith (now (key .entry)) (drop at (now (s .entry))) ⌝ }
+{
+    if s.len() < at {
+        return false;
+    }
+    if s.len() - at < key.len() {
+        return false;
+    }
+    let last = key.len() - 4;
+    (endian::get4(s, at) == endian::get4(key, 0))
+        & (endian::get4(s, at + last) == endian::get4(key, last))
 }
 
 // Whether 0A stands at a place, which ends the line.
