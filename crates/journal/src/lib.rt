@@ -1,5 +1,6 @@
 // The journal line: one call, and the reader of its text.
 ghost use mathlib.Core.Path.{_≡_};
+ghost use Rattle.fields.specs.Field.{ShortKey, numberField, integerField};
 ghost use Rattle.journal.specs.Kinds.{isLetter};
 ghost use Rattle.journal.specs.JournalLine.{hasForm, ExactCall};
 ghost use Rattle.journal.specs.ReadLine.{letterAt, letterField, callAt, callOf};
@@ -73,11 +74,36 @@ fn letter_at(s: &[u8], at: usize) -> Number
     }
 }
 
+// The unsigned number, of at most `most`, of the field that the text has from `at` on.
+fn keyed_number(s: &[u8], at: usize, key: &[u8], most: u32) -> Number
+    requires { ⌜ ShortKey (now key) ⌝ }
+    ensures { λ r. ⌜ r ≡ numberField (now (key .entry)) most (now (s .entry)) at ⌝ }
+{
+    if fields::has_short_key(s, at, key) {
+        decimal::read_number(s, at + key.len(), most)
+    } else {
+        Number::Malformed
+    }
+}
+
+// The signed number of the field that the text has from `at` on.
+fn keyed_integer(s: &[u8], at: usize, key: &[u8]) -> Integer
+    requires { ⌜ ShortKey (now key) ⌝ }
+    ensures { λ r. ⌜ r ≡ integerField (now (key .entry)) (now (s .entry)) at ⌝ }
+{
+    if fields::has_short_key(s, at, key) {
+        decimal::read_integer(s, at + key.len())
+    } else {
+        Integer::Malformed
+    }
+}
+
 // The letter of the field that the text has from `at` on.
 fn letter_field(s: &[u8], at: usize, key: &[u8]) -> Number
+    requires { ⌜ ShortKey (now key) ⌝ }
     ensures { λ r. ⌜ r ≡ letterField (now (key .entry)) (now (s .entry)) at ⌝ }
 {
-    if fields::has_key(s, at, key) {
+    if fields::has_short_key(s, at, key) {
         letter_at(s, at + key.len())
     } else {
         Number::Malformed
@@ -88,25 +114,25 @@ fn letter_field(s: &[u8], at: usize, key: &[u8]) -> Number
 fn call_at(s: &[u8], at: usize) -> CallAt
     ensures { λ r. ⌜ r ≡ callAt (now (s .entry)) at ⌝ }
 {
-    let Number::Value(now, e1) = fields::number_field(s, at, b"now=", WORD) else {
+    let Number::Value(now, e1) = keyed_number(s, at, b"now=", WORD) else {
         return CallAt::Malformed;
     };
-    let Number::Value(line, e2) = fields::number_field(s, e1, b" line=", BYTE) else {
+    let Number::Value(line, e2) = keyed_number(s, e1, b" line=", BYTE) else {
         return CallAt::Malformed;
     };
     let Number::Value(kind, e3) = letter_field(s, e2, b" kind=") else {
         return CallAt::Malformed;
     };
-    let Number::Value(id, e4) = fields::number_field(s, e3, b" id=", WORD) else {
+    let Number::Value(id, e4) = keyed_number(s, e3, b" id=", WORD) else {
         return CallAt::Malformed;
     };
-    let Number::Value(time, e5) = fields::number_field(s, e4, b" time=", WORD) else {
+    let Number::Value(time, e5) = keyed_number(s, e4, b" time=", WORD) else {
         return CallAt::Malformed;
     };
-    let Number::Value(meter, e6) = fields::number_field(s, e5, b" meter=", BYTE) else {
+    let Number::Value(meter, e6) = keyed_number(s, e5, b" meter=", BYTE) else {
         return CallAt::Malformed;
     };
-    let Integer::Value(value, e7) = fields::integer_field(s, e6, b" value=") else {
+    let Integer::Value(value, e7) = keyed_integer(s, e6, b" value=") else {
         return CallAt::Malformed;
     };
     if fields::ends_line(s, e7) {

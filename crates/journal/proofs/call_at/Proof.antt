@@ -3,6 +3,7 @@
 use mathlib.Core.Path.{_≡_, refl, sym, _∙_}
 use Prim.Native.Nat.{_-_, _^_}
 use native.Mathlib.Omega.{arith}
+use lib.Dec.{lit≤}
 use mir.Facts.{toZ-ofZ}
 use Rattle.decimal.specs.declared.Number.the-variants as Number
 use Rattle.decimal.specs.declared.Integer.the-variants as Integer
@@ -14,11 +15,11 @@ use Rattle.journal.proofs.Letters.{letter-byte, letter-field-sound}
 use Rattle.journal.proofs.call_at.Statement.{statement}
 use Rattle.journal.proofs.call_at.Tie as tie
 
-slice-aggregate-number-field : tie.Need-slice-aggregate-number-field
-slice-aggregate-number-field c = refl
+slice-aggregate-keyed-number : tie.Need-slice-aggregate-keyed-number
+slice-aggregate-keyed-number c = refl
 
-number-field-requires : tie.Need-number-field-requires
-number-field-requires c κs = tt
+keyed-number-requires : tie.Need-keyed-number-requires
+keyed-number-requires c κs = (lit≤ tt, lit≤ tt)
 
 enum-known-now : tie.Need-enum-known-now
 enum-known-now c = c .match .keys1
@@ -28,7 +29,7 @@ enum-told c = c .match .keys2
 
 returns : tie.Need-returns
 unfolding callAt withNumber
-returns c = rw (sym (c .before .before .number-field .ensures) ∙ c .enum-told .given .1)
+returns c = rw (sym (c .before .before .keyed-number .ensures) ∙ c .enum-told .given .1)
 
 -- the now, once it is read, and the place that it goes back to
 abbrev start : tie.After-now → tie.Start
@@ -37,13 +38,13 @@ start c = c .before .before .before .before .before
 now-read :
     (c : tie.After-now) →
     numberField (first nowKey) (2 ^ 32 - 1) (start c .args .s .now) (start c .args .at) ≡ Number.Value (c .now .given .0 .0) (c .now .given .0 .1 .0)
-now-read c = sym (c .before .before .number-field .ensures) ∙ c .now .given .1
+now-read c = sym (c .before .before .keyed-number .ensures) ∙ c .now .given .1
 
-slice-aggregate-number-field-2 : tie.Need-slice-aggregate-number-field-2
-slice-aggregate-number-field-2 c = refl
+slice-aggregate-keyed-number-2 : tie.Need-slice-aggregate-keyed-number-2
+slice-aggregate-keyed-number-2 c = refl
 
-number-field-requires-2 : tie.Need-number-field-requires-2
-number-field-requires-2 c κs = tt
+keyed-number-requires-2 : tie.Need-keyed-number-requires-2
+keyed-number-requires-2 c κs = (lit≤ tt, lit≤ tt)
 
 enum-known-line : tie.Need-enum-known-line
 enum-known-line c = c .match2 .keys1
@@ -55,7 +56,7 @@ returns-2 : tie.Need-returns-2
 unfolding callAt withNumber
 returns-2 c =
     let n = c .before .before .before .before .before in
-    rw (now-read n, sym (c .before .before .number-field2 .ensures) ∙ c .enum-told2 .given .1)
+    rw (now-read n, sym (c .before .before .keyed-number2 .ensures) ∙ c .enum-told2 .given .1)
 
 -- the line, once it is read, and the place that it goes back to
 abbrev now : tie.After-line → tie.After-now
@@ -64,13 +65,13 @@ now c = c .before .before .before .before .before
 line-read :
     (c : tie.After-line) →
     numberField (later lineKey) 255 (start (now c) .args .s .now) (now c .now .given .0 .1 .0) ≡ Number.Value (c .line .given .0 .0) (c .line .given .0 .1 .0)
-line-read c = sym (c .before .before .number-field2 .ensures) ∙ c .line .given .1
+line-read c = sym (c .before .before .keyed-number2 .ensures) ∙ c .line .given .1
 
 slice-aggregate-letter-field : tie.Need-slice-aggregate-letter-field
 slice-aggregate-letter-field c = refl
 
 letter-field-requires : tie.Need-letter-field-requires
-letter-field-requires c κs = tt
+letter-field-requires c κs = (lit≤ tt, lit≤ tt)
 
 enum-known-kind : tie.Need-enum-known-kind
 enum-known-kind c = c .match3 .keys1
@@ -94,11 +95,11 @@ kind-read :
     letterField (later kindKey) (start (now (line c)) .args .s .now) (line c .line .given .0 .1 .0) ≡ Number.Value (c .kind .given .0 .0) (c .kind .given .0 .1 .0)
 kind-read c = sym (c .before .before .letter-field .ensures) ∙ c .kind .given .1
 
-slice-aggregate-number-field-3 : tie.Need-slice-aggregate-number-field-3
-slice-aggregate-number-field-3 c = refl
+slice-aggregate-keyed-number-3 : tie.Need-slice-aggregate-keyed-number-3
+slice-aggregate-keyed-number-3 c = refl
 
-number-field-requires-3 : tie.Need-number-field-requires-3
-number-field-requires-3 c κs = tt
+keyed-number-requires-3 : tie.Need-keyed-number-requires-3
+keyed-number-requires-3 c κs = (lit≤ tt, lit≤ tt)
 
 enum-known-id : tie.Need-enum-known-id
 enum-known-id c = c .match4 .keys1
@@ -112,7 +113,7 @@ returns-4 c =
     let k = c .before .before .before .before .before in
     let l = line k in
     let n = now l in
-    rw (now-read n, line-read l, kind-read k, sym (c .before .before .number-field3 .ensures) ∙ c .enum-told4 .given .1)
+    rw (now-read n, line-read l, kind-read k, sym (c .before .before .keyed-number3 .ensures) ∙ c .enum-told4 .given .1)
 
 -- the id, once it is read, and the place that it goes back to
 abbrev kind : tie.After-id → tie.After-kind
@@ -121,13 +122,13 @@ kind c = c .before .before .before .before .before
 id-read :
     (c : tie.After-id) →
     numberField (later idKey) (2 ^ 32 - 1) (start (now (line (kind c))) .args .s .now) (kind c .kind .given .0 .1 .0) ≡ Number.Value (c .id .given .0 .0) (c .id .given .0 .1 .0)
-id-read c = sym (c .before .before .number-field3 .ensures) ∙ c .id .given .1
+id-read c = sym (c .before .before .keyed-number3 .ensures) ∙ c .id .given .1
 
-slice-aggregate-number-field-4 : tie.Need-slice-aggregate-number-field-4
-slice-aggregate-number-field-4 c = refl
+slice-aggregate-keyed-number-4 : tie.Need-slice-aggregate-keyed-number-4
+slice-aggregate-keyed-number-4 c = refl
 
-number-field-requires-4 : tie.Need-number-field-requires-4
-number-field-requires-4 c κs = tt
+keyed-number-requires-4 : tie.Need-keyed-number-requires-4
+keyed-number-requires-4 c κs = (lit≤ tt, lit≤ tt)
 
 enum-known-time : tie.Need-enum-known-time
 enum-known-time c = c .match5 .keys1
@@ -142,7 +143,7 @@ returns-5 c =
     let k = kind i in
     let l = line k in
     let n = now l in
-    rw (now-read n, line-read l, kind-read k, id-read i, sym (c .before .before .number-field4 .ensures) ∙ c .enum-told5 .given .1)
+    rw (now-read n, line-read l, kind-read k, id-read i, sym (c .before .before .keyed-number4 .ensures) ∙ c .enum-told5 .given .1)
 
 -- the time, once it is read, and the place that it goes back to
 abbrev id : tie.After-time → tie.After-id
@@ -151,13 +152,13 @@ id c = c .before .before .before .before .before
 time-read :
     (c : tie.After-time) →
     numberField (later timeKey) (2 ^ 32 - 1) (start (now (line (kind (id c)))) .args .s .now) (id c .id .given .0 .1 .0) ≡ Number.Value (c .time .given .0 .0) (c .time .given .0 .1 .0)
-time-read c = sym (c .before .before .number-field4 .ensures) ∙ c .time .given .1
+time-read c = sym (c .before .before .keyed-number4 .ensures) ∙ c .time .given .1
 
-slice-aggregate-number-field-5 : tie.Need-slice-aggregate-number-field-5
-slice-aggregate-number-field-5 c = refl
+slice-aggregate-keyed-number-5 : tie.Need-slice-aggregate-keyed-number-5
+slice-aggregate-keyed-number-5 c = refl
 
-number-field-requires-5 : tie.Need-number-field-requires-5
-number-field-requires-5 c κs = tt
+keyed-number-requires-5 : tie.Need-keyed-number-requires-5
+keyed-number-requires-5 c κs = (lit≤ tt, lit≤ tt)
 
 enum-known-meter : tie.Need-enum-known-meter
 enum-known-meter c = c .match6 .keys1
@@ -173,7 +174,7 @@ returns-6 c =
     let k = kind i in
     let l = line k in
     let n = now l in
-    rw (now-read n, line-read l, kind-read k, id-read i, time-read t, sym (c .before .before .number-field5 .ensures) ∙ c .enum-told6 .given .1)
+    rw (now-read n, line-read l, kind-read k, id-read i, time-read t, sym (c .before .before .keyed-number5 .ensures) ∙ c .enum-told6 .given .1)
 
 -- the meter, once it is read, and the place that it goes back to
 abbrev time : tie.After-meter → tie.After-time
@@ -182,13 +183,13 @@ time c = c .before .before .before .before .before
 meter-read :
     (c : tie.After-meter) →
     numberField (later meterKey) 255 (start (now (line (kind (id (time c))))) .args .s .now) (time c .time .given .0 .1 .0) ≡ Number.Value (c .meter .given .0 .0) (c .meter .given .0 .1 .0)
-meter-read c = sym (c .before .before .number-field5 .ensures) ∙ c .meter .given .1
+meter-read c = sym (c .before .before .keyed-number5 .ensures) ∙ c .meter .given .1
 
-slice-aggregate-integer-field : tie.Need-slice-aggregate-integer-field
-slice-aggregate-integer-field c = refl
+slice-aggregate-keyed-integer : tie.Need-slice-aggregate-keyed-integer
+slice-aggregate-keyed-integer c = refl
 
-integer-field-requires : tie.Need-integer-field-requires
-integer-field-requires c κs = tt
+keyed-integer-requires : tie.Need-keyed-integer-requires
+keyed-integer-requires c κs = (lit≤ tt, lit≤ tt)
 
 enum-known-value : tie.Need-enum-known-value
 enum-known-value c = c .match7 .keys1
@@ -205,7 +206,7 @@ returns-7 c =
     let k = kind i in
     let l = line k in
     let n = now l in
-    rw (now-read n, line-read l, kind-read k, id-read i, time-read t, meter-read m, sym (c .before .before .integer-field .ensures) ∙ c .enum-told7 .given .1)
+    rw (now-read n, line-read l, kind-read k, id-read i, time-read t, meter-read m, sym (c .before .before .keyed-integer .ensures) ∙ c .enum-told7 .given .1)
 
 -- the value, once it is read, and the place that it goes back to
 abbrev meter : tie.After-value → tie.After-meter
@@ -214,7 +215,7 @@ meter c = c .before .before .before .before .before
 value-read :
     (c : tie.After-value) →
     integerField (later valueKey) (start (now (line (kind (id (time (meter c)))))) .args .s .now) (meter c .meter .given .0 .1 .0) ≡ Integer.Value (c .value .given .0 .0) (c .value .given .0 .1 .0)
-value-read c = sym (c .before .before .integer-field .ensures) ∙ c .value .given .1
+value-read c = sym (c .before .before .keyed-integer .ensures) ∙ c .value .given .1
 
 ends-line-requires : tie.Need-ends-line-requires
 ends-line-requires c κs = tt
@@ -292,13 +293,13 @@ pub call-at-spec : {M : Type 1} → statement M
 call-at-spec =
     tie.close
     (tie.spec
-    slice-aggregate-number-field
-    number-field-requires
+    slice-aggregate-keyed-number
+    keyed-number-requires
     enum-known-now
     enum-told
     returns
-    slice-aggregate-number-field-2
-    number-field-requires-2
+    slice-aggregate-keyed-number-2
+    keyed-number-requires-2
     enum-known-line
     enum-told-2
     returns-2
@@ -307,23 +308,23 @@ call-at-spec =
     enum-known-kind
     enum-told-3
     returns-3
-    slice-aggregate-number-field-3
-    number-field-requires-3
+    slice-aggregate-keyed-number-3
+    keyed-number-requires-3
     enum-known-id
     enum-told-4
     returns-4
-    slice-aggregate-number-field-4
-    number-field-requires-4
+    slice-aggregate-keyed-number-4
+    keyed-number-requires-4
     enum-known-time
     enum-told-5
     returns-5
-    slice-aggregate-number-field-5
-    number-field-requires-5
+    slice-aggregate-keyed-number-5
+    keyed-number-requires-5
     enum-known-meter
     enum-told-6
     returns-6
-    slice-aggregate-integer-field
-    integer-field-requires
+    slice-aggregate-keyed-integer
+    keyed-integer-requires
     enum-known-value
     enum-told-7
     returns-7
