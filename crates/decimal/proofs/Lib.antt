@@ -4,6 +4,7 @@ pub mod Decimals
 pub mod Filled
 pub mod Runs
 pub mod Scanned
+pub mod ShortRuns
 pub mod Numbers
 pub mod NumberText
 pub mod Integers
