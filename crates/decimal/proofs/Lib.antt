@@ -6,5 +6,6 @@ pub mod Runs
 pub mod Scanned
 pub mod ShortRuns
 pub mod Numbers
+pub mod ShortNumbers
 pub mod NumberText
 pub mod Integers

@@ -1,7 +1,7 @@
 // Decimal numbers in text: read from a place on, and written into a lent area.
 ghost use mathlib.Core.Path.{_≡_};
 ghost use Prim.Native.Nat.{_+_, _<_, _≤_, _^_};
-ghost use lib.ListN.{length};
+ghost use lib.ListN.{length, getD};
 ghost use lib.Seq.{slice};
 ghost use Rattle.area.specs.Laid.{laid};
 ghost use Rattle.decimal.specs.Decimal.{digits, decimal};
@@ -107,6 +107,13 @@ fn is_digit(b: u8) -> bool
     (48 <= b) & (b <= 57)
 }
 
+// Whether a digit stands at a place.
+fn digit_at(s: &[u8], at: usize) -> bool
+    ensures { λ r. ⌜ r ≡ isDigit (getD (now (s .entry)) at 0) ⌝ }
+{
+    if at < s.len() { is_digit(s[at]) } else { false }
+}
+
 // The run of digits from `from` on, up to `stop` at most, behind digits of value `first`; 64 bits must hold it.
 fn scan_short(s: &[u8], first: u64, from: usize, stop: usize) -> ShortRun
     requires { ⌜ stop ≤ length (now s) ⌝ }
@@ -130,13 +137,36 @@ fn scan_short(s: &[u8], first: u64, from: usize, stop: usize) -> ShortRun
     }
 }
 
-// The unsigned number, of at most `most`, that the text spells from `at` on.
+// The unsigned number, of at most `most`, that the text spells from `at` on. With 32 bits it has at most ten digits.
 pub fn read_number(s: &[u8], at: usize, most: u32) -> Number
     ensures { λ r. ⌜ r ≡ numberAt most (now (s .entry)) at ⌝ }
 {
-    let WideNumber::Value(value, end) = read_wide(s, at, most as u64) else {
+    if s.len() <= at {
         return Number::Malformed;
-    };
+    }
+    let b = s[at];
+    if !is_digit(b) {
+        return Number::Malformed;
+    }
+    let next = at + 1;
+    if b == 48 {
+        if digit_at(s, next) {
+            return Number::Malformed;
+        }
+        return Number::Value(0, next);
+    }
+    let stop = if s.len() - at < 10 { s.len() } else { at + 10 };
+    let run = scan_short(s, (b - 48) as u64, next, stop);
+    let end = run.end;
+    let value = run.value;
+    if end == stop {
+        if digit_at(s, end) {
+            return Number::Malformed;
+        }
+    }
+    if (most as u64) < value {
+        return Number::Malformed;
+    }
     Number::Value(value as u32, end)
 }
 
