@@ -10,8 +10,8 @@ use lib.Dec.{ltb, leb}
 use lib.IntN.{ℤ, pos, negsuc}
 use lib.Signed.{mag}
 use Rattle.signed.specs.Twos.{twos}
+use Rattle.store.proofs.Over.{below-over}
 use Rattle.operator_meter.specs.Bounds.{countLimit, sumOk, meterOk}
-use Rattle.operator_bounds.proofs.Over.{below-over}
 
 first-below : (a b k : ℕ) → k ≤ a → (ltb a k && ltb b k) ≡ false
 first-below a b k h = rw (le-ltb a k h) refl

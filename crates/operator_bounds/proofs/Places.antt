@@ -14,6 +14,7 @@ use lib.Signed.{mag}
 use Rattle.signed.specs.Twos.{twos}
 use Rattle.store.specs.Lists.{allOf}
 use Rattle.store.proofs.Choices.{and-parts, not-both}
+use Rattle.store.proofs.Over.{zero-over, zero-apart}
 use Rattle.operator_meter.specs.declared.Meter.{Meter}
 use Rattle.operator_meter.specs.Values.{noMeter}
 use Rattle.operator_meter.specs.Bounds.{countLimit, sumOk, meterOk}
@@ -32,7 +33,6 @@ use Rattle.operator_bounds.specs.Places.{
   rowsEqual,
 }
 use Rattle.operator_rows.proofs.InRow.{meterIn, length-in, meter-in}
-use Rattle.operator_bounds.proofs.Over.{zero-over, zero-apart}
 
 -- ---- sums
 
