@@ -71,11 +71,10 @@ fn is_head_ok(h: LineHead) -> bool
 // Whether a share's n readings from `base` on are S or T, of known meters, with rising ids.
 fn is_share_ok(ids: &[u32], kinds: &[u8], meters: &[u8], base: usize, n: usize) -> bool
     requires { let end = base + n in
-        ⌜ (end ≤ length (now ids)) × (end ≤ length (now kinds)) × (end ≤ length (now meters)) ⌝ }
+        ⌜ (n ≤ readingsPerLine) × (end ≤ length (now ids)) × (end ≤ length (now kinds)) × (end ≤ length (now meters)) ⌝ }
     ensures { λ r. ⌜ r ≡ shareOk base n (now (ids .entry)) (now (kinds .entry)) (now (meters .entry)) ⌝ }
 {
-    (store_columns::are_readings(kinds, base, n)
-        & store_columns::are_below(meters, base, n, operator::METER_LIMIT))
+    store_columns::are_readings(kinds, meters, base, n, operator::METER_LIMIT)
         & store_columns::ids_rise(ids, base, n)
 }
 

@@ -2,6 +2,8 @@
 -- places.
 pub mod Zeroed
 pub mod Tests
+pub mod Overlaid
+pub mod SmallSteps
 pub mod LateDue
 pub mod Rows
 pub mod Kept

@@ -79,7 +79,7 @@ module _ (test : ℕ → ℕ → Bool) (xs ys : List ℕ) (base n : ℕ) where
 
 -- ---- whether the numbers rise
 
-few-rise : (xs : List ℕ) → length xs ≤ 1 → rises xs ≡ true
+pub few-rise : (xs : List ℕ) → length xs ≤ 1 → rises xs ≡ true
 unfolding rises
 few-rise [] h = refl
 few-rise (x ∷ []) h = refl
