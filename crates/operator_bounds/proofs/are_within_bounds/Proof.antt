@@ -16,31 +16,41 @@ use Rattle.operator_bounds.proofs.are_within_bounds.Tie as tie
 abbrev rows : tie.Start → List (List ℤ) → Rows
 rows s lasts = rowsOf (s .args .counts .now) (s .args .sums .now) lasts
 
+-- all counts, laid over each other, once the rows are not both empty
+abbrev overlaid : tie.Else1 → tie.After-counts-over
+overlaid c = c .before .before
+
 -- the entry, from where the operator's row is tested
-abbrev entry : tie.After-is-row-within-bounds → tie.Start
-entry c = c .before .before .before
+abbrev entry : tie.After-is-row-ok → tie.Start
+entry c = overlaid (c .before) .before
 
 -- the operator's row is within its bounds
 operator-ok : (e : tie.Else2) (lasts : List (List ℤ)) → allOf meterOk (metersIn operatorRow (rows (entry (e .before)) lasts)) ≡ true
 operator-ok e lasts =
-    let tested = e .before .is-row-within-bounds in
+    let tested = e .before .is-row-ok in
     sym (tested .ensures lasts) ∙ not-false (tested .result) (e .if2 .left)
+
+counts-over-requires : tie.Need-counts-over-requires
+counts-over-requires c κs = tt
 
 are-rows-empty-requires : tie.Need-are-rows-empty-requires
 are-rows-empty-requires c κs = tt
 
 returns : tie.Need-returns
 returns c =
+    let counted = c .before .before in
     λ lasts.
-    let (operator, checkpoint) = empty-within (rows (c .before .before) lasts) (sym (c .before .are-rows-empty .ensures) ∙ c .if1 .taken) in
+    let (operator, checkpoint) =
+    empty-within (rows (counted .before) lasts) (counted .counts-over .result) (counted .counts-over .ensures)
+    (sym (c .before .are-rows-empty .ensures) ∙ c .if1 .taken) in
     sym (ap₂ _&&_ operator checkpoint)
 
-is-row-within-bounds-requires : tie.Need-is-row-within-bounds-requires
-is-row-within-bounds-requires c κs = omega arith
+is-row-ok-requires : tie.Need-is-row-ok-requires
+is-row-ok-requires c κs = (omega arith, overlaid c .counts-over .ensures)
 
 returns-2 : tie.Need-returns-2
 returns-2 c =
-    let tested = c .before .is-row-within-bounds in
+    let tested = c .before .is-row-ok in
     λ lasts. rw (sym (tested .ensures lasts) ∙ not-true (tested .result) (c .if2 .taken)) refl
 
 are-rows-equal-requires : tie.Need-are-rows-equal-requires
@@ -53,22 +63,23 @@ returns-3 c =
     let ok = operator-ok (c .before .before) lasts in
     sym (ap₂ _&&_ ok (sym same ∙ ok))
 
-is-row-within-bounds-requires-2 : tie.Need-is-row-within-bounds-requires-2
-is-row-within-bounds-requires-2 c κs = omega arith
+is-row-ok-requires-2 : tie.Need-is-row-ok-requires-2
+is-row-ok-requires-2 c κs = (omega arith, overlaid (c .before .before .before .before) .counts-over .ensures)
 
 returns-4 : tie.Need-returns-4
 returns-4 c =
-    λ lasts. rw (operator-ok (c .before .before .before) lasts) (c .is-row-within-bounds2 .ensures lasts)
+    λ lasts. rw (operator-ok (c .before .before .before) lasts) (c .is-row-ok2 .ensures lasts)
 
 pub are-within-bounds-spec : {M : Type 1} → statement M
 are-within-bounds-spec =
     tie.close
     (tie.spec
+    counts-over-requires
     are-rows-empty-requires
     returns
-    is-row-within-bounds-requires
+    is-row-ok-requires
     returns-2
     are-rows-equal-requires
     returns-3
-    is-row-within-bounds-requires-2
+    is-row-ok-requires-2
     returns-4)
