@@ -266,7 +266,7 @@ pub fn fetch(mut cursor: Cursor, opened: bool, buf: &mut [u8], out: &[u8]) -> Cu
 }
 
 // Goes on after a text of `text` bytes is played and its reply of `reply` bytes laid behind what the output holds; behind the last, only
-// what the output holds is still to be written.
+// what the output holds is still to be written. Mostly the next line is in the buffer and its reply has room: that is tried first.
 pub fn onward(mut cursor: Cursor, text: usize, reply: usize, buf: &mut [u8], out: &[u8]) -> Cursor
     requires { ⌜ Ready (now buf) (length (now out)) (replied cursor text reply) ⌝ }
     ensures { λ r. ⌜ Followed cursor text reply (now (buf .entry)) r (now (buf .exit)) (length (now (out .entry))) ⌝ }
@@ -275,6 +275,12 @@ pub fn onward(mut cursor: Cursor, text: usize, reply: usize, buf: &mut [u8], out
     if !cursor.last {
         cursor.at = cursor.at + text;
         cursor.used = used;
+        if (cursor.at < cursor.whole)
+            & (!cursor.passing & (used + playback_reply::LONGEST_REPLY <= out.len()))
+        {
+            cursor.plays = true;
+            return cursor;
+        }
         return fetch(cursor, true, buf, out);
     }
     write_out(&out[0..used]);
