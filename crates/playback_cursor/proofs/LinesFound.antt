@@ -8,14 +8,14 @@ use native.Mathlib.Omega.{arith}
 use lib.Dec.{eqb}
 use lib.ListN.{length, getD, take, drop}
 use lib.Seq.{take-all, getD-take, getD-drop}
-use Rattle.fields.specs.Line.{nextLine}
+use Rattle.fields.specs.Line.{nextLine, holdsLine}
 use Rattle.fields.specs.Field.{endsLine}
 use Rattle.fields.proofs.Lines.{line-within}
 use Rattle.playback_reply.specs.Reply.{longestReply}
 use Rattle.store.proofs.Choices.{not-both, false-unless}
 use Rattle.playback_cursor.specs.declared.Cursor.{Cursor}
 use Rattle.playback_cursor.specs.declared.Room.{Room}
-use Rattle.playback_cursor.specs.Cut.{holdsLine, behindLine, past, part, unread, textAt, replied, Stands, failed, Fetched}
+use Rattle.playback_cursor.specs.Cut.{behindLine, past, part, unread, textAt, replied, Stands, failed, Fetched}
 use Rattle.playback_cursor.specs.Step.{Roomy, Advanced}
 use Rattle.playback_cursor.proofs.WholeLines.{held-at, held-append, whole-append, behind-whole}
 use Rattle.playback_cursor.proofs.Cuts.{second-part, part-split, length-part}

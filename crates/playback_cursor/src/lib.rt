@@ -5,7 +5,8 @@ ghost use mathlib.Core.Logic.{_⊎_};
 ghost use Prim.Native.Nat.{_+_, _-_, _<_, _≤_};
 ghost use lib.ListN.{length, take, drop};
 ghost use Rattle.playback_reply.specs.Reply.{longestReply};
-ghost use Rattle.playback_cursor.specs.Cut.{holdsLine, unread, allRead, replied, Ready, Fetched, Followed};
+ghost use Rattle.fields.specs.Line.{holdsLine};
+ghost use Rattle.playback_cursor.specs.Cut.{unread, allRead, replied, Ready, Fetched, Followed};
 ghost use Rattle.playback_cursor.specs.Step.{Roomy, LinesEnd, Advanced};
 
 // Whether a read or a write that moved no byte is to be tried again: a signal interrupted it, or the other side is not ready, for which the
