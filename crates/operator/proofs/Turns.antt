@@ -23,7 +23,8 @@ use Rattle.store.proofs.Apart.{gather-ties}
 use Rattle.store.proofs.Choices.{cond-either}
 use Rattle.store.proofs.Pairs.{every-to, every-set, every-at}
 use Rattle.store.proofs.Shares.{share-none, share-cons}
-use Rattle.store_places.specs.Places.{placesWhere, isTimeOf}
+use Rattle.store_places.specs.Places.{isTimeOf}
+use Rattle.store_columns.proofs.Rows.{placesWhere}
 use Rattle.store_columns.proofs.Kept.{bucketPlaces, bucket-readings}
 use Rattle.operator_meter.specs.declared.Meter.{Meter}
 use Rattle.operator_meter.specs.Bounds.{countLimit}
