@@ -3,6 +3,7 @@
 pub mod Zeroed
 pub mod Tests
 pub mod Overlaid
+pub mod Blocks
 pub mod SmallSteps
 pub mod LateDue
 pub mod Rows

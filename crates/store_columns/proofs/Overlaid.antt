@@ -16,7 +16,7 @@ use Rattle.store_columns.specs.Shape.{isReadingKind}
 use Rattle.store_columns.specs.Tests.{PowerOfTwo}
 use Rattle.store_columns.proofs.Tests.{AllSoFar, all-start, all-turn}
 
-kind-less-S : (kind word : ℕ) → word < 2 ^ 8 → (word + letterS) % 2 ^ 8 ≡ kind → ltb word 2 ≡ isReadingKind kind
+pub kind-less-S : (kind word : ℕ) → word < 2 ^ 8 → (word + letterS) % 2 ^ 8 ≡ kind → ltb word 2 ≡ isReadingKind kind
 unfolding isReadingKind
 kind-less-S kind zero fits e = ap isReadingKind e
 kind-less-S kind (suc zero) fits e = ap isReadingKind e

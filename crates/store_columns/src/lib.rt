@@ -12,7 +12,7 @@ ghost use Rattle.journal.specs.Kinds.{letterT};
 ghost use Rattle.store.specs.Sizes.{readingsPerLine};
 ghost use Rattle.store.specs.Lists.{someOf, allOf};
 ghost use Rattle.store.specs.Parts.{share, withRowsAt};
-ghost use Rattle.store_columns.specs.Tests.{PowerOfTwo, someOfBoth, isLateDue};
+ghost use Rattle.store_columns.specs.Tests.{PowerOfTwo, someOfBoth, allFrom, isReadingAt, areZero, isLateDue};
 ghost use Rattle.store_columns.specs.Shape.{rises, isReadingKind};
 ghost use Rattle.store.specs.Columns.{Columns, columnsOf, storeLength, zeroed};
 use clock::ArrivalTick;
@@ -100,8 +100,8 @@ pub fn ids_rise(ids: &[u32], base: usize, n: usize) -> bool
 }
 
 // Whether every kind is S or T and every meter below a limit, all laid over each other: S and T are neighbours, so that a kind less S,
-// wrapped, is below 2 for them only.
-pub fn are_readings(kinds: &[u8], meters: &[u8], base: usize, n: usize, limit: u8) -> bool
+// wrapped, is below 2 for them only. For fewer readings than a block.
+fn are_few_readings(kinds: &[u8], meters: &[u8], base: usize, n: usize, limit: u8) -> bool
     requires { ⌜ (base + n ≤ length (now kinds)) × (base + n ≤ length (now meters)) × PowerOfTwo limit ⌝ }
     ensures { λ r. ⌜ r ≡ (allOf isReadingKind (share base n (now (kinds .entry)))
         && allOf (λ m. ltb m limit) (share base n (now (meters .entry)))) ⌝ }
@@ -115,6 +115,75 @@ pub fn are_readings(kinds: &[u8], meters: &[u8], base: usize, n: usize, limit: u
         i += 1;
     }
     (kind < 2) & (meter < limit)
+}
+
+// The lesser of two places.
+fn lesser(a: usize, b: usize) -> usize
+    ensures { λ r. ⌜ (a < b → r ≡ a) × (b ≤ a → r ≡ b) ⌝ }
+{
+    if a < b { a } else { b }
+}
+
+// 0 exactly if the kind is S or T and the meter below the limit.
+fn wrong_bits(kind: u8, meter: u8, limit: u8) -> u8
+    requires { ⌜ 0 < limit ⌝ }
+    ensures { λ r. ⌜ eqb r 0 ≡ (isReadingKind kind && ltb meter limit) ⌝ }
+{
+    (std::num::wrapping_sub_u8(kind, journal::STABLE) / 2) | (meter / limit)
+}
+
+// Lays the wrong bits of a block's readings over the words, each over that of its place.
+fn lay_over(words: &mut [u8; 16], kinds: &[u8], meters: &[u8], from: usize, limit: u8)
+    requires { ⌜ (0 < limit) × (from + 16 ≤ length (now kinds)) × (from + 16 ≤ length (now meters)) × (length (now words) ≡ 16) ⌝ }
+    ensures { λ _. ⌜ (length (now (words .exit)) ≡ 16) × (areZero (now (words .exit))
+        ≡ (areZero (now (words .entry)) && allFrom (isReadingAt (now (kinds .entry)) (now (meters .entry)) limit) from 16)) ⌝ }
+{
+    let mut k = 0;
+    while k < 16 {
+        words[k] = words[k] | wrong_bits(kinds[from + k], meters[from + k], limit);
+        k += 1;
+    }
+}
+
+// Whether no bit is set.
+fn are_all_zero(words: [u8; 16]) -> bool
+    ensures { λ r. ⌜ r ≡ areZero words ⌝ }
+{
+    let mut any = 0u8;
+    let mut k = 0;
+    while k < 16 {
+        any = any | words[k];
+        k += 1;
+    }
+    any == 0
+}
+
+// The same test, block by block. The last block reaches back, so that nothing is left behind the last whole one.
+fn are_blocks_readings(kinds: &[u8], meters: &[u8], base: usize, n: usize, limit: u8) -> bool
+    requires { ⌜ (0 < limit) × (16 ≤ n) × (base + n ≤ length (now kinds)) × (base + n ≤ length (now meters)) ⌝ }
+    ensures { λ r. ⌜ r ≡ allFrom (isReadingAt (now (kinds .entry)) (now (meters .entry)) limit) base n ⌝ }
+{
+    let mut wrong = [0u8; 16];
+    let end = base + n;
+    let mut at = base;
+    while at < end {
+        let from = lesser(at, end - 16);
+        lay_over(&mut wrong, kinds, meters, from, limit);
+        at += 16;
+    }
+    are_all_zero(wrong)
+}
+
+// Whether every kind is S or T and every meter below a limit.
+pub fn are_readings(kinds: &[u8], meters: &[u8], base: usize, n: usize, limit: u8) -> bool
+    requires { ⌜ (base + n ≤ length (now kinds)) × (base + n ≤ length (now meters)) × PowerOfTwo limit ⌝ }
+    ensures { λ r. ⌜ r ≡ (allOf isReadingKind (share base n (now (kinds .entry)))
+        && allOf (λ m. ltb m limit) (share base n (now (meters .entry)))) ⌝ }
+{
+    if 16 <= n {
+        return are_blocks_readings(kinds, meters, base, n, limit);
+    }
+    are_few_readings(kinds, meters, base, n, limit)
 }
 
 // Whether some reading is tentative.
