@@ -1,27 +1,23 @@
 -- Readings tested block by block: the wrong bits of each are laid over words, and what the words tell together with the test of the places
 -- that are left stays the same. The last block reaches back over places that were tested, which changes nothing.
-use Prim.Native.Nat.{ℕ, zero, suc, _+_, _-_, _/_, _%_, _^_, _<_, _≤_}
+use Prim.Native.Nat.{ℕ, zero, suc, _+_, _-_, _<_, _≤_}
 use mathlib.Core.Path.{_≡_, refl, sym, ap, ap₂, _∙_}
 use mathlib.Core.Bool.{Bool, true, false, _&&_, and-assoc, and-true}
 use mathlib.Core.List.{List, [], _∷_}
 use native.Mathlib.Omega.{arith}
-use native.Mathlib.Numerals.{add-one}
-use native.Mathlib.Nat.{add-zero, div-eq-of-lt, le-div-iff-mul-le}
-use borrow.Author.Tests.{ltb-true, ltb-false, eq-eqb, ne-eqb}
+use native.Mathlib.Nat.{add-zero}
+use borrow.Author.Tests.{ltb-true, ltb-false}
 use lib.Bits.{bitOr}
 use lib.Dec.{ltb, eqb}
 use lib.ListN.{length, getD, set, replicate, length-set}
-use lib.Pow.{pow-pos}
 use lib.Seq.{take-all}
-use Rattle.journal.specs.Kinds.{letterS}
 use Rattle.store.specs.Lists.{allOf}
 use Rattle.store.specs.Parts.{share}
 use Rattle.store.proofs.Over.{zero-over}
 use Rattle.store.proofs.Shares.{share-none, share-cons}
 use Rattle.store_columns.specs.Shape.{isReadingKind}
-use Rattle.store_columns.specs.Tests.{PowerOfTwo, allFrom, isReadingAt, areZero}
+use Rattle.store_columns.specs.Tests.{allFrom, isReadingAt, areZero}
 use Rattle.store_columns.proofs.Tests.{AllSoFar, all-start, all-turn, all-end}
-use Rattle.store_columns.proofs.Overlaid.{kind-less-S}
 
 -- ---- tests in a Bool
 
@@ -47,24 +43,6 @@ reached-back ok all before false left e f = and-false ok ∙ sym (f ∙ and-fals
     and-false : (b : Bool) → b && false ≡ false
     and-false true = refl
     and-false false = refl
-
--- ---- the wrong bits of one reading
-
-none-whole : (x d : ℕ) → 0 < d → eqb (x / d) 0 ≡ ltb x d
-none-whole x d positive =
-    (elim (ltb x d) as (λ b. ltb x d ≡ b → eqb (x / d) 0 ≡ b) [
-      | true ↦ λ e. eq-eqb (x / d) 0 (div-eq-of-lt (ltb-true x d e))
-      | false ↦ λ e.
-          let some : 1 ≤ x / d = le-div-iff-mul-le positive .1 (omega (arith, ltb-false x d e)) in
-          ne-eqb (x / d) 0 (λ z. omega arith)
-    ]) refl
-
-pub bits-of-both :
-    (kind meter limit word : ℕ) → 0 < limit → word < 2 ^ 8 → (word + letterS) % 2 ^ 8 ≡ kind →
-    eqb (bitOr (word / 2) (meter / limit)) 0 ≡ (isReadingKind kind && ltb meter limit)
-bits-of-both kind meter limit word positive fits e =
-    zero-over (word / 2) (meter / limit)
-    ∙ ap₂ _&&_ (none-whole word 2 (omega arith) ∙ kind-less-S kind word fits e) (none-whole meter limit positive)
 
 -- ---- places from one on
 
@@ -248,6 +226,3 @@ both-columns kinds meters limit base (suc n) h g =
     (both-columns kinds meters limit (suc base) n (omega arith) (omega arith))
     ∙ and-pairs (isReadingKind (getD kinds base 0)) (ltb (getD meters base 0) limit)
     (allOf isReadingKind (share (suc base) n kinds)) (allOf (λ m. ltb m limit) (share (suc base) n meters)))
-
-pub power-positive : (limit : ℕ) → PowerOfTwo limit → 0 < limit
-power-positive limit power = rw (power .is) (pow-pos (power .exponent))

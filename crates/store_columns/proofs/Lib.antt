@@ -3,6 +3,7 @@
 pub mod Zeroed
 pub mod Tests
 pub mod Overlaid
+pub mod WrongBits
 pub mod Blocks
 pub mod SmallSteps
 pub mod LateDue

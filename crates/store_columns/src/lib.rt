@@ -124,17 +124,18 @@ fn lesser(a: usize, b: usize) -> usize
     if a < b { a } else { b }
 }
 
-// 0 exactly if the kind is S or T and the meter below the limit.
+// 0 exactly if the kind is S or T and the meter below the limit: of a kind less S, wrapped, the lowest bit may be set, and of
+// a meter the bits below the limit's.
 fn wrong_bits(kind: u8, meter: u8, limit: u8) -> u8
-    requires { ⌜ 0 < limit ⌝ }
+    requires { ⌜ PowerOfTwo limit ⌝ }
     ensures { λ r. ⌜ eqb r 0 ≡ (isReadingKind kind && ltb meter limit) ⌝ }
 {
-    (std::num::wrapping_sub_u8(kind, journal::STABLE) / 2) | (meter / limit)
+    (std::num::wrapping_sub_u8(kind, journal::STABLE) & 254) | (meter & (255 - (limit - 1)))
 }
 
 // Lays the wrong bits of a block's readings over the words, each over that of its place.
 fn lay_over(words: &mut [u8; 16], kinds: &[u8], meters: &[u8], from: usize, limit: u8)
-    requires { ⌜ (0 < limit) × (from + 16 ≤ length (now kinds)) × (from + 16 ≤ length (now meters)) × (length (now words) ≡ 16) ⌝ }
+    requires { ⌜ (from + 16 ≤ length (now kinds)) × (from + 16 ≤ length (now meters)) × PowerOfTwo limit × (length (now words) ≡ 16) ⌝ }
     ensures { λ _. ⌜ (length (now (words .exit)) ≡ 16) × (areZero (now (words .exit))
         ≡ (areZero (now (words .entry)) && allFrom (isReadingAt (now (kinds .entry)) (now (meters .entry)) limit) from 16)) ⌝ }
 {
@@ -160,7 +161,7 @@ fn are_all_zero(words: [u8; 16]) -> bool
 
 // The same test, block by block. The last block reaches back, so that nothing is left behind the last whole one.
 fn are_blocks_readings(kinds: &[u8], meters: &[u8], base: usize, n: usize, limit: u8) -> bool
-    requires { ⌜ (0 < limit) × (16 ≤ n) × (base + n ≤ length (now kinds)) × (base + n ≤ length (now meters)) ⌝ }
+    requires { ⌜ (16 ≤ n) × (base + n ≤ length (now kinds)) × (base + n ≤ length (now meters)) × PowerOfTwo limit ⌝ }
     ensures { λ r. ⌜ r ≡ allFrom (isReadingAt (now (kinds .entry)) (now (meters .entry)) limit) base n ⌝ }
 {
     let mut wrong = [0u8; 16];

@@ -2,7 +2,6 @@
 use Prim.Native.Nat.{_-_}
 use native.Mathlib.Omega.{arith}
 use borrow.Author.Needs.{needs}
-use lib.Dec.{eqb}
 use Rattle.store_columns.proofs.Blocks.{ZeroSoFar, zero-start, zero-turn, zero-end}
 use Rattle.store_columns.proofs.are_all_zero.Statement.{statement}
 use Rattle.store_columns.proofs.are_all_zero.Tie as tie

@@ -1,6 +1,6 @@
 -- `store_columns::are_blocks_readings` meets its contract: what the words tell, with the test of the places that are left, stays the same.
 use Prim.Native.Nat.{_+_, _-_}
-use mathlib.Core.Path.{_≡_, _∙_}
+use mathlib.Core.Path.{_∙_}
 use native.Mathlib.Omega.{arith}
 use Rattle.store_columns.specs.Tests.{isReadingAt}
 use Rattle.store_columns.proofs.Blocks.{BlocksSoFar, blocks-start, blocks-turn, blocks-end, lesser-within}
@@ -38,7 +38,7 @@ lay-over-requires c κs =
     let p = start head .pre in
     let from = c .before .lesser in
     let within = lesser-within (head .loop .at) (a .base + a .n - 16) (from .result) (from .ensures) in
-    (p .0, omega (arith, p), omega (arith, p), head .loop .inv .0)
+    (omega (arith, p), omega (arith, p), p .3, head .loop .inv .0)
 
 add-at : tie.Need-add-at Inv-loop μ-loop
 add-at c = omega arith
@@ -54,7 +54,7 @@ loop-again c =
     let l = head .loop in
     let from = c .before .before .lesser in
     blocks-turn (isReadingAt (a .kinds .now) (a .meters .now) (a .limit)) (a .base) (a .n) (l .wrong) (c .lay-over .last .0) (l .at)
-    (from .result) (l .inv) (p .1) (omega arith) (from .ensures) (c .lay-over .ensures)
+    (from .result) (l .inv) (p .0) (omega arith) (from .ensures) (c .lay-over .ensures)
 
 are-all-zero-requires : tie.Need-are-all-zero-requires Inv-loop μ-loop
 are-all-zero-requires c κs = tt

@@ -1,7 +1,7 @@
 -- `store_columns::are_readings` meets its contract: block by block the test goes by places, which comes to the same as by columns.
 use mathlib.Core.Path.{_∙_}
 use native.Mathlib.Omega.{arith}
-use Rattle.store_columns.proofs.Blocks.{both-columns, power-positive}
+use Rattle.store_columns.proofs.Blocks.{both-columns}
 use Rattle.store_columns.proofs.are_readings.Statement.{statement}
 use Rattle.store_columns.proofs.are_readings.Tie as tie
 
@@ -9,7 +9,7 @@ are-blocks-readings-requires : tie.Need-are-blocks-readings-requires
 are-blocks-readings-requires c κs =
     let start = c .before .before .before in
     let p = start .pre in
-    (power-positive (start .args .limit) (p .2), omega arith, p .0, p .1)
+    (omega arith, p .0, p .1, p .2)
 
 returns : tie.Need-returns
 returns c =

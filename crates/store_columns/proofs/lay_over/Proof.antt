@@ -36,7 +36,7 @@ shared-slice-read-wrong-bits-2 : tie.Need-shared-slice-read-wrong-bits-2 Inv-loo
 shared-slice-read-wrong-bits-2 c = omega arith
 
 wrong-bits-requires : tie.Need-wrong-bits-requires Inv-loop μ-loop
-wrong-bits-requires c κs = c .before .before .before .before .before .before .before .pre .0
+wrong-bits-requires c κs = c .before .before .before .before .before .before .before .pre .2
 
 element-write-words : tie.Need-element-write-words Inv-loop μ-loop
 element-write-words c = omega arith
