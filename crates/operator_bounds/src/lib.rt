@@ -81,7 +81,7 @@ fn are_sums_small(counts: &[[u32; METERS]; ROWS], sums: &[[i64; METERS]; ROWS], 
 
 // All counts of both rows, laid over each other. Here and below, counts and sums have a loop each, without a way out but its end, so that
 // the compiler takes as many places side by side as their width allows.
-fn counts_over(counts: &[[u32; METERS]; ROWS]) -> u32
+pub fn counts_over(counts: &[[u32; METERS]; ROWS]) -> u32
     ensures { λ r. ⌜ CountsOver r (now (counts .entry)) ⌝ }
 {
     let mut over = 0u32;
@@ -156,7 +156,7 @@ fn are_sums_equal(sums: &[[i64; METERS]; ROWS]) -> bool
 }
 
 // Whether no meter of operator and checkpoint has a count or a sum, as between windows.
-fn are_rows_empty(over: u32, sums: &[[i64; METERS]; ROWS]) -> bool
+pub fn are_rows_empty(over: u32, sums: &[[i64; METERS]; ROWS]) -> bool
     ensures { λ r. ⌜ r ≡ (eqb over 0 && allBelow (sumsZeroAt (now (sums .entry))) meterCount) ⌝ }
 {
     if over != 0 {
@@ -175,8 +175,23 @@ fn are_rows_equal(counts: &[[u32; METERS]; ROWS], sums: &[[i64; METERS]; ROWS]) 
     are_sums_equal(sums)
 }
 
-// Whether every meter of operator and checkpoint is within its bounds. Empty rows are; and where the operator's row is, a checkpoint equal
-// to it needs no look.
+// Whether every meter of operator and checkpoint is within its bounds; `over` is all counts, laid over each other. Where the operator's row
+// is, a checkpoint equal to it needs no look.
+pub fn are_rows_ok(counts: &[[u32; METERS]; ROWS], sums: &[[i64; METERS]; ROWS], over: u32) -> bool
+    requires { ⌜ CountsOver over (now counts) ⌝ }
+    ensures { λ r. ⌜ ((lasts : List (List ℤ)) → (let rows : Rows = rowsOf (now (counts .entry)) (now (sums .entry)) lasts in
+        r ≡ (allOf meterOk (metersIn operatorRow rows) && allOf meterOk (metersIn checkpointRow rows)))) ⌝ }
+{
+    if !is_row_ok(counts, sums, OPERATOR, over) {
+        return false;
+    }
+    if are_rows_equal(counts, sums) {
+        return true;
+    }
+    is_row_ok(counts, sums, CHECKPOINT, over)
+}
+
+// The same, where nothing is known of the counts. Empty rows are within their bounds.
 pub fn are_within_bounds(counts: &[[u32; METERS]; ROWS], sums: &[[i64; METERS]; ROWS]) -> bool
     ensures { λ r. ⌜ ((lasts : List (List ℤ)) → (let rows : Rows = rowsOf (now (counts .entry)) (now (sums .entry)) lasts in
         r ≡ (allOf meterOk (metersIn operatorRow rows) && allOf meterOk (metersIn checkpointRow rows)))) ⌝ }
@@ -185,11 +200,5 @@ pub fn are_within_bounds(counts: &[[u32; METERS]; ROWS], sums: &[[i64; METERS]; 
     if are_rows_empty(over, sums) {
         return true;
     }
-    if !is_row_ok(counts, sums, OPERATOR, over) {
-        return false;
-    }
-    if are_rows_equal(counts, sums) {
-        return true;
-    }
-    is_row_ok(counts, sums, CHECKPOINT, over)
+    are_rows_ok(counts, sums, over)
 }
