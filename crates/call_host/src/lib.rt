@@ -1,10 +1,14 @@
 // Refusals 3 to 5 of a journal call, by the tests that a display's calls make too.
 ghost use mathlib.Core.Path.{_≡_};
+ghost use mathlib.Core.Bool.{_&&_};
 ghost use mathlib.Core.List.{List};
 ghost use Prim.Native.Nat.{ℕ};
 ghost use lib.IntN.{ℤ};
 ghost use lib.ListN.{length};
+ghost use Rattle.store.specs.Lists.{allOf};
 ghost use Rattle.store.specs.Columns.{columnsOf};
+ghost use Rattle.operator_meter.specs.Bounds.{meterOk};
+ghost use Rattle.operator_rows.specs.Rows.{Rows, rowsOf, operatorRow, checkpointRow, metersIn};
 ghost use Rattle.protocol.specs.Refusals.{firstFailed};
 ghost use Rattle.node.specs.Held.{arraysOf, held};
 ghost use Rattle.node.specs.View.{lentOf};
@@ -13,6 +17,19 @@ use node::ALL_HEADS;
 use node::State;
 use operator::METERS;
 use operator_rows::ROWS;
+
+// What `operator_bounds::are_within_bounds` is for a display's calls, apart for the same reason as the function below. Mostly the rows are
+// empty, and the compiler lays the test for that into the caller.
+fn are_meters_ok(counts: &[[u32; METERS]; ROWS], sums: &[[i64; METERS]; ROWS]) -> bool
+    ensures { λ r. ⌜ ((lasts : List (List ℤ)) → (let rows : Rows = rowsOf (now (counts .entry)) (now (sums .entry)) lasts in
+        r ≡ (allOf meterOk (metersIn operatorRow rows) && allOf meterOk (metersIn checkpointRow rows)))) ⌝ }
+{
+    let over = operator_bounds::counts_over(counts);
+    if operator_bounds::are_rows_empty(over, sums) {
+        return true;
+    }
+    operator_bounds::are_rows_ok(counts, sums, over)
+}
 
 // What `call_shape::host_refusal` is for a display's calls. A journal call has a function of its own, with one caller, so that the compiler
 // lays the tests into it and need not hand over state and stores in memory on every line.
@@ -52,7 +69,7 @@ pub fn host_refusal(
     if !call_shape::are_lines_ok(heads, lines, ids, kinds, meters) {
         return answer::OUT_OF_SHAPE;
     }
-    if !operator_bounds::are_within_bounds(counts, sums) {
+    if !are_meters_ok(counts, sums) {
         return answer::OUT_OF_SHAPE;
     }
     let acknowledged = state.acknowledged;

@@ -71,7 +71,7 @@ misshapen c lasts area =
 abbrev own : tie.After-are-lines-ok → tie.Else3
 own l = l .before .before
 
-abbrev lined : tie.After-are-within-bounds → tie.Else4
+abbrev lined : tie.After-are-meters-ok → tie.Else4
 lined b = b .before
 
 limits : (e : tie.Else3) → Limits (entry (e .before .before) .args .state .settings)
@@ -86,14 +86,14 @@ unfolding places view
 tested l lasts = let q = own l .before .before in l .are-lines-ok .ensures (columns (entry q)) (lends q)
 
 shaped :
-    (b : tie.After-are-within-bounds) (lasts : List (List ℤ)) → let s = entry (own (lined b .before) .before .before) in
-    b .are-within-bounds .result ≡ stateInShape (seen s lasts) (columns s)
+    (b : tie.After-are-meters-ok) (lasts : List (List ℤ)) → let s = entry (own (lined b .before) .before .before) in
+    b .are-meters-ok .result ≡ stateInShape (seen s lasts) (columns s)
 shaped b lasts =
     let l = lined b .before in
     let t = own l .before in
     let s = entry (t .before) in
     left-to-meters (seen s lasts) _ (t .is-state-ok .ensures _) (own l .if3 .left) (columns s) _ (tested l lasts) (lined b .if4 .left) _
-    (b .are-within-bounds .ensures lasts)
+    (b .are-meters-ok .ensures lasts)
 
 -- the displays' ids and the held places
 abbrev past : tie.After-are-displays-ok → tie.Else5
@@ -155,8 +155,8 @@ returns-4 c =
     misshapen (t .before) lasts area _
     (wrong-lines (seen s lasts) _ (t .is-state-ok .ensures _) (own l .if3 .left) (columns s) _ (tested l lasts) (c .if4 .taken)) refl
 
-are-within-bounds-requires : tie.Need-are-within-bounds-requires
-are-within-bounds-requires c κs = tt
+are-meters-ok-requires : tie.Need-are-meters-ok-requires
+are-meters-ok-requires c κs = tt
 
 returns-5 : tie.Need-returns-5
 returns-5 c =
@@ -214,7 +214,7 @@ host-refusal-spec =
     cast-lines
     are-lines-ok-requires
     returns-4
-    are-within-bounds-requires
+    are-meters-ok-requires
     returns-5
     cast-displays
     are-displays-ok-requires
