@@ -108,7 +108,7 @@ pub fn decide(
         (now (sent .entry)) in
         ⌜ ((area : List ℕ) → length area ≡ room → r ≡ decidedOn h x read area) ⌝ }
 {
-    let host = call_shape::host_refusal(
+    let host = call_host::host_refusal(
         state,
         counts,
         sums,

@@ -6,7 +6,7 @@ ghost use Prim.Native.Nat.{ℕ, _+_, _*_, _-_, _≤_};
 ghost use lib.Dec.{leb, eqb};
 ghost use lib.IntN.{ℤ};
 ghost use lib.ListN.{length, take};
-ghost use Rattle.settings.specs.Limits.{maxLines, maxDisplays};
+ghost use Rattle.settings.specs.Limits.{maxLines, maxDisplays, withinLimits};
 ghost use Rattle.store.specs.Sizes.{readingsPerLine};
 ghost use Rattle.store.specs.Lists.{allOf};
 ghost use Rattle.store.specs.Columns.{Columns, columnsOf, rows};
@@ -15,9 +15,9 @@ ghost use Rattle.node.specs.Sizes.{lastBucket, resultsPerBucket};
 ghost use Rattle.protocol.specs.Displays.{leastOf};
 ghost use Rattle.retransmission.specs.Sizes.{heldBytes};
 ghost use Rattle.retransmission.specs.Places.{placesOf, placesOk};
-ghost use Rattle.node.specs.Held.{arraysOf, headsOf, held};
+ghost use Rattle.node.specs.Held.{Held, Arrays, arraysOf, headsOf, held};
 ghost use Rattle.node.specs.View.{lentOf, viewLines};
-ghost use Rattle.node.specs.Shape.{headOk, keptOk, phaseOk, displayOk, stateInShape};
+ghost use Rattle.node.specs.Shape.{headOk, keptOk, phaseOk, bucketsOk, numbersOk, displayOk, stateInShape};
 ghost use Rattle.node.specs.Opening.{sharesShort};
 ghost use Rattle.node.specs.Calls.{hostTests};
 ghost use Rattle.call_shape.specs.Lent.{Lends, shareOk};
@@ -71,16 +71,15 @@ fn is_head_ok(h: LineHead) -> bool
 // Whether a share's n readings from `base` on are S or T, of known meters, with rising ids.
 fn is_share_ok(ids: &[u32], kinds: &[u8], meters: &[u8], base: usize, n: usize) -> bool
     requires { let end = base + n in
-        ⌜ (end ≤ length (now ids)) × (end ≤ length (now kinds)) × (end ≤ length (now meters)) ⌝ }
+        ⌜ (n ≤ readingsPerLine) × (end ≤ length (now ids)) × (end ≤ length (now kinds)) × (end ≤ length (now meters)) ⌝ }
     ensures { λ r. ⌜ r ≡ shareOk base n (now (ids .entry)) (now (kinds .entry)) (now (meters .entry)) ⌝ }
 {
-    (store_columns::are_readings(kinds, base, n)
-        & store_columns::are_below(meters, base, n, operator::METER_LIMIT))
+    store_columns::are_readings(kinds, meters, base, n, operator::METER_LIMIT)
         & store_columns::ids_rise(ids, base, n)
 }
 
 // Whether the first `lines` heads and the readings that they keep are in shape.
-fn are_lines_ok(
+pub fn are_lines_ok(
     heads: &[u32; ALL_HEADS],
     lines: usize,
     ids: &[u32],
@@ -133,6 +132,18 @@ fn are_numbers_ok(stable: u64, newest: u64, c: u32, p: u32) -> bool
         & ((newest <= RESULTS_PER_BUCKET * (p as u64)) & ((stable <= newest) & level))
 }
 
+// Whether the settings are within their limits and the state's own numbers fit together.
+pub fn is_state_ok(state: State) -> bool
+    ensures { λ r. ⌜ ((x : Arrays) →
+        (let h : Held = held state x in r ≡ (withinLimits (state .settings) && (bucketsOk h && numbersOk h)))) ⌝ }
+{
+    let settings = state.settings;
+    let phase = state.phase;
+    settings::within_limits(settings)
+        & (are_buckets_ok(state.c, state.p, phase)
+            & are_numbers_ok(state.last_stable, state.newest, state.c, state.p))
+}
+
 // Whether state and store are in shape, where the store is long enough.
 fn is_in_shape(
     state: State,
@@ -150,20 +161,24 @@ fn is_in_shape(
         Lends x (state .settings .lines) (now (ids .entry)) (now (kinds .entry)) (now (meters .entry)) →
         r ≡ stateInShape (held state (arraysOf (now (counts .entry)) (now (sums .entry)) lasts (now (heads .entry)))) x) ⌝ }
 {
-    let settings = state.settings;
-    if !settings::within_limits(settings) {
+    if !is_state_ok(state) {
         return false;
     }
-    let phase = state.phase;
+    let settings = state.settings;
     let lines = settings.lines as usize;
-    are_lines_ok(heads, lines, ids, kinds, meters)
-        & (are_buckets_ok(state.c, state.p, phase)
-            & (are_numbers_ok(state.last_stable, state.newest, state.c, state.p)
-                & operator_bounds::are_within_bounds(counts, sums)))
+    if !are_lines_ok(heads, lines, ids, kinds, meters) {
+        return false;
+    }
+    operator_bounds::are_within_bounds(counts, sums)
 }
 
 // Whether the displays' last ids and the held places are in shape, where the send-back store is long enough.
-fn are_displays_ok(ids: [u64; node::DISPLAYS], displays: usize, newest: u64, sent: &[u8]) -> bool
+pub fn are_displays_ok(
+    ids: [u64; node::DISPLAYS],
+    displays: usize,
+    newest: u64,
+    sent: &[u8],
+) -> bool
     requires { ⌜ (1 ≤ displays) × (displays ≤ maxDisplays) × (heldBytes ≤ length (now sent)) ⌝ }
     ensures { λ r.
         let own = take displays ids in

@@ -4,6 +4,8 @@ pub mod Decimals
 pub mod Filled
 pub mod Runs
 pub mod Scanned
+pub mod ShortRuns
 pub mod Numbers
+pub mod ShortNumbers
 pub mod NumberText
 pub mod Integers

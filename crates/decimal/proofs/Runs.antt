@@ -52,6 +52,11 @@ run-begins (b ∷ t) h = by (isDigit b) h
     by true h = refl
     by false h = absurd (omega arith)
 
+pub run-some : (t : List ℕ) → isDigit (getD t 0 0) ≡ true → 0 < runLength t
+unfolding runLength
+run-some [] e = absurd (omega (arith, digit-range 0 e))
+run-some (b ∷ t) e = rw e (omega arith)
+
 pub run-digit : (b : ℕ) (t : List ℕ) → isDigit b ≡ true → runLength (b ∷ t) ≡ suc (runLength t)
 unfolding runLength
 run-digit b t e = rw e

@@ -1,10 +1,11 @@
 // Decimal numbers in text: read from a place on, and written into a lent area.
 ghost use mathlib.Core.Path.{_≡_};
-ghost use Prim.Native.Nat.{_+_, _≤_, _^_};
-ghost use lib.ListN.{length};
+ghost use Prim.Native.Nat.{_+_, _<_, _≤_, _^_};
+ghost use lib.ListN.{length, getD};
+ghost use lib.Seq.{slice};
 ghost use Rattle.area.specs.Laid.{laid};
 ghost use Rattle.decimal.specs.Decimal.{digits, decimal};
-ghost use Rattle.decimal.specs.Spelled.{runAt, numberAt, widened, negated, integerAt};
+ghost use Rattle.decimal.specs.Spelled.{isDigit, runLength, runValue, runAt, numberAt, widened, negated, integerAt};
 
 // An unsigned number that a text spells from a place on, with the place behind it.
 pub enum Number {
@@ -28,6 +29,12 @@ pub enum Integer {
 enum Run {
     Digits(u64, usize),
     Past,
+}
+
+// The digits that stand in a text from a place on, up to a stop: their value and the place behind them.
+struct ShortRun {
+    value: u64,
+    end: usize,
 }
 
 // The widest number of 64 bits without its last digit, and that digit.
@@ -93,13 +100,73 @@ pub fn read_wide(s: &[u8], at: usize, most: u64) -> WideNumber
     WideNumber::Value(value, end)
 }
 
-// The unsigned number, of at most `most`, that the text spells from `at` on.
+// Whether a byte is an ASCII digit.
+fn is_digit(b: u8) -> bool
+    ensures { λ r. ⌜ r ≡ isDigit b ⌝ }
+{
+    (48 <= b) & (b <= 57)
+}
+
+// Whether a digit stands at a place.
+fn digit_at(s: &[u8], at: usize) -> bool
+    ensures { λ r. ⌜ r ≡ isDigit (getD (now (s .entry)) at 0) ⌝ }
+{
+    if at < s.len() { is_digit(s[at]) } else { false }
+}
+
+// The run of digits from `from` on, up to `stop` at most, behind digits of value `first`; 64 bits must hold it.
+fn scan_short(s: &[u8], first: u64, from: usize, stop: usize) -> ShortRun
+    requires { ⌜ stop ≤ length (now s) ⌝ }
+    requires { ⌜ runValue first (slice from stop (now s)) < 2 ^ 64 ⌝ }
+    ensures { λ r. ⌜ r .value ≡ runValue first (slice from stop (now (s .entry))) ⌝ }
+    ensures { λ r. ⌜ r .end ≡ from + runLength (slice from stop (now (s .entry))) ⌝ }
+{
+    let mut value = first;
+    let mut i = from;
+    while i < stop {
+        let b = s[i];
+        if !is_digit(b) {
+            break;
+        }
+        value = value * 10 + ((b - 48) as u64);
+        i += 1;
+    }
+    ShortRun {
+        value: value,
+        end: i,
+    }
+}
+
+// The unsigned number, of at most `most`, that the text spells from `at` on. With 32 bits it has at most ten digits.
 pub fn read_number(s: &[u8], at: usize, most: u32) -> Number
     ensures { λ r. ⌜ r ≡ numberAt most (now (s .entry)) at ⌝ }
 {
-    let WideNumber::Value(value, end) = read_wide(s, at, most as u64) else {
+    if s.len() <= at {
         return Number::Malformed;
-    };
+    }
+    let b = s[at];
+    if !is_digit(b) {
+        return Number::Malformed;
+    }
+    let next = at + 1;
+    if b == 48 {
+        if digit_at(s, next) {
+            return Number::Malformed;
+        }
+        return Number::Value(0, next);
+    }
+    let stop = if s.len() - at < 10 { s.len() } else { at + 10 };
+    let run = scan_short(s, (b - 48) as u64, next, stop);
+    let end = run.end;
+    let value = run.value;
+    if end == stop {
+        if digit_at(s, end) {
+            return Number::Malformed;
+        }
+    }
+    if (most as u64) < value {
+        return Number::Malformed;
+    }
     Number::Value(value as u32, end)
 }
 

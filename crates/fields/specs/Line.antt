@@ -1,6 +1,6 @@
 -- A line of text: keyed fields with one space between them, and a 0A (document 01, section 'Clocks, lines and readings').
 use Prim.Native.Nat.{ℕ}
-use mathlib.Core.Bool.{cond}
+use mathlib.Core.Bool.{Bool, false, cond, _||_}
 use mathlib.Core.List.{List, [], _∷_, _++_}
 use lib.Dec.{eqb}
 
@@ -18,3 +18,8 @@ lineOf (f ∷ g ∷ fs) = f ++ 32 ∷ lineOf (g ∷ fs)
 unfoldable pub nextLine : List ℕ → List ℕ
 nextLine [] = []
 nextLine (b ∷ s) = cond (eqb b 10) (b ∷ []) (b ∷ nextLine s)
+
+-- a text's first line is whole: there is a 0A
+unfoldable pub holdsLine : List ℕ → Bool
+holdsLine [] = false
+holdsLine (b ∷ s) = eqb b 10 || holdsLine s

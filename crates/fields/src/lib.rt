@@ -1,14 +1,15 @@
 // Lines of text: the next line of a text, and keyed fields, read and written.
 ghost use mathlib.Core.Path.{_≡_};
+ghost use mathlib.Core.Bool.{true};
 ghost use mathlib.Core.List.{[], _∷_, _++_};
-ghost use Prim.Native.Nat.{_+_, _≤_};
+ghost use Prim.Native.Nat.{_+_, _<_, _≤_};
 ghost use lib.IntN.{pos};
-ghost use lib.ListN.{length, drop};
+ghost use lib.ListN.{length, take, drop};
 ghost use Rattle.area.specs.Laid.{laid};
 ghost use Rattle.decimal.specs.Decimal.{decimal};
 ghost use Rattle.decimal.specs.Spelled.{widened};
-ghost use Rattle.fields.specs.Line.{nextLine};
-ghost use Rattle.fields.specs.Field.{startsWith, endsLine, numberField, integerField};
+ghost use Rattle.fields.specs.Line.{holdsLine, nextLine};
+ghost use Rattle.fields.specs.Field.{ShortKey, startsWith, endsLine, numberField, integerField};
 use decimal::Integer;
 use decimal::Number;
 use decimal::WideNumber;
@@ -20,19 +21,51 @@ pub enum Written {
     Malformed,
 }
 
+// A 0A is looked for by these blocks of bytes while it is far and once it is near, and byte by byte at the end.
+const FAR: usize = 16;
+
+const NEAR: usize = 4;
+
+// Whether 0A is among the n bytes from `at` on. Without an early end, so that they are looked at side by side.
+fn holds_end(s: &[u8], at: usize, n: usize) -> bool
+    requires { ⌜ at + n ≤ length (now s) ⌝ }
+    ensures { λ r. ⌜ r ≡ holdsLine (take n (drop at (now (s .entry)))) ⌝ }
+{
+    let mut found = false;
+    let mut i = 0;
+    while i < n {
+        found = found | (s[at + i] == 10);
+        i += 1;
+    }
+    found
+}
+
+// Passes whole blocks of n bytes without a 0A, from `from` on: to the first with one, or to where less than a block is left.
+fn pass_blocks(s: &[u8], from: usize, n: usize) -> usize
+    requires { ⌜ (0 < n) × (from ≤ length (now s)) ⌝ }
+    ensures { λ r. ⌜ r ≤ length (now (s .entry)) ⌝ }
+    ensures { λ r. ⌜ holdsLine (take r (now (s .entry))) ≡ holdsLine (take from (now (s .entry))) ⌝ }
+    ensures { λ r. ⌜ (r + n ≤ length (now (s .entry)) → holdsLine (take n (drop r (now (s .entry)))) ≡ true) ⌝ }
+{
+    let mut at = from;
+    while n <= s.len() - at {
+        if holds_end(s, at, n) {
+            return at;
+        }
+        at += n;
+    }
+    at
+}
+
 // A text's first line with its 0A, as a part of that text; a text without a 0A is one line.
 pub fn next_line(s: &[u8]) -> &[u8]
     ensures { λ r. ⌜ now r ≡ nextLine (now (s .entry)) ⌝ }
     ensures { λ r. ⌜ r .ptr ≡ s .entry .ptr ⌝ }
 {
-    let mut i = 0;
-    while i < s.len() {
-        if s[i] == 10 {
-            return &s[..i + 1];
-        }
-        i += 1;
-    }
-    s
+    let far = pass_blocks(s, 0, FAR);
+    let near = pass_blocks(s, far, NEAR);
+    let at = pass_blocks(s, near, 1);
+    if at < s.len() { &s[..at + 1] } else { s }
 }
 
 // Whether a text begins with these bytes from `at` on.
@@ -53,6 +86,22 @@ pub fn has_key(s: &[u8], at: usize, key: &[u8]) -> bool
         i += 1;
     }
     true
+}
+
+// Whether a text begins with the bytes of a short key from `at` on: by the first four and the last four, each as one word.
+pub fn has_short_key(s: &[u8], at: usize, key: &[u8]) -> bool
+    requires { ⌜ ShortKey (now key) ⌝ }
+    ensures { λ r. ⌜ r ≡ startsWith (now (key .entry)) (drop at (now (s .entry))) ⌝ }
+{
+    if s.len() < at {
+        return false;
+    }
+    if s.len() - at < key.len() {
+        return false;
+    }
+    let last = key.len() - 4;
+    (endian::get4(s, at) == endian::get4(key, 0))
+        & (endian::get4(s, at + last) == endian::get4(key, last))
 }
 
 // Whether 0A stands at a place, which ends the line.

@@ -1,5 +1,6 @@
 // The journal line: one call, and the reader of its text.
 ghost use mathlib.Core.Path.{_≡_};
+ghost use Rattle.fields.specs.Field.{ShortKey};
 ghost use Rattle.journal.specs.Kinds.{isLetter};
 ghost use Rattle.journal.specs.JournalLine.{hasForm, ExactCall};
 ghost use Rattle.journal.specs.ReadLine.{letterAt, letterField, callAt, callOf};
@@ -75,38 +76,58 @@ fn letter_at(s: &[u8], at: usize) -> Number
 
 // The letter of the field that the text has from `at` on.
 fn letter_field(s: &[u8], at: usize, key: &[u8]) -> Number
+    requires { ⌜ ShortKey (now key) ⌝ }
     ensures { λ r. ⌜ r ≡ letterField (now (key .entry)) (now (s .entry)) at ⌝ }
 {
-    if fields::has_key(s, at, key) {
+    if fields::has_short_key(s, at, key) {
         letter_at(s, at + key.len())
     } else {
         Number::Malformed
     }
 }
 
-// The journal line that the text has from `at` on.
+// The journal line that the text has from `at` on. Each key is tested here and not in a function of its own, which would make it an
+// argument where it can be a constant.
 fn call_at(s: &[u8], at: usize) -> CallAt
     ensures { λ r. ⌜ r ≡ callAt (now (s .entry)) at ⌝ }
 {
-    let Number::Value(now, e1) = fields::number_field(s, at, b"now=", WORD) else {
+    if !fields::has_short_key(s, at, b"now=") {
+        return CallAt::Malformed;
+    }
+    let Number::Value(now, e1) = decimal::read_number(s, at + 4, WORD) else {
         return CallAt::Malformed;
     };
-    let Number::Value(line, e2) = fields::number_field(s, e1, b" line=", BYTE) else {
+    if !fields::has_short_key(s, e1, b" line=") {
+        return CallAt::Malformed;
+    }
+    let Number::Value(line, e2) = decimal::read_number(s, e1 + 6, BYTE) else {
         return CallAt::Malformed;
     };
     let Number::Value(kind, e3) = letter_field(s, e2, b" kind=") else {
         return CallAt::Malformed;
     };
-    let Number::Value(id, e4) = fields::number_field(s, e3, b" id=", WORD) else {
+    if !fields::has_short_key(s, e3, b" id=") {
+        return CallAt::Malformed;
+    }
+    let Number::Value(id, e4) = decimal::read_number(s, e3 + 4, WORD) else {
         return CallAt::Malformed;
     };
-    let Number::Value(time, e5) = fields::number_field(s, e4, b" time=", WORD) else {
+    if !fields::has_short_key(s, e4, b" time=") {
+        return CallAt::Malformed;
+    }
+    let Number::Value(time, e5) = decimal::read_number(s, e4 + 6, WORD) else {
         return CallAt::Malformed;
     };
-    let Number::Value(meter, e6) = fields::number_field(s, e5, b" meter=", BYTE) else {
+    if !fields::has_short_key(s, e5, b" meter=") {
+        return CallAt::Malformed;
+    }
+    let Number::Value(meter, e6) = decimal::read_number(s, e5 + 7, BYTE) else {
         return CallAt::Malformed;
     };
-    let Integer::Value(value, e7) = fields::integer_field(s, e6, b" value=") else {
+    if !fields::has_short_key(s, e6, b" value=") {
+        return CallAt::Malformed;
+    }
+    let Integer::Value(value, e7) = decimal::read_integer(s, e6 + 7) else {
         return CallAt::Malformed;
     };
     if fields::ends_line(s, e7) {

@@ -1,6 +1,6 @@
 -- A bucket's readings added place by place, share by share: what is left of the bucket's places leads to the same end, and where the pass
 -- stands at place k, no count has grown by more than k and each sum is one that so many values can have.
-use Prim.Native.Nat.{ℕ, suc, _+_, _-_, _*_, _≤_, _<_, _^_}
+use Prim.Native.Nat.{ℕ, zero, suc, _+_, _-_, _*_, _≤_, _<_, _^_}
 use mathlib.Core.Path.{_≡_, refl, sym, _∙_, ap}
 use mathlib.Core.Bool.{Bool, true, false, cond, _&&_}
 use mathlib.Core.List.{List, [], _∷_, _++_, map}
@@ -23,7 +23,9 @@ use Rattle.store.proofs.Apart.{gather-ties}
 use Rattle.store.proofs.Choices.{cond-either}
 use Rattle.store.proofs.Pairs.{every-to, every-set, every-at}
 use Rattle.store.proofs.Shares.{share-none, share-cons}
-use Rattle.store_places.specs.Places.{placesWhere, isTimeOf}
+use Rattle.store_places.specs.Places.{firstPlace, isTimeOf}
+use Rattle.store_places.proofs.FirstPlaces.{first-within, first-none, first-here, first-next}
+use Rattle.store_columns.proofs.Rows.{placesWhere}
 use Rattle.store_columns.proofs.Kept.{bucketPlaces, bucket-readings}
 use Rattle.operator_meter.specs.declared.Meter.{Meter}
 use Rattle.operator_meter.specs.Bounds.{countLimit}
@@ -82,6 +84,27 @@ visit-counted s j n p t v m f h =
 
 -- ---- place by place, in one share
 
+-- no place before the first whose number passes the test is one of those that pass it
+places-skipped :
+    (test : ℕ → Bool) (end : ℕ) (xs : List ℕ) → end ≤ length xs → (n at : ℕ) → at + n ≡ end →
+    placesWhere test at (share at (end - at) xs) ≡
+    placesWhere test (firstPlace test at end xs) (share (firstPlace test at end xs) (end - firstPlace test at end xs) xs)
+unfolding placesWhere
+places-skipped test end xs room zero at e =
+    let last : at ≡ end = omega arith in
+    rw (first-none 0 test end xs room at last, last)
+places-skipped test end xs room (suc n) at e =
+    let more : at < end = omega arith in
+    let count : end - at ≡ suc (end - suc at) = omega arith in
+    (elim (test (getD xs at 0)) as (λ b. test (getD xs at 0) ≡ b → placesWhere test at (share at (end - at) xs) ≡
+    placesWhere test (firstPlace test at end xs) (share (firstPlace test at end xs) (end - firstPlace test at end xs) xs)) [
+      | true ↦ λ f. rw (first-here 0 test end xs room at more f)
+      | false ↦ λ f.
+          rw (first-next 0 test end xs room at more f, count, share-cons 0 at (end - suc at) xs (omega arith), f)
+          (places-skipped test end xs room n (suc at) (omega arith))
+    ])
+    refl
+
 -- a pass that met the bucket's places from `from` on, where it was p₀, up to `at`, where it is p; the share's readings end at `end`
 pub record Turn (s : Settings) (j : ℕ) (times : List ℕ) (values : List ℤ) (meters : List ℕ) (p₀ p : Passing) (from at end : ℕ) : Type 0 where
   pub behind : from ≤ at
@@ -133,6 +156,22 @@ module _ (s : Settings) (j : ℕ) (times : List ℕ) (values : List ℤ) (meters
               (visit-counted s j (countLimit + at) p (getD times at 0) (getD values at (pos 0)) (getD meters at 0) f (h .counted));
           left = sym (visit-next p at end l room) ∙ h .left;
         })
+
+    -- what stands before the bucket's next reading is passed over
+    pub turn-skips :
+        (next : ℕ) → next ≡ firstPlace (isTimeOf true (s .bucket) j) at end times → end ≤ length times →
+        Turn s j times values meters p₀ p from next end
+    turn-skips next e room =
+        let (above, below) = rw (← e) at (first-within (isTimeOf true (s .bucket) j) at end times (h .within)) in
+        record {
+          behind = omega (arith, h .behind);
+          within = below;
+          counted = counted-more (countLimit + at) (countLimit + next) (p .operator .meters) (omega arith) (h .counted);
+          left =
+              ap (meetPlaces s times values meters p)
+              (rw e (sym (places-skipped (isTimeOf true (s .bucket) j) end times room (end - at) at (omega (arith, h .within))))) ∙
+              h .left;
+        }
 
     pub turn-end : end ≤ at → p ≡ meetPlaces s times values meters p₀ (placesUpTo s j times from end)
     unfolding placesWhere meetPlaces

@@ -65,7 +65,8 @@ impl Operator {
     }
 
     // Adds bucket j's readings, in one pass over the shares, of which line i + 1 keeps kept[i]. A value outside low to high is dropped;
-    // any other becomes its meter's last, unless the pass has met a newer reading of that meter.
+    // any other becomes its meter's last, unless the pass has met a newer reading of that meter. Behind a reading of another bucket the
+    // pass goes on at the next one of bucket j, since such readings stand in runs.
     pub fn add(
         mut self,
         s: Settings,
@@ -90,9 +91,8 @@ impl Operator {
             while at < end {
                 let time = times[at];
                 let value = values[at];
-                if store_places::is_in(s.bucket, j, ReadingTime(time))
-                    & operator_meter::is_counted(s, value)
-                {
+                let inside = store_places::is_in(s.bucket, j, ReadingTime(time));
+                if inside & operator_meter::is_counted(s, value) {
                     let m = meters[at] as usize;
                     let sum = self.sums[m] + (value as i64);
                     self.sums[m] = sum;
@@ -103,6 +103,9 @@ impl Operator {
                     }
                 }
                 at += 1;
+                if !inside {
+                    at = store_places::next_in(times, at, end, s.bucket, j);
+                }
             }
             i += 1;
         }

@@ -1,5 +1,5 @@
--- Laws on the bounds of the lent meters: one meter's, words laid over each other, loops over a row, and both rows at once.
-pub mod Over
+-- Laws on the bounds of the lent meters: one meter's, loops over a row, both rows at once, and small sums.
 pub mod OneMeter
 pub mod Turns
 pub mod Places
+pub mod SmallSums

@@ -10,16 +10,16 @@ use lib.Dec.{ltb, leb}
 use lib.IntN.{ℤ, pos, negsuc}
 use lib.Signed.{mag}
 use Rattle.signed.specs.Twos.{twos}
+use Rattle.store.proofs.Over.{below-over}
 use Rattle.operator_meter.specs.Bounds.{countLimit, sumOk, meterOk}
-use Rattle.operator_bounds.proofs.Over.{below-over}
 
-first-below : (a b k : ℕ) → k ≤ a → (ltb a k && ltb b k) ≡ false
+pub first-below : (a b k : ℕ) → k ≤ a → (ltb a k && ltb b k) ≡ false
 first-below a b k h = rw (le-ltb a k h) refl
 
-second-below : (a b k : ℕ) → k ≤ b → (ltb a k && ltb b k) ≡ false
+pub second-below : (a b k : ℕ) → k ≤ b → (ltb a k && ltb b k) ≡ false
 second-below a b k h = rw (le-ltb b k h) (and-false (ltb a k))
 
-both-below : (a b k : ℕ) → a < k → b < k → (ltb a k && ltb b k) ≡ true
+pub both-below : (a b k : ℕ) → a < k → b < k → (ltb a k && ltb b k) ≡ true
 both-below a b k h g = rw (lt-ltb a k h, lt-ltb b k g) refl
 
 left-told : (n left : ℕ) → n < 2 ^ 32 → left < 2 ^ 64 → (left + n) % 2 ^ 64 ≡ countLimit → ltb left (2 ^ 63) ≡ leb n countLimit

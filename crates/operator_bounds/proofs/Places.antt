@@ -5,15 +5,16 @@ use mathlib.Core.Path.{_≡_, refl, sym, _∙_, ap, ap₂}
 use mathlib.Core.Bool.{Bool, true, false, _&&_}
 use mathlib.Core.List.{List, [], _∷_}
 use native.Mathlib.Omega.{arith}
-use borrow.Author.Tests.{eqb-true, eqb-false, eq-eqb, ne-eqb}
+use borrow.Author.Tests.{ltb-true, eqb-true, eqb-false, eq-eqb, ne-eqb}
 use lib.Bits.{bitOr, bitXor}
-use lib.Dec.{eqb, leb}
+use lib.Dec.{eqb, leb, ltb}
 use lib.IntN.{ℤ, pos, negsuc}
 use lib.ListN.{length, getD}
 use lib.Signed.{mag}
 use Rattle.signed.specs.Twos.{twos}
 use Rattle.store.specs.Lists.{allOf}
 use Rattle.store.proofs.Choices.{and-parts, not-both}
+use Rattle.store.proofs.Over.{below-over, zero-over, zero-apart}
 use Rattle.operator_meter.specs.declared.Meter.{Meter}
 use Rattle.operator_meter.specs.Values.{noMeter}
 use Rattle.operator_meter.specs.Bounds.{countLimit, sumOk, meterOk}
@@ -24,15 +25,14 @@ use Rattle.operator_bounds.specs.Places.{
   sameSum,
   countIn,
   sumIn,
-  countsZeroAt,
+  CountsOver,
+  countsBelowAt,
   countsEqualAt,
   sumsZeroAt,
   sumsEqualAt,
-  rowsEmpty,
   rowsEqual,
 }
 use Rattle.operator_rows.proofs.InRow.{meterIn, length-in, meter-in}
-use Rattle.operator_bounds.proofs.Over.{zero-over, zero-apart}
 
 -- ---- sums
 
@@ -58,14 +58,15 @@ same-sum (negsuc a) (negsuc b) e = ap negsuc (eqb-true a b e)
 
 -- n is made of what stands before place i; v and w are the words of the sums there
 module _ (counts : List (List ℕ)) (i n : ℕ) where
-  pub counts-zero-turn :
-      eqb n 0 ≡ allBelow (countsZeroAt counts) i →
-      eqb (bitOr n (bitOr (countIn counts operatorRow i) (countIn counts checkpointRow i))) 0 ≡ allBelow (countsZeroAt counts) (suc i)
-  unfolding allBelow countsZeroAt
-  counts-zero-turn e =
+  pub counts-over-turn :
+      ((k : ℕ) → ltb n (2 ^ k) ≡ allBelow (countsBelowAt k counts) i) →
+      (k : ℕ) → ltb (bitOr n (bitOr (countIn counts operatorRow i) (countIn counts checkpointRow i))) (2 ^ k) ≡
+      allBelow (countsBelowAt k counts) (suc i)
+  unfolding allBelow countsBelowAt
+  counts-over-turn e k =
       let a = countIn counts operatorRow i in
       let b = countIn counts checkpointRow i in
-      zero-over n (bitOr a b) ∙ ap₂ _&&_ e (zero-over a b)
+      below-over k n (bitOr a b) ∙ ap₂ _&&_ (e k) (below-over k a b)
 
   pub counts-equal-turn :
       eqb n 0 ≡ allBelow (countsEqualAt counts) i →
@@ -104,7 +105,7 @@ module _ (sums : List (List ℤ)) (i n v w : ℕ) where
 
 -- ---- all places
 
-below-all : (test : ℕ → Bool) (n : ℕ) → allBelow test n ≡ true → (i : ℕ) → i < n → test i ≡ true
+pub below-all : (test : ℕ → Bool) (n : ℕ) → allBelow test n ≡ true → (i : ℕ) → i < n → test i ≡ true
 unfolding allBelow
 below-all test zero e i h = absurd (omega arith)
 below-all test (suc n) e i h =
@@ -115,7 +116,7 @@ below-all test (suc n) e i h =
     ]) refl
 
 module _ {A : Type 0} (test : A → Bool) (d : A) where
-  all-pass : (xs : List A) → ((i : ℕ) → i < length xs → test (getD xs i d) ≡ true) → allOf test xs ≡ true
+  pub all-pass : (xs : List A) → ((i : ℕ) → i < length xs → test (getD xs i d) ≡ true) → allOf test xs ≡ true
   unfolding allOf
   all-pass [] f = refl
   all-pass (x ∷ xs) f = rw (f 0 (omega arith)) (all-pass xs (λ i h. f (suc i) (omega arith)))
@@ -131,9 +132,11 @@ module _ {A : Type 0} (test : A → Bool) (d : A) where
 
 -- ---- what the tests say of the bounds
 
-empty-ok : (m : Meter) → eqb (m .count) 0 ≡ true → sameSum (m .sum) (pos 0) ≡ true → meterOk m ≡ true
+empty-ok : (m : Meter) → ltb (m .count) 1 ≡ true → sameSum (m .sum) (pos 0) ≡ true → meterOk m ≡ true
 unfolding meterOk sumOk
-empty-ok m e f = rw (eqb-true (m .count) 0 e, same-sum (m .sum) (pos 0) f) refl
+empty-ok m e f =
+    let none : m .count ≡ 0 = omega (arith, ltb-true (m .count) 1 e) in
+    rw (none, same-sum (m .sum) (pos 0) f) refl
 
 equal-ok : (m o : Meter) → eqb (m .count) (o .count) ≡ true → sameSum (m .sum) (o .sum) ≡ true → meterOk m ≡ meterOk o
 unfolding meterOk
@@ -142,7 +145,7 @@ equal-ok m o e f =
 
 module _ (x : Rows) where
   abbrev EmptyRow : ℕ → Type 0
-  EmptyRow k = (i : ℕ) → i < meterCount → (eqb (meterIn x k i .count) 0 ≡ true) × (sameSum (meterIn x k i .sum) (pos 0) ≡ true)
+  EmptyRow k = (i : ℕ) → i < meterCount → (ltb (meterIn x k i .count) 1 ≡ true) × (sameSum (meterIn x k i .sum) (pos 0) ≡ true)
 
   row-ok : (k : ℕ) → EmptyRow k → allOf meterOk (metersIn k x) ≡ true
   row-ok k f =
@@ -152,12 +155,13 @@ module _ (x : Rows) where
       rw (meter-in x k i g) (empty-ok (meterIn x k i) (f i g .0) (f i g .1)))
 
   pub empty-within :
-      rowsEmpty (x .counts) (x .sums) ≡ true →
+      (over : ℕ) → CountsOver over (x .counts) → (eqb over 0 && allBelow (sumsZeroAt (x .sums)) meterCount) ≡ true →
       (allOf meterOk (metersIn operatorRow x) ≡ true) × (allOf meterOk (metersIn checkpointRow x) ≡ true)
-  unfolding rowsEmpty countsZeroAt sumsZeroAt
-  empty-within e =
-      let (counted, summed) = and-parts (allBelow (countsZeroAt (x .counts)) meterCount) (allBelow (sumsZeroAt (x .sums)) meterCount) e in
-      let count : (i : ℕ) → i < meterCount → _ = λ i h. and-parts _ _ (below-all (countsZeroAt (x .counts)) meterCount counted i h) in
+  unfolding countsBelowAt sumsZeroAt
+  empty-within over told e =
+      let (none, summed) = and-parts (eqb over 0) (allBelow (sumsZeroAt (x .sums)) meterCount) e in
+      let counted : allBelow (countsBelowAt 0 (x .counts)) meterCount ≡ true = rw (eqb-true over 0 none) at (sym (told 0)) in
+      let count : (i : ℕ) → i < meterCount → _ = λ i h. and-parts _ _ (below-all (countsBelowAt 0 (x .counts)) meterCount counted i h) in
       let sum : (i : ℕ) → i < meterCount → _ = λ i h. and-parts _ _ (below-all (sumsZeroAt (x .sums)) meterCount summed i h) in
       (row-ok operatorRow (λ i h. (count i h .0, sum i h .0)), row-ok checkpointRow (λ i h. (count i h .1, sum i h .1)))
 

@@ -1,5 +1,5 @@
 -- A whole line of the buffer: it is the next text, unless a write for its reply failed, or the end of a line to pass over.
-use mathlib.Core.Path.{_≡_, refl, sym, ap, _∙_}
+use mathlib.Core.Path.{_≡_, refl, sym, ap, subst, _∙_}
 use mathlib.Core.Bool.{Bool, true, false, not, _||_}
 use mathlib.Core.List.{List, [], _++_}
 use mathlib.Core.Logic.{inl, inr, ⊎-elim}
@@ -8,14 +8,14 @@ use native.Mathlib.Omega.{arith}
 use lib.Dec.{eqb}
 use lib.ListN.{length, getD, take, drop}
 use lib.Seq.{take-all, getD-take, getD-drop}
-use Rattle.fields.specs.Line.{nextLine}
+use Rattle.fields.specs.Line.{nextLine, holdsLine}
 use Rattle.fields.specs.Field.{endsLine}
 use Rattle.fields.proofs.Lines.{line-within}
 use Rattle.playback_reply.specs.Reply.{longestReply}
 use Rattle.store.proofs.Choices.{not-both, false-unless}
 use Rattle.playback_cursor.specs.declared.Cursor.{Cursor}
 use Rattle.playback_cursor.specs.declared.Room.{Room}
-use Rattle.playback_cursor.specs.Cut.{holdsLine, behindLine, past, part, unread, textAt, replied, Stands, failed}
+use Rattle.playback_cursor.specs.Cut.{behindLine, past, part, unread, textAt, replied, Stands, failed, Fetched}
 use Rattle.playback_cursor.specs.Step.{Roomy, Advanced}
 use Rattle.playback_cursor.proofs.WholeLines.{held-at, held-append, whole-append, behind-whole}
 use Rattle.playback_cursor.proofs.Cuts.{second-part, part-split, length-part}
@@ -134,6 +134,36 @@ module _ (c : Cursor) (buf : List ℕ) (stands : Stands buf c) where
               };
           further = not-both (always (r .failed));
         }
+
+    -- so it is at once where its reply has room
+    pub line-here : (room : ℕ) → c .passing ≡ false → c .last ≡ false → c .used + longestReply ≤ room
+        → Fetched true c buf
+        (record {
+          at = c .at;
+          whole = c .whole;
+          have = c .have;
+          used = c .used;
+          plays = true;
+          passing = c .passing;
+          last = c .last;
+        })
+        buf room
+    line-here room p l fits =
+        let here : Bool → Bool → Cursor = λ passing last.
+        record {
+          at = c .at;
+          whole = c .whole;
+          have = c .have;
+          used = c .used;
+          plays = true;
+          passing = passing;
+          last = last;
+        } in
+        let roomy : Roomy (c .used) room (record { used = c .used; failed = false }) =
+        record { fits = fits; written = inr refl; unwritten = λ _. refl; fails = λ f. not-both f refl } in
+        subst (λ (b : Bool). Fetched true c buf (here b (c .last)) buf room) (sym p)
+        (subst (λ (b : Bool). Fetched true c buf (here false b) buf room) (sym l)
+        (line-found true room _ (omega (arith, fits)) roomy p .found refl))
 
     -- or the end of a line to pass over
     pub line-passed : (opened : Bool) (room n : ℕ) → n ≡ length (textAt buf c) → (c .used ≤ room) × (longestReply ≤ room)

@@ -5,8 +5,9 @@ use mathlib.Core.List.{List, [], _++_, append-nil, append-assoc}
 use Prim.Native.Nat.{ℕ, _≤_}
 use native.Mathlib.Omega.{arith}
 use lib.ListN.{length}
+use Rattle.fields.specs.Line.{holdsLine}
 use Rattle.store.proofs.Choices.{not-both}
-use Rattle.playback_cursor.specs.Cut.{holdsLine, behindLine, past}
+use Rattle.playback_cursor.specs.Cut.{behindLine, past}
 use Rattle.playback_cursor.proofs.WholeLines.{behind-whole, behind-part, behind-none, behind-within}
 
 -- no line is whole: bytes read behind it are all that matters of a line to pass over

@@ -10,13 +10,14 @@ use borrow.Author.Tests.{ltb-false, eqb-true}
 use lib.Dec.{ltb, eqb}
 use lib.ListN.{length, take, drop, length-drop}
 use lib.Seq.{length-take-le, take-all, take-append-seam}
-use Rattle.fields.specs.Line.{nextLine}
+use Rattle.fields.specs.Line.{nextLine, holdsLine}
 use Rattle.store.proofs.Choices.{not-both}
+use Rattle.fields.proofs.Lines.{part-append, part-line}
 use Rattle.playback_cursor.specs.declared.Cursor.{Cursor}
 use Rattle.playback_reply.specs.Reply.{longestReply}
-use Rattle.playback_cursor.specs.Cut.{holdsLine, behindLine, past, part, unread, allRead, Ready, Lies, failed, over}
+use Rattle.playback_cursor.specs.Cut.{behindLine, past, part, unread, allRead, Ready, Lies, failed, over}
 use Rattle.playback_cursor.specs.Step.{LinesEnd, Advanced}
-use Rattle.playback_cursor.proofs.WholeLines.{none-behind, part-append, part-line, behind-part, behind-none}
+use Rattle.playback_cursor.proofs.WholeLines.{none-behind, behind-part, behind-none}
 use Rattle.playback_cursor.proofs.Cuts.{read-behind, length-part, part-whole}
 use Rattle.playback_cursor.proofs.Past.{past-read, past-end, past-part, plays-unpassing}
 

@@ -7,10 +7,10 @@ use mathlib.Core.Logic.{_⊎_, inl, inr, ⊎-elim}
 use Prim.Native.Nat.{ℕ, _+_, _-_, _<_, _≤_}
 use native.Mathlib.Omega.{arith}
 use lib.ListN.{length, take, length-append}
-use Rattle.fields.specs.Line.{nextLine}
+use Rattle.fields.specs.Line.{nextLine, holdsLine}
 use Rattle.store.proofs.Choices.{not-both}
 use Rattle.playback_cursor.specs.declared.Cursor.{Cursor}
-use Rattle.playback_cursor.specs.Cut.{holdsLine, behindLine, past, unread, ahead, Ready, Unplayed, over, failed, endless, Fetched, allRead}
+use Rattle.playback_cursor.specs.Cut.{behindLine, past, unread, ahead, Ready, Unplayed, over, failed, endless, Fetched, allRead}
 use Rattle.playback_cursor.specs.Step.{Further}
 use Rattle.playback_cursor.proofs.WholeLines.{or-on}
 use Rattle.playback_cursor.proofs.Cuts.{length-part}

@@ -8,37 +8,22 @@ use borrow.Author.Tests.{ne-eqb}
 use lib.Dec.{eqb}
 use lib.ListN.{length, getD, take, drop, length-drop, length-append}
 use lib.Seq.{drop-cons, drop-append-le, drop-append-add, drop-length}
-use Rattle.fields.specs.Line.{nextLine}
+use Rattle.fields.specs.Line.{nextLine, holdsLine}
 use Rattle.fields.specs.Field.{endsLine}
-use Rattle.fields.proofs.Lines.{line-within}
+use Rattle.fields.proofs.Lines.{part-append, part-line, line-within}
 use Rattle.store.proofs.Choices.{not-both}
-use Rattle.playback_cursor.specs.Cut.{holdsLine, behindLine}
+use Rattle.playback_cursor.specs.Cut.{behindLine}
 
 whole-turn : (t : Bool) (b : ℕ) (x y : List ℕ) (h : Bool) → (t || h) ≡ true → (h ≡ true → x ≡ y)
     → cond t (b ∷ []) (b ∷ x) ≡ cond t (b ∷ []) (b ∷ y)
 whole-turn true b x y h e same = refl
 whole-turn false b x y h e same = ap (λ (l : List ℕ). b ∷ l) (same e)
 
-part-turn : (t : Bool) (b : ℕ) (x y : List ℕ) (h : Bool) → (t || h) ≡ false → (h ≡ false → x ≡ y) → cond t (b ∷ []) (b ∷ x) ≡ b ∷ y
-part-turn true b x y h e same = not-both refl e
-part-turn false b x y h e same = ap (λ (l : List ℕ). b ∷ l) (same e)
-
 -- with a 0A the first line is the same whatever follows
 pub whole-append : (s t : List ℕ) → holdsLine s ≡ true → nextLine (s ++ t) ≡ nextLine s
 unfolding holdsLine nextLine
 whole-append [] t h = not-both h refl
 whole-append (b ∷ s) t h = whole-turn (eqb b 10) b (nextLine (s ++ t)) (nextLine s) (holdsLine s) h (λ k. whole-append s t k)
-
--- without one it goes on
-pub part-append : (s t : List ℕ) → holdsLine s ≡ false → nextLine (s ++ t) ≡ s ++ nextLine t
-unfolding holdsLine nextLine
-part-append [] t h = refl
-part-append (b ∷ s) t h = part-turn (eqb b 10) b (nextLine (s ++ t)) (s ++ nextLine t) (holdsLine s) h (λ k. part-append s t k)
-
-pub part-line : (s : List ℕ) → holdsLine s ≡ false → nextLine s ≡ s
-unfolding holdsLine nextLine
-part-line [] h = refl
-part-line (b ∷ s) h = part-turn (eqb b 10) b (nextLine s) s (holdsLine s) h (λ k. part-line s k)
 
 -- ---- where a 0A stands
 

@@ -4,19 +4,13 @@
 use Prim.Native.Nat.{ℕ, _+_, _-_, _≤_, _<_}
 use mathlib.Core.Path.{_≡_}
 use mathlib.Core.Bool.{Bool, true, false, cond, _||_}
-use mathlib.Core.List.{List, [], _∷_, _++_}
+use mathlib.Core.List.{List, [], _++_}
 use mathlib.Core.Logic.{_⊎_}
-use lib.Dec.{eqb}
 use lib.ListN.{length, take, drop}
-use Rattle.fields.specs.Line.{nextLine}
+use Rattle.fields.specs.Line.{nextLine, holdsLine}
 use Rattle.fields.specs.Field.{endsLine}
 use Rattle.playback_reply.specs.Reply.{longestReply}
 use Rattle.playback_cursor.specs.declared.Cursor.{Cursor}
-
--- a text's first line is whole: there is a 0A
-unfoldable pub holdsLine : List ℕ → Bool
-holdsLine [] = false
-holdsLine (b ∷ s) = eqb b 10 || holdsLine s
 
 -- what follows a text's first line
 unfoldable pub behindLine : List ℕ → List ℕ

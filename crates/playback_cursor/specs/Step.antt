@@ -5,11 +5,12 @@ use mathlib.Core.Bool.{Bool, true, false, cond, _||_}
 use mathlib.Core.List.{List, [], _++_}
 use mathlib.Core.Logic.{_⊎_}
 use lib.ListN.{length}
+use Rattle.fields.specs.Line.{holdsLine}
 use Rattle.fields.specs.Field.{endsLine}
 use Rattle.playback_reply.specs.Reply.{longestReply}
 use Rattle.playback_cursor.specs.declared.Cursor.{Cursor}
 use Rattle.playback_cursor.specs.declared.Room.{Room}
-use Rattle.playback_cursor.specs.Cut.{holdsLine, part, ahead, Ready, Fetched}
+use Rattle.playback_cursor.specs.Cut.{part, ahead, Ready, Fetched}
 
 -- room for a reply in an output of `size` bytes of which some are used: all is written out, but only where it must, and only that may fail
 pub record Roomy (used size : ℕ) (r : Room) : Type 0 where

@@ -5,7 +5,8 @@ ghost use mathlib.Core.Logic.{_⊎_};
 ghost use Prim.Native.Nat.{_+_, _-_, _<_, _≤_};
 ghost use lib.ListN.{length, take, drop};
 ghost use Rattle.playback_reply.specs.Reply.{longestReply};
-ghost use Rattle.playback_cursor.specs.Cut.{holdsLine, unread, allRead, replied, Ready, Fetched, Followed};
+ghost use Rattle.fields.specs.Line.{holdsLine};
+ghost use Rattle.playback_cursor.specs.Cut.{unread, allRead, replied, Ready, Fetched, Followed};
 ghost use Rattle.playback_cursor.specs.Step.{Roomy, LinesEnd, Advanced};
 
 // Whether a read or a write that moved no byte is to be tried again: a signal interrupted it, or the other side is not ready, for which the
@@ -266,7 +267,7 @@ pub fn fetch(mut cursor: Cursor, opened: bool, buf: &mut [u8], out: &[u8]) -> Cu
 }
 
 // Goes on after a text of `text` bytes is played and its reply of `reply` bytes laid behind what the output holds; behind the last, only
-// what the output holds is still to be written.
+// what the output holds is still to be written. Mostly the next line is in the buffer and its reply has room: that is tried first.
 pub fn onward(mut cursor: Cursor, text: usize, reply: usize, buf: &mut [u8], out: &[u8]) -> Cursor
     requires { ⌜ Ready (now buf) (length (now out)) (replied cursor text reply) ⌝ }
     ensures { λ r. ⌜ Followed cursor text reply (now (buf .entry)) r (now (buf .exit)) (length (now (out .entry))) ⌝ }
@@ -275,6 +276,12 @@ pub fn onward(mut cursor: Cursor, text: usize, reply: usize, buf: &mut [u8], out
     if !cursor.last {
         cursor.at = cursor.at + text;
         cursor.used = used;
+        if (cursor.at < cursor.whole)
+            & (!cursor.passing & (used + playback_reply::LONGEST_REPLY <= out.len()))
+        {
+            cursor.plays = true;
+            return cursor;
+        }
         return fetch(cursor, true, buf, out);
     }
     write_out(&out[0..used]);

@@ -1,2 +1,3 @@
 -- The calls that texts make.
 pub mod Dispatch
+pub mod Behind

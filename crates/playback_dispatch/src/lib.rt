@@ -8,12 +8,28 @@ ghost use Rattle.node.specs.Held.{Arrays, arraysOf, held};
 ghost use Rattle.node.specs.View.{Lent, lentOf};
 ghost use Rattle.node.specs.Calls.{calledOf};
 ghost use Rattle.playback_dispatch.specs.Dispatch.{allCaughtUp, followed, dispatched};
+ghost use Rattle.playback_dispatch.specs.Behind.{someBehind};
 use commands::Command;
 use node::ALL_HEADS;
 use node::CallReply;
 use node::State;
 use operator::METERS;
 use operator_rows::ROWS;
+
+// Whether some display has not acknowledged the newest stable result.
+fn is_some_behind(state: State) -> bool
+    ensures { λ r. ⌜ ((arrays : Arrays) → r ≡ someBehind maxDisplays (held state arrays)) ⌝ }
+{
+    let settings = state.settings;
+    let acknowledged = state.acknowledged;
+    let mut found = false;
+    let mut i = 0;
+    while i < settings::MAX_DISPLAYS {
+        found = found | ((i < settings.displays) & (acknowledged[i as usize] < state.last_stable));
+        i += 1;
+    }
+    found
+}
 
 // After a call, every display that has not acknowledged the newest stable result does so.
 fn catch_up(
@@ -69,7 +85,7 @@ fn catch_up(
     reply
 }
 
-// Makes the journal call of this text; after it the displays acknowledge what is new, if that is asked.
+// Makes the journal call of this text; after it the displays acknowledge what is new, if that is asked. Mostly nothing is.
 fn call_journal(
     acknowledging: bool,
     state: State,
@@ -119,7 +135,8 @@ fn call_journal(
         text,
         area,
     );
-    if acknowledging {
+    let left = done.state;
+    if acknowledging & is_some_behind(left) {
         return catch_up(
             done,
             counts,

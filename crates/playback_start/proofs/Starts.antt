@@ -10,6 +10,7 @@ use native.Mathlib.Nat.{zero-add}
 use lib.Dec.{eqb}
 use lib.ListN.{length, take, drop}
 use borrow.Rule.Slice.PartMut.{putMid}
+use Rattle.fields.specs.Line.{holdsLine}
 use Rattle.area.specs.Laid.{inFront}
 use Rattle.area.proofs.Lent.{lent-inFront}
 use Rattle.store.proofs.Choices.{not-both, true-unless}
@@ -18,7 +19,7 @@ use Rattle.node.specs.View.{Lent}
 use Rattle.node.specs.Opening.{Opened, closedState, openedOn}
 use Rattle.playback_reply.specs.Reply.{openingText, longestReply}
 use Rattle.playback_cursor.specs.declared.Cursor.{Cursor}
-use Rattle.playback_cursor.specs.Cut.{holdsLine, part, textAt, allRead, Ready, Unplayed, over, failed, endless, Fetched, Followed}
+use Rattle.playback_cursor.specs.Cut.{part, textAt, allRead, Ready, Unplayed, over, failed, endless, Fetched, Followed}
 use Rattle.playback_start.specs.declared.Played.{Played}
 use Rattle.playback_start.specs.Answered.{Answered}
 use Rattle.playback_start.specs.Start.{lastIf, Begun}

@@ -1,6 +1,7 @@
--- Laws on lists and tests, on the order of readings inside a bucket, and on the columns.
+-- Laws on lists, tests and words, on the order of readings inside a bucket, and on the columns.
 pub mod Choices
 pub mod Pairs
+pub mod Over
 pub mod Permutations
 pub mod Keeping
 pub mod Splitting

@@ -1,11 +1,14 @@
--- A share read place by place: its first number, and the share behind it.
-use mathlib.Core.Path.{_≡_, refl}
+-- A share read place by place: its first number, and the share behind it; and whether some number of it passes a test, kept in one Bool:
+-- what is found so far, together with the test of what is left, stays the same.
+use mathlib.Core.Path.{_≡_, refl, sym, _∙_}
+use mathlib.Core.Bool.{Bool, false, _||_, or-assoc, or-false}
 use mathlib.Core.List.{List, [], _∷_}
 use Prim.Native.Nat.{ℕ, suc, _+_, _-_, _<_, _≤_}
 use native.Mathlib.Omega.{arith}
 use native.Mathlib.Nat.{add-zero, sub-zero}
 use lib.ListN.{length, getD, drop, length-take, length-drop}
 use lib.Seq.{drop-cons, length-take-le}
+use Rattle.store.specs.Lists.{someOf}
 use Rattle.store.specs.Parts.{share}
 
 module _ {A : Type 0} where
@@ -46,3 +49,23 @@ module _ {A : Type 0} where
   left-none base n xs i h =
       let e : n - i ≡ 0 = omega arith in
       rw e (share-none (base + i) xs)
+
+-- ---- whether some passes
+
+abbrev pub SomeSoFar : (ℕ → Bool) → List ℕ → ℕ → ℕ → Bool → ℕ → Type 0
+SomeSoFar test xs base n found i = found || someOf test (left base n xs i) ≡ someOf test (share base n xs)
+
+module _ (test : ℕ → Bool) (xs : List ℕ) (base n : ℕ) where
+  pub some-start : SomeSoFar test xs base n false 0
+  some-start = rw (left-all base n xs)
+
+  module _ (found : Bool) (i : ℕ) (v : SomeSoFar test xs base n found i) where
+    pub some-turn : base + n ≤ length xs → i < n → SomeSoFar test xs base n (found || test (getD xs (base + i) 0)) (i + 1)
+    unfolding someOf
+    some-turn room h =
+        or-assoc found (test (getD xs (base + i) 0)) (someOf test (left base n xs (i + 1)))
+        ∙ (rw (left-cons 0 base n xs i room h) at v)
+
+    pub some-end : n ≤ i → found ≡ someOf test (share base n xs)
+    unfolding someOf
+    some-end h = sym (or-false found) ∙ (rw (left-none base n xs i h) at v)

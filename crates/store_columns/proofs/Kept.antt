@@ -21,8 +21,8 @@ use Rattle.store.proofs.Columns.{room}
 use Rattle.store.proofs.Gathering.{place}
 use Rattle.store_columns.specs.Tests.{someOfBoth, isLateDue}
 use Rattle.store_columns.specs.Shape.{rises, isReadingKind}
-use Rattle.store_places.specs.Places.{isTimeOf, placesWhere}
-use Rattle.store_columns.proofs.Rows.{rows-where, ids-share, times-share, arrivals-share, kinds-share, meters-share}
+use Rattle.store_places.specs.Places.{isTimeOf}
+use Rattle.store_columns.proofs.Rows.{placesWhere, rows-where, ids-share, times-share, arrivals-share, kinds-share, meters-share}
 
 -- ---- a test on a field
 

@@ -2,6 +2,10 @@
 -- places.
 pub mod Zeroed
 pub mod Tests
+pub mod Overlaid
+pub mod WrongBits
+pub mod Blocks
+pub mod SmallSteps
 pub mod LateDue
 pub mod Rows
 pub mod Kept

@@ -3,7 +3,7 @@
 -- number of rows; each column is an instance.
 use Prim.Native.Nat.{ℕ, zero, suc, _+_, _-_, _≤_}
 use mathlib.Core.Path.{_≡_, refl, sym, ap}
-use mathlib.Core.Bool.{Bool}
+use mathlib.Core.Bool.{Bool, cond}
 use mathlib.Core.List.{List, [], _∷_, _++_, map, map-append, append-nil}
 use native.Mathlib.Omega.{arith}
 use lib.IntN.{ℤ, pos}
@@ -16,7 +16,11 @@ use Rattle.store.specs.Parts.{withRowsAt, withKept, share}
 use Rattle.store.proofs.Choices.{cond-map}
 use Rattle.store.proofs.Columns.{room, length-rowsFrom}
 use Rattle.store.proofs.Runs.{sets-sets}
-use Rattle.store_places.specs.Places.{placesWhere}
+
+-- the places, counted from `at`, of what passes the test
+unfoldable pub placesWhere : {A : Type 0} → (A → Bool) → ℕ → List A → List ℕ
+placesWhere test at [] = []
+placesWhere test at (x ∷ xs) = cond (test x) (at ∷ placesWhere test (suc at) xs) (placesWhere test (suc at) xs)
 
 -- ---- a field of a store's rows, and its column
 
@@ -56,6 +60,10 @@ module _ (x : Columns) (base n : ℕ) (h : base + n ≤ storeLength x) where
   pub times-share : map (λ (r : Reading). r .time .0) (rowsFrom x base n) ≡ share base n (x .times)
   unfolding rowAt
   times-share = field-share x (λ (r : Reading). r .time .0) 0 (x .times) (λ i. refl) base n (room (base + n) x h .times)
+
+  pub values-share : map (λ (r : Reading). r .value) (rowsFrom x base n) ≡ share base n (x .values)
+  unfolding rowAt
+  values-share = field-share x (λ (r : Reading). r .value) (pos 0) (x .values) (λ i. refl) base n (room (base + n) x h .values)
 
   pub arrivals-share : map (λ (r : Reading). r .arrival .0) (rowsFrom x base n) ≡ share base n (x .arrivals)
   unfolding rowAt
@@ -110,7 +118,7 @@ kept-more x base n r =
 
 -- ---- places zeroed
 
-pub map-replicate : {A B : Type 0} (f : A → B) (n : ℕ) (a : A) → map f (replicate n a) ≡ replicate n (f a)
+map-replicate : {A B : Type 0} (f : A → B) (n : ℕ) (a : A) → map f (replicate n a) ≡ replicate n (f a)
 map-replicate f zero a = refl
 map-replicate f (suc n) a = ap (λ (l : List _). f a ∷ l) (map-replicate f n a)
 

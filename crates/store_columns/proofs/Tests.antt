@@ -7,7 +7,7 @@ use Prim.Native.Nat.{ℕ, _+_, _-_, _<_, _≤_}
 use native.Mathlib.Omega.{arith}
 use lib.Dec.{ltb}
 use lib.ListN.{length, getD}
-use Rattle.store.specs.Lists.{someOf, allOf}
+use Rattle.store.specs.Lists.{allOf}
 use Rattle.store.specs.Parts.{share}
 use Rattle.store_columns.specs.Tests.{someOfBoth}
 use Rattle.store_columns.specs.Shape.{rises}
@@ -34,26 +34,6 @@ module _ (test : ℕ → Bool) (xs : List ℕ) (base n : ℕ) where
     unfolding allOf
     all-end h = sym (and-true ok) ∙ (rw (left-none base n xs i h) at v)
 
--- ---- whether some passes
-
-abbrev pub SomeSoFar : (ℕ → Bool) → List ℕ → ℕ → ℕ → Bool → ℕ → Type 0
-SomeSoFar test xs base n found i = found || someOf test (left base n xs i) ≡ someOf test (share base n xs)
-
-module _ (test : ℕ → Bool) (xs : List ℕ) (base n : ℕ) where
-  pub some-start : SomeSoFar test xs base n false 0
-  some-start = rw (left-all base n xs)
-
-  module _ (found : Bool) (i : ℕ) (v : SomeSoFar test xs base n found i) where
-    pub some-turn : base + n ≤ length xs → i < n → SomeSoFar test xs base n (found || test (getD xs (base + i) 0)) (i + 1)
-    unfolding someOf
-    some-turn room h =
-        or-assoc found (test (getD xs (base + i) 0)) (someOf test (left base n xs (i + 1)))
-        ∙ (rw (left-cons 0 base n xs i room h) at v)
-
-    pub some-end : n ≤ i → found ≡ someOf test (share base n xs)
-    unfolding someOf
-    some-end h = sym (or-false found) ∙ (rw (left-none base n xs i h) at v)
-
 -- ---- whether some pair passes
 
 abbrev pub SomePairSoFar : (ℕ → ℕ → Bool) → List ℕ → List ℕ → ℕ → ℕ → Bool → ℕ → Type 0
@@ -79,7 +59,7 @@ module _ (test : ℕ → ℕ → Bool) (xs ys : List ℕ) (base n : ℕ) where
 
 -- ---- whether the numbers rise
 
-few-rise : (xs : List ℕ) → length xs ≤ 1 → rises xs ≡ true
+pub few-rise : (xs : List ℕ) → length xs ≤ 1 → rises xs ≡ true
 unfolding rises
 few-rise [] h = refl
 few-rise (x ∷ []) h = refl

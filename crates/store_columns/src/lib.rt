@@ -9,9 +9,10 @@ ghost use lib.IntN.{pos};
 ghost use lib.ListN.{length, replicate};
 ghost use lib.Seq.{sets};
 ghost use Rattle.journal.specs.Kinds.{letterT};
+ghost use Rattle.store.specs.Sizes.{readingsPerLine};
 ghost use Rattle.store.specs.Lists.{someOf, allOf};
 ghost use Rattle.store.specs.Parts.{share, withRowsAt};
-ghost use Rattle.store_columns.specs.Tests.{someOfBoth, isLateDue};
+ghost use Rattle.store_columns.specs.Tests.{PowerOfTwo, someOfBoth, allFrom, isReadingAt, areZero, isLateDue};
 ghost use Rattle.store_columns.specs.Shape.{rises, isReadingKind};
 ghost use Rattle.store.specs.Columns.{Columns, columnsOf, storeLength, zeroed};
 use clock::ArrivalTick;
@@ -20,6 +21,10 @@ use store::Reading;
 
 // The last reading time.
 const LAST_TIME: u64 = 4_294_967_295;
+
+// What a step up of 1 to 2^23, taken back, wraps to at the least: its nine highest bits are set. A share has too few places for such steps
+// to go round and come above the first id again.
+const SMALL_STEPS_BACK: u32 = 4_286_578_688;
 
 // ---- places zeroed, one function for each type of element
 
@@ -59,8 +64,8 @@ pub fn zero_u8(xs: &mut [u8], from: usize, to: usize)
 
 // ---- tests over a share that keeps n readings from `base` on: whole columns, without an early end, so that they go by the vector
 
-// Whether each id is above the one before it.
-pub fn ids_rise(ids: &[u32], base: usize, n: usize) -> bool
+// Whether each id is above the one before it, where some step is not small.
+fn ids_rise_exactly(ids: &[u32], base: usize, n: usize) -> bool
     requires { ⌜ base + n ≤ length (now ids) ⌝ }
     ensures { λ r. ⌜ r ≡ rises (share base n (now (ids .entry))) ⌝ }
 {
@@ -73,33 +78,113 @@ pub fn ids_rise(ids: &[u32], base: usize, n: usize) -> bool
     ok
 }
 
-// Whether every kind is S or T.
-pub fn are_readings(kinds: &[u8], base: usize, n: usize) -> bool
-    requires { ⌜ base + n ≤ length (now kinds) ⌝ }
-    ensures { λ r. ⌜ r ≡ allOf isReadingKind (share base n (now (kinds .entry))) ⌝ }
+// Whether each id is above the one before it. Mostly all steps are small, and one test tells: bits that every step back has set are left,
+// and ids that went round end below the first.
+pub fn ids_rise(ids: &[u32], base: usize, n: usize) -> bool
+    requires { ⌜ (n ≤ readingsPerLine) × (base + n ≤ length (now ids)) ⌝ }
+    ensures { λ r. ⌜ r ≡ rises (share base n (now (ids .entry))) ⌝ }
 {
-    let mut ok = true;
-    let mut i = 0;
+    if n < 2 {
+        return true;
+    }
+    let mut back = 4_294_967_295u32;
+    let mut i = 1;
     while i < n {
-        let kind = kinds[base + i];
-        ok = ok & ((kind == journal::STABLE) | (kind == journal::TENTATIVE));
+        back = back & std::num::wrapping_sub_u32(ids[base + i - 1], ids[base + i]);
         i += 1;
     }
-    ok
+    if (SMALL_STEPS_BACK <= back) & (ids[base] < ids[base + n - 1]) {
+        return true;
+    }
+    ids_rise_exactly(ids, base, n)
 }
 
-// Whether every meter is below a limit.
-pub fn are_below(meters: &[u8], base: usize, n: usize, limit: u8) -> bool
-    requires { ⌜ base + n ≤ length (now meters) ⌝ }
-    ensures { λ r. ⌜ r ≡ allOf (λ m. ltb m limit) (share base n (now (meters .entry))) ⌝ }
+// Whether every kind is S or T and every meter below a limit, all laid over each other: S and T are neighbours, so that a kind less S,
+// wrapped, is below 2 for them only. For fewer readings than a block.
+fn are_few_readings(kinds: &[u8], meters: &[u8], base: usize, n: usize, limit: u8) -> bool
+    requires { ⌜ (base + n ≤ length (now kinds)) × (base + n ≤ length (now meters)) × PowerOfTwo limit ⌝ }
+    ensures { λ r. ⌜ r ≡ (allOf isReadingKind (share base n (now (kinds .entry)))
+        && allOf (λ m. ltb m limit) (share base n (now (meters .entry)))) ⌝ }
 {
-    let mut ok = true;
+    let mut kind = 0u8;
+    let mut meter = 0u8;
     let mut i = 0;
     while i < n {
-        ok = ok & (meters[base + i] < limit);
+        kind = kind | std::num::wrapping_sub_u8(kinds[base + i], journal::STABLE);
+        meter = meter | meters[base + i];
         i += 1;
     }
-    ok
+    (kind < 2) & (meter < limit)
+}
+
+// The lesser of two places.
+fn lesser(a: usize, b: usize) -> usize
+    ensures { λ r. ⌜ (a < b → r ≡ a) × (b ≤ a → r ≡ b) ⌝ }
+{
+    if a < b { a } else { b }
+}
+
+// 0 exactly if the kind is S or T and the meter below the limit: of a kind less S, wrapped, the lowest bit may be set, and of
+// a meter the bits below the limit's.
+fn wrong_bits(kind: u8, meter: u8, limit: u8) -> u8
+    requires { ⌜ PowerOfTwo limit ⌝ }
+    ensures { λ r. ⌜ eqb r 0 ≡ (isReadingKind kind && ltb meter limit) ⌝ }
+{
+    (std::num::wrapping_sub_u8(kind, journal::STABLE) & 254) | (meter & (255 - (limit - 1)))
+}
+
+// Lays the wrong bits of a block's readings over the words, each over that of its place.
+fn lay_over(words: &mut [u8; 16], kinds: &[u8], meters: &[u8], from: usize, limit: u8)
+    requires { ⌜ (from + 16 ≤ length (now kinds)) × (from + 16 ≤ length (now meters)) × PowerOfTwo limit × (length (now words) ≡ 16) ⌝ }
+    ensures { λ _. ⌜ (length (now (words .exit)) ≡ 16) × (areZero (now (words .exit))
+        ≡ (areZero (now (words .entry)) && allFrom (isReadingAt (now (kinds .entry)) (now (meters .entry)) limit) from 16)) ⌝ }
+{
+    let mut k = 0;
+    while k < 16 {
+        words[k] = words[k] | wrong_bits(kinds[from + k], meters[from + k], limit);
+        k += 1;
+    }
+}
+
+// Whether no bit is set.
+fn are_all_zero(words: [u8; 16]) -> bool
+    ensures { λ r. ⌜ r ≡ areZero words ⌝ }
+{
+    let mut any = 0u8;
+    let mut k = 0;
+    while k < 16 {
+        any = any | words[k];
+        k += 1;
+    }
+    any == 0
+}
+
+// The same test, block by block. The last block reaches back, so that nothing is left behind the last whole one.
+fn are_blocks_readings(kinds: &[u8], meters: &[u8], base: usize, n: usize, limit: u8) -> bool
+    requires { ⌜ (16 ≤ n) × (base + n ≤ length (now kinds)) × (base + n ≤ length (now meters)) × PowerOfTwo limit ⌝ }
+    ensures { λ r. ⌜ r ≡ allFrom (isReadingAt (now (kinds .entry)) (now (meters .entry)) limit) base n ⌝ }
+{
+    let mut wrong = [0u8; 16];
+    let end = base + n;
+    let mut at = base;
+    while at < end {
+        let from = lesser(at, end - 16);
+        lay_over(&mut wrong, kinds, meters, from, limit);
+        at += 16;
+    }
+    are_all_zero(wrong)
+}
+
+// Whether every kind is S or T and every meter below a limit.
+pub fn are_readings(kinds: &[u8], meters: &[u8], base: usize, n: usize, limit: u8) -> bool
+    requires { ⌜ (base + n ≤ length (now kinds)) × (base + n ≤ length (now meters)) × PowerOfTwo limit ⌝ }
+    ensures { λ r. ⌜ r ≡ (allOf isReadingKind (share base n (now (kinds .entry)))
+        && allOf (λ m. ltb m limit) (share base n (now (meters .entry)))) ⌝ }
+{
+    if 16 <= n {
+        return are_blocks_readings(kinds, meters, base, n, limit);
+    }
+    are_few_readings(kinds, meters, base, n, limit)
 }
 
 // Whether some reading is tentative.

@@ -1,2 +1,2 @@
--- Laws on a column closed up over the places that stay.
-pub mod ClosedUp
+-- Laws on a run of elements moved down.
+pub mod Moved

@@ -1,4 +1,3 @@
--- Laws on places: those that rise, the test for a bucket, and places selected.
-pub mod PlacesLaws
+-- Laws on places: the test for a bucket, and the first place that passes a test.
 pub mod BucketTest
-pub mod Selected
+pub mod FirstPlaces

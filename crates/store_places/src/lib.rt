@@ -1,14 +1,20 @@
-// The places of a share's readings of one bucket, or of the others.
+// Whether a time is one of a bucket, and the next place whose time is, or is not.
 ghost use mathlib.Core.Path.{_≡_};
-ghost use mathlib.Core.List.{List};
-ghost use Prim.Native.Nat.{ℕ, _+_, _<_, _≤_, _^_};
+ghost use mathlib.Core.Bool.{true, false};
+ghost use Prim.Native.Nat.{_+_, _-_, _<_, _≤_};
 ghost use lib.Dec.{eqb};
 ghost use lib.ListN.{length};
-ghost use lib.Seq.{sets};
 ghost use Rattle.clock.specs.Buckets.{bucketOf};
+ghost use Rattle.store.specs.Lists.{someOf};
 ghost use Rattle.store.specs.Parts.{share};
-ghost use Rattle.store_places.specs.Places.{placesWhere, isTimeOf};
+ghost use Rattle.store_places.specs.Places.{firstPlace, isTimeOf, isFromTo};
 use clock::ReadingTime;
+
+// The last reading time.
+const LAST_TIME: u64 = 4_294_967_295;
+
+// How many times are looked at side by side.
+const BLOCK: usize = 16;
 
 // Whether a time is one of bucket j, without a division.
 pub fn is_in(bucket: u32, j: u32, t: ReadingTime) -> bool
@@ -20,30 +26,74 @@ pub fn is_in(bucket: u32, j: u32, t: ReadingTime) -> bool
     (end - bucket as u64 <= time) & (time < end)
 }
 
-// Puts the places of a share's times of bucket j, or of the others, in front of `places`; returns how many there are.
-pub fn select(
-    times: &[u32],
-    base: usize,
-    n: usize,
-    bucket: u32,
-    j: u32,
-    inside: bool,
-    places: &mut [u16],
-) -> usize
-    requires { ⌜ (0 < bucket) × (base + n ≤ length (now times)) × (base + n ≤ 2 ^ 16) × (n ≤ length (now places)) ⌝ }
-    ensures { λ r.
-        let found : List ℕ = placesWhere (isTimeOf inside bucket j) base (share base n (now (times .entry))) in
-        ⌜ (r ≡ length found) × (now (places .exit) ≡ sets (now (places .entry)) 0 found) ⌝ }
+// Whether one of the n times from `at` on lies from `first` to `last`.
+fn holds_time(times: &[u32], at: usize, n: usize, first: ReadingTime, last: ReadingTime) -> bool
+    requires { ⌜ at + n ≤ length (now times) ⌝ }
+    ensures { λ r. ⌜ r ≡ someOf (isFromTo first last) (share at n (now (times .entry))) ⌝ }
 {
+    let mut found = false;
     let mut i = 0;
-    let mut k = 0;
     while i < n {
-        let t = times[base + i];
-        if is_in(bucket, j, ReadingTime(t)) == inside {
-            places[k] = (base + i) as u16;
-            k += 1;
-        }
+        found = found | ((first.0 <= times[at + i]) & (times[at + i] <= last.0));
         i += 1;
     }
-    k
+    found
+}
+
+// Passes over blocks of n times from `from` on, up to one that holds a time from `first` to `last`, or to fewer than n times before `end`.
+fn pass_blocks(
+    times: &[u32],
+    from: usize,
+    end: usize,
+    n: usize,
+    first: ReadingTime,
+    last: ReadingTime,
+) -> usize
+    requires { ⌜ (0 < n) × (from ≤ end) × (end ≤ length (now times)) ⌝ }
+    ensures { λ r. ⌜ (r ≤ end)
+        × (firstPlace (isFromTo first last) r end (now (times .entry)) ≡ firstPlace (isFromTo first last) from end (now (times .entry)))
+        × (n ≤ end - r → someOf (isFromTo first last) (share r n (now (times .entry))) ≡ true) ⌝ }
+{
+    let mut at = from;
+    while n <= end - at {
+        if holds_time(times, at, n, first, last) {
+            return at;
+        }
+        at += n;
+    }
+    at
+}
+
+// The place of the first time of bucket j from `from` on and before `end`, or `end`: by blocks of times, then one by one.
+pub fn next_in(times: &[u32], from: usize, end: usize, bucket: u32, j: u32) -> usize
+    requires { ⌜ (0 < bucket) × (from ≤ end) × (end ≤ length (now times)) ⌝ }
+    ensures { λ r. ⌜ r ≡ firstPlace (isTimeOf true bucket j) from end (now (times .entry)) ⌝ }
+{
+    let start = (j as u64) * (bucket as u64);
+    if LAST_TIME < start {
+        return end;
+    }
+    let mut until = start + (bucket as u64) - 1;
+    if LAST_TIME < until {
+        until = LAST_TIME;
+    }
+    let first = ReadingTime(start as u32);
+    let last = ReadingTime(until as u32);
+    let far = pass_blocks(times, from, end, BLOCK, first, last);
+    pass_blocks(times, far, end, 1, first, last)
+}
+
+// The place of the first time of another bucket from `from` on and before `end`, or `end`.
+pub fn next_out(times: &[u32], from: usize, end: usize, bucket: u32, j: u32) -> usize
+    requires { ⌜ (0 < bucket) × (from ≤ end) × (end ≤ length (now times)) ⌝ }
+    ensures { λ r. ⌜ r ≡ firstPlace (isTimeOf false bucket j) from end (now (times .entry)) ⌝ }
+{
+    let mut at = from;
+    while at < end {
+        if !is_in(bucket, j, ReadingTime(times[at])) {
+            return at;
+        }
+        at += 1;
+    }
+    at
 }

@@ -66,7 +66,7 @@ is-share-ok-requires : tie.Need-is-share-ok-requires Inv-loop μ-loop
 is-share-ok-requires c κs =
     let e = c .before in
     let small = small-head (e .before .before .head-at .result) (right e) in
-    (omega arith, omega arith, omega arith)
+    (small, omega arith, omega arith, omega arith)
 
 returns-2 : tie.Need-returns-2 Inv-loop μ-loop
 returns-2 c =

@@ -13,12 +13,12 @@ use lib.ListN.{length, getD}
 use mir.Syntax.{w64}
 use mir.Val.{SFits}
 use mir.Facts.{toZ-ofZ}
+use Rattle.store.proofs.Over.{below-over}
 use Rattle.operator_meter.specs.Values.{noMeter}
 use Rattle.operator_meter.specs.Bounds.{meterOk}
 use Rattle.operator.specs.Meters.{meterCount}
 use Rattle.operator_rows.specs.Rows.{Rows, rowsOf, metersIn}
 use Rattle.operator_rows.proofs.InRow.{meterIn, length-in, meter-in}
-use Rattle.operator_bounds.proofs.Over.{below-over}
 use Rattle.operator_bounds.proofs.Turns.{SoFar, so-far-turn, so-far-end}
 use Rattle.operator_bounds.proofs.is_row_within_bounds.Statement.{statement}
 use Rattle.operator_bounds.proofs.is_row_within_bounds.Tie as tie

@@ -5,8 +5,9 @@ use mathlib.Core.Bool.{false}
 use Prim.Native.Nat.{ℕ, _-_, _≤_}
 use borrow.Author.Tests.{eq-eqb}
 use lib.ListN.{length, take, drop, getD}
+use Rattle.fields.specs.Line.{holdsLine}
 use Rattle.fields.specs.Field.{endsLine}
-use Rattle.playback_cursor.specs.Cut.{holdsLine, part}
+use Rattle.playback_cursor.specs.Cut.{part}
 use Rattle.playback_cursor.proofs.WholeLines.{none-behind, none-back}
 use Rattle.playback_cursor.proofs.lines_end.Statement.{statement}
 use Rattle.playback_cursor.proofs.lines_end.Tie as tie

@@ -7,6 +7,7 @@ use Rattle.node.specs.Held.{arraysOf, held}
 use Rattle.node.specs.View.{lentOf}
 use Rattle.node.specs.Calls.{Called, calledOn}
 use Rattle.playback_dispatch.specs.Dispatch.{allCaughtUp, followed}
+use Rattle.playback_dispatch.proofs.CatchingUp.{all-follow, none-follows}
 use Rattle.playback_dispatch.proofs.call_journal.Statement.{statement}
 use Rattle.playback_dispatch.proofs.call_journal.Tie as tie
 
@@ -15,17 +16,21 @@ use Rattle.playback_dispatch.proofs.call_journal.Tie as tie
 abbrev entry : tie.After-call → tie.Start
 entry d = d .before .before .before .before .before .before .before .before .before .before .before .before .before .before .before .before .before .before .before .before .before
 
+abbrev found : tie.After-is-some-behind → tie.After-call
+found b =
+    b .before .before .before .before .before .before .before .before .before .before .before .before .before .before .before .before .before
+
 abbrev tested : tie.Else1 → tie.After-call
-tested e = e .before .before .before .before .before .before .before .before .before .before .before .before .before .before .before .before
+tested e = found (e .before)
 
 abbrev followed-by : tie.After-slice-known15 → tie.After-catch-up
 followed-by c = c .before .before
 
-abbrev called : tie.After-catch-up → tie.After-call
-called f = f .before .before .before .before .before .before .before .before .before .before .before .before .before .before .before .before .before .before .before .before .before .before .before .before .before .before .before .before
-
 abbrev following : tie.After-catch-up → tie.Then1
 following f = f .before .before .before .before .before .before .before .before .before .before .before .before
+
+abbrev called : tie.After-catch-up → tie.After-call
+called f = found (following f .before)
 
 -- what the call is to leave
 abbrev due : tie.Start → Called
@@ -39,6 +44,9 @@ due s =
 
 call-requires : tie.Need-call-requires
 call-requires c κs = search needs
+
+is-some-behind-requires : tie.Need-is-some-behind-requires
+is-some-behind-requires c κs = tt
 
 catch-up-requires : tie.Need-catch-up-requires
 catch-up-requires c κs = search needs
@@ -72,7 +80,7 @@ unfolding followed
 returns c =
     let f = followed-by c in
     let d = called f in
-    rw (following f .if1 .taken)
+    all-follow (entry d .args .acknowledging) _ maxDisplays (due (entry d)) _ (following f .if1 .taken)
     (f .catch-up .ensures (d .call .last .1 .1 .1 .0) ∙ ap (allCaughtUp maxDisplays) (d .call .ensures .0))
 
 same-length-9 : tie.Need-same-length-9
@@ -101,13 +109,18 @@ same-length-16 c = tested c .call .kept .1 .1 .1 .1 .1 .1 .1 .1 .1 .1 .1 .1 .1 .
 
 returns-2 : tie.Need-returns-2
 unfolding followed
-returns-2 c = rw (c .if1 .left) (tested c .call .ensures .0)
+returns-2 c =
+    let d = tested c in
+    none-follows (entry d .args .acknowledging) _ maxDisplays (due (entry d)) _ (c .if1 .left)
+    (c .before .is-some-behind .ensures (arraysOf (d .call .last .1 .0) (d .call .last .1 .1 .0) (d .call .last .1 .1 .1 .0) (d .call .last .1 .1 .1 .1 .0)))
+    (d .call .ensures .0)
 
 pub call-journal-spec : {M : Type 1} → statement M
 call-journal-spec =
     tie.close
     (tie.spec
     call-requires
+    is-some-behind-requires
     catch-up-requires
     same-length
     same-length-2

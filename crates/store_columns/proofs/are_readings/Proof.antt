@@ -1,59 +1,28 @@
--- `store_columns::are_readings` meets its contract: what is found so far, with the test of what is left, stays the same.
-use Prim.Native.Nat.{_-_}
+-- `store_columns::are_readings` meets its contract: block by block the test goes by places, which comes to the same as by columns.
+use mathlib.Core.Path.{_∙_}
 use native.Mathlib.Omega.{arith}
-use Rattle.store_columns.specs.Shape.{isReadingKind}
-use Rattle.store_columns.proofs.Tests.{AllSoFar, all-start, all-turn, all-end}
+use Rattle.store_columns.proofs.Blocks.{both-columns}
 use Rattle.store_columns.proofs.are_readings.Statement.{statement}
 use Rattle.store_columns.proofs.are_readings.Tie as tie
 
-abbrev Inv-loop : tie.InvT-loop
-Inv-loop kinds base n ok₀ i₀ ok i = AllSoFar isReadingKind kinds base n ok i
+are-blocks-readings-requires : tie.Need-are-blocks-readings-requires
+are-blocks-readings-requires c κs =
+    let start = c .before .before .before in
+    let p = start .pre in
+    (omega arith, p .0, p .1, p .2)
 
-abbrev μ-loop : tie.MeasureT-loop
-μ-loop kinds base n ok₀ i₀ ok i = n - i
-
-loop-holds : tie.Need-loop-holds Inv-loop μ-loop
-loop-holds c =
-    let a = c .args in
-    all-start isReadingKind (a .kinds .now) (a .base) (a .n)
-
-add-kind : tie.Need-add-kind Inv-loop μ-loop
-add-kind c = omega arith
-
-shared-slice-read-kind : tie.Need-shared-slice-read-kind Inv-loop μ-loop
-shared-slice-read-kind c = omega arith
-
-add-i : tie.Need-add-i Inv-loop μ-loop
-add-i c = omega arith
-
-loop-less : tie.Need-loop-less Inv-loop μ-loop
-loop-less c = omega arith
-
-loop-again : tie.Need-loop-again Inv-loop μ-loop
-unfolding isReadingKind
-loop-again c =
-    let head = c .before .before in
-    let a = head .before .args in
-    let l = head .loop in
-    all-turn isReadingKind (a .kinds .now) (a .base) (a .n) (l .ok) (l .i) (l .inv) (omega arith) (omega arith)
-
-returns : tie.Need-returns Inv-loop μ-loop
+returns : tie.Need-returns
 returns c =
-    let head = c .before in
-    let a = head .before .args in
-    let l = head .loop in
-    all-end isReadingKind (a .kinds .now) (a .base) (a .n) (l .ok) (l .i) (l .inv) (omega arith)
+    let start = c .before .before .before .before in
+    let a = start .args in
+    let p = start .pre in
+    c .are-blocks-readings .ensures ∙ both-columns (a .kinds .now) (a .meters .now) (a .limit) (a .base) (a .n) (p .0) (p .1)
+
+are-few-readings-requires : tie.Need-are-few-readings-requires
+are-few-readings-requires c κs = c .before .before .before .pre
+
+returns-2 : tie.Need-returns-2
+returns-2 c = c .are-few-readings .ensures
 
 pub are-readings-spec : {M : Type 1} → statement M
-are-readings-spec =
-    tie.close
-    (tie.spec
-    Inv-loop
-    μ-loop
-    loop-holds
-    add-kind
-    shared-slice-read-kind
-    add-i
-    loop-less
-    loop-again
-    returns)
+are-readings-spec = tie.close (tie.spec are-blocks-readings-requires returns are-few-readings-requires returns-2)

@@ -3,7 +3,7 @@ use Prim.Native.Nat.{_-_}
 use native.Mathlib.Omega.{arith}
 use lib.Dec.{eqb}
 use Rattle.journal.specs.Kinds.{letterT}
-use Rattle.store_columns.proofs.Tests.{SomeSoFar, some-start, some-turn, some-end}
+use Rattle.store.proofs.Shares.{SomeSoFar, some-start, some-turn, some-end}
 use Rattle.store_columns.proofs.keeps_tentative.Statement.{statement}
 use Rattle.store_columns.proofs.keeps_tentative.Tie as tie
 

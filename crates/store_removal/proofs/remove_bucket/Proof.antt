@@ -1,176 +1,230 @@
--- `store_removal::remove_bucket` meets its contract: the selected places are those of the other buckets and rise, and each column is
--- closed up over them; where no place is given up, nothing changes.
-use Prim.Native.Nat.{ℕ, _+_, _-_, _≤_, zero-le}
-use mathlib.Core.Path.{_≡_, refl, sym}
-use mathlib.Core.Bool.{false}
-use mathlib.Core.List.{List}
+-- `store_removal::remove_bucket` meets its contract: run by run, the readings that stay of those that are left make the same store.
+use Prim.Native.Nat.{_+_, _-_, _<_, _≤_, _^_}
+use mathlib.Core.Path.{_≡_, refl, _∙_}
 use native.Mathlib.Omega.{arith}
-use borrow.Author.Needs.{needs}
-use lib.ListN.{length, take, replicate}
-use lib.Seq.{sets}
-use Rattle.store.specs.Sizes.{readingsPerLine}
-use Rattle.store.specs.Columns.{Columns, columnsOf}
-use Rattle.store.specs.Parts.{share}
-use Rattle.store.proofs.Columns.{Room, room}
-use Rattle.store_places.specs.Places.{PlacesRise, placesWhere, isTimeOf}
-use Rattle.store_removal.proofs.Closed.{selected, selected-rise, outside-kept, kept-whole, closed-rows}
+use lib.ListN.{length}
+use Rattle.store.specs.Lists.{keep}
+use Rattle.store.specs.Columns.{Columns, columnsOf, storeLength, rowsFrom}
+use Rattle.store.proofs.Columns.{room}
+use Rattle.store_removal.proofs.Staying.{stays}
+use Rattle.store_removal.proofs.Removed.{Removing, removing-start, room-yet, run-within, next-on, removing-turn}
+use Rattle.store_removal.proofs.Removed.{removed-count, removed-rows}
 use Rattle.store_removal.proofs.remove_bucket.Statement.{statement}
 use Rattle.store_removal.proofs.remove_bucket.Tie as tie
 
--- ---- what is known at the places on the way; each place names the one that it goes back to
+abbrev Inv-loop : tie.InvT-loop
+Inv-loop ids₀ times₀ values₀ arrivals₀ kinds₀ meters₀ base n bucket j end to₀ from₀ ids times values arrivals kinds meters to from =
+    Removing bucket j (columnsOf ids₀ times₀ values₀ arrivals₀ kinds₀ meters₀) base (base + n)
+    (columnsOf ids times values arrivals kinds meters) to from
 
-abbrev entered : tie.After-select-arg2 → tie.Start
-entered c = c .before .before .before .before .before .before .before .before
+abbrev μ-loop : tie.MeasureT-loop
+μ-loop ids₀ times₀ values₀ arrivals₀ kinds₀ meters₀ base n bucket j end to₀ from₀ ids times values arrivals kinds meters to from =
+    base + n - from
 
--- the start, seen from where the places are selected
-abbrev start : tie.After-select → tie.Start
-start p = entered (p .before)
+-- ---- the places on the way: the start, the loop's head, the run found and moved; then the end of the loop, and the places zeroed
 
-abbrev selecting : tie.After-close-first-arg4 → tie.After-select
-selecting c = c .before .before .before .before .before .before .before .before
+abbrev entered : tie.At-loop Inv-loop μ-loop → tie.Start Inv-loop μ-loop
+entered l = l .before .before .before .before .before .before
 
-abbrev first : tie.After-close-others-arg4 → tie.After-close-first
-first c = c .before .before .before .before .before .before .before .before .before .before
+abbrev head : tie.After-next-in Inv-loop μ-loop → tie.At-loop Inv-loop μ-loop
+head f = f .before .before .before
 
-abbrev others : tie.After-slice-known11 → tie.After-close-others
-others c = c .before .before .before .before .before .before
+abbrev found : tie.After-move-run-arg6 Inv-loop μ-loop → tie.After-next-in Inv-loop μ-loop
+found c = c .before .before .before .before .before .before
 
-abbrev nothing : tie.After-places4 → tie.After-select
-nothing c = c .before .before .before .before
+abbrev moved : tie.After-slice-known10 Inv-loop μ-loop → tie.After-move-run Inv-loop μ-loop
+moved c = c .before .before .before .before .before .before .before .before .before .before .before
 
--- the store as it was, and the room in it
-abbrev store : tie.Start → Columns
+abbrev left : tie.After-zero-arg6 Inv-loop μ-loop → tie.After-loop Inv-loop μ-loop
+left c = c .before .before .before .before .before .before
+
+abbrev zeroed : tie.After-slice-known15 Inv-loop μ-loop → tie.After-zero Inv-loop μ-loop
+zeroed c = c .before .before .before .before .before .before .before .before .before .before .before
+
+-- the store as it was at the start, as it is at the head, with the run moved, and with the places given up zeroed
+abbrev store : tie.Start Inv-loop μ-loop → Columns
 store s =
     columnsOf (s .args .ids .now) (s .args .times .now) (s .args .values .now) (s .args .arrivals .now) (s .args .kinds .now)
     (s .args .meters .now)
 
-space : (s : tie.Start) → Room (s .args .base + s .args .n) (store s)
-space s = room (s .args .base + s .args .n) (store s) (s .pre .3)
+abbrev now : tie.At-loop Inv-loop μ-loop → Columns
+now l = columnsOf (l .loop .ids) (l .loop .times) (l .loop .values) (l .loop .arrivals) (l .loop .kinds) (l .loop .meters)
 
--- the places of the other buckets' times
-abbrev outside : tie.Start → List ℕ
-outside s = let a = s .args in placesWhere (isTimeOf false (a .bucket) (a .j)) (a .base) (share (a .base) (a .n) (a .times .now))
+abbrev after : tie.After-move-run Inv-loop μ-loop → Columns
+after d =
+    let all = d .move-run .last in
+    columnsOf (all .0) (all .1 .0) (all .1 .1 .0) (all .1 .1 .1 .0) (all .1 .1 .1 .1 .0) (all .1 .1 .1 .1 .1 .0)
 
--- they are what stands in front of the space when it comes back, and they rise
-module _ (p : tie.After-select) {places : List ℕ} (put : places ≡ sets (replicate readingsPerLine 0) 0 (outside (start p))) where
-  chosen : take (p .select .result - 0) places ≡ outside (start p)
-  chosen =
-      let s = start p in
-      let a = s .args in
-      selected (isTimeOf false (a .bucket) (a .j)) (a .base) (a .n) (a .times .now) (space s .times) (replicate readingsPerLine 0)
-      places (s .pre .1) (p .select .result) (p .select .ensures .0) put
+abbrev last : tie.After-zero Inv-loop μ-loop → Columns
+last z =
+    let all = z .zero .last in
+    columnsOf (all .0) (all .1 .0) (all .1 .1 .0) (all .1 .1 .1 .0) (all .1 .1 .1 .1 .0) (all .1 .1 .1 .1 .1 .0)
 
-  rise : let a = start p .args in PlacesRise (a .base) (a .base + a .n) (take (p .select .result - 0) places)
-  rise =
-      let s = start p in
-      let a = s .args in
-      selected-rise (isTimeOf false (a .bucket) (a .j)) (a .base) (a .n) (a .times .now) (space s .times) (replicate readingsPerLine 0)
-      places (s .pre .1) (p .select .result) (p .select .ensures .0) put
+-- the share lies in the store all the time
+space : (l : tie.At-loop Inv-loop μ-loop) → let a = entered l .args in a .base + a .n ≤ storeLength (now l)
+space l =
+    let s = entered l in
+    let a = s .args in
+    room-yet (a .bucket) (a .j) (store s) (a .base) (a .base + a .n) (now l) (l .loop .to) (l .loop .from) (l .loop .inv) (s .pre .3)
+
+-- the run lies between the place looked at and the share's end
+run-ends :
+    (f : tie.After-next-in Inv-loop μ-loop) → let a = entered (head f) .args in
+    (head f .loop .from ≤ f .next-in .result) × (f .next-in .result ≤ a .base + a .n)
+run-ends f =
+    let l = head f in
+    let s = entered l in
+    let a = s .args in
+    run-within (a .bucket) (a .j) (store s) (a .base) (a .base + a .n) (now l) (l .loop .to) (l .loop .from) (l .loop .inv) (s .pre .3)
+    (f .next-in .result) (f .next-in .ensures)
+
+-- it ends below the places that a slice can have
+short : (l : tie.At-loop Inv-loop μ-loop) → let a = entered l .args in a .base + a .n < 2 ^ 64
+short l =
+    let s = entered l in
+    omega (arith, room (s .args .base + s .args .n) (store s) (s .pre .3) .ids)
+
+-- how many readings stay
+count :
+    (e : tie.After-loop Inv-loop μ-loop) → let l = e .before in
+    let s = entered l in
+    let a = s .args in
+    l .loop .to ≡ a .base + length (keep (stays (a .bucket) (a .j)) (rowsFrom (store s) (a .base) (a .n)))
+count e =
+    let l = e .before in
+    let s = entered l in
+    let a = s .args in
+    removed-count (a .bucket) (a .j) (store s) (a .base) (a .base + a .n) (now l) (l .loop .to) (l .loop .from) (l .loop .inv) (a .n) refl
+    (e .loop-test .left)
 
 -- ---- the needs
 
-slice-aggregate-places : tie.Need-slice-aggregate-places
-slice-aggregate-places c = refl
+add-end : tie.Need-add-end Inv-loop μ-loop
+add-end c =
+    let s = c .before .before .before .before .before in
+    omega (arith, room (s .args .base + s .args .n) (store s) (s .pre .3) .ids)
 
-select-requires : tie.Need-select-requires
-select-requires c κs =
-    let s = entered c in
-    (s .pre .0, space s .times, s .pre .2, s .pre .1)
-
-sub-close-first : tie.Need-sub-close-first
-sub-close-first c = zero-le
-
-part-close-first-start : tie.Need-part-close-first-start
-part-close-first-start c = zero-le
-
-part-close-first-end : tie.Need-part-close-first-end
-part-close-first-end c = search needs
-
-close-first-requires : tie.Need-close-first-requires
-close-first-requires c κs =
-    let p = selecting c in
-    let r = space (start p) in
-    (r .ids, r .times, r .arrivals, rise p (p .select .ensures .1))
-
-sub-close-others : tie.Need-sub-close-others
-sub-close-others c = zero-le
-
-part-close-others-start : tie.Need-part-close-others-start
-part-close-others-start c = zero-le
-
-part-close-others-end : tie.Need-part-close-others-end
-part-close-others-end c = search needs
-
-close-others-requires : tie.Need-close-others-requires
-close-others-requires c κs =
-    let p = selecting (first c .before) in
-    let r = space (start p) in
-    (r .values, r .kinds, r .meters, rise p (p .select .ensures .1))
-
-same-length : tie.Need-same-length
-same-length c = first (others c .before) .close-first .kept .0
-
-same-length-2 : tie.Need-same-length-2
-same-length-2 c = first (others c .before) .close-first .kept .1 .0
-
-same-length-3 : tie.Need-same-length-3
-same-length-3 c = others c .close-others .kept .0
-
-same-length-4 : tie.Need-same-length-4
-same-length-4 c = first (others c .before) .close-first .kept .1 .1 .0
-
-same-length-5 : tie.Need-same-length-5
-same-length-5 c = others c .close-others .kept .1 .0
-
-same-length-6 : tie.Need-same-length-6
-same-length-6 c = others c .close-others .kept .1 .1 .0
-
-returns : tie.Need-returns
-returns c =
-    let f = first (others c .before) in
-    let p = selecting (f .before) in
-    let s = start p in
+loop-holds : tie.Need-loop-holds Inv-loop μ-loop
+loop-holds c =
+    let s = c .before .before .before .before .before in
     let a = s .args in
-    let e = f .close-first .ensures in
-    let g = others c .close-others .ensures in (
-      outside-kept (store s) (a .base) (a .n) (a .bucket) (a .j) (s .pre .3) (p .select .ensures .0),
-      closed-rows (store s) (a .base) (a .n) (a .bucket) (a .j) (s .pre .3) (chosen p (p .select .ensures .1)) (e .0) (e .1) (e .2)
-          (g .0) (g .1) (g .2),
+    removing-start (a .bucket) (a .j) (store s) (a .base) (a .base + a .n) (omega arith)
+
+next-in-requires : tie.Need-next-in-requires Inv-loop μ-loop
+next-in-requires c κs =
+    let l = c .before .before in
+    let s = entered l in
+    let a = s .args in
+    (s .pre .0, l .loop .inv .within, room (a .base + a .n) (now l) (space l) .times)
+
+sub-left : tie.Need-sub-left Inv-loop μ-loop
+sub-left c = run-ends c .0
+
+move-run-requires : tie.Need-move-run-requires Inv-loop μ-loop
+move-run-requires c κs =
+    let f = found c in
+    let l = head f in
+    (l .loop .inv .down, omega (arith, run-ends f, space l))
+
+add-to : tie.Need-add-to Inv-loop μ-loop
+add-to c =
+    let f = found (moved c .before) in
+    let l = head f in
+    omega (arith, run-ends f, l .loop .inv .down, short l)
+
+next-out-requires : tie.Need-next-out-requires Inv-loop μ-loop
+next-out-requires c κs =
+    let d = moved (c .before) in
+    let f = found (d .before) in
+    let l = head f in
+    let s = entered l in
+    let a = s .args in
+    (s .pre .0, run-ends f .1, omega (arith, d .move-run .kept .1 .0, room (a .base + a .n) (now l) (space l) .times))
+
+loop-less : tie.Need-loop-less Inv-loop μ-loop
+loop-less c =
+    let d = moved (c .before .before) in
+    let f = found (d .before) in
+    let l = head f in
+    let s = entered l in
+    let a = s .args in
+    let more = f .before .before .loop-test .taken in
+    omega (
+      arith,
+      more,
+      next-on (a .bucket) (a .j) (store s) (a .base) (a .base + a .n) (now l) (l .loop .to) (l .loop .from) (l .loop .inv) (s .pre .3)
+          (f .next-in .result) (f .next-in .ensures) (after d) (d .move-run .ensures) (c .next-out .result) (c .next-out .ensures) more,
     )
 
-same-length-7 : tie.Need-same-length-7
-same-length-7 c = refl
-
-returns-2 : tie.Need-returns-2
-returns-2 c =
-    let p = nothing c in
-    let s = start p in
+loop-again : tie.Need-loop-again Inv-loop μ-loop
+loop-again c =
+    let d = moved (c .before .before) in
+    let f = found (d .before) in
+    let l = head f in
+    let s = entered l in
     let a = s .args in
-    let all : a .n ≤ length (outside s) = omega (arith, p .select .ensures .0) in (
-      outside-kept (store s) (a .base) (a .n) (a .bucket) (a .j) (s .pre .3) (p .select .ensures .0),
-      sym (kept-whole (store s) (a .base) (a .n) (a .bucket) (a .j) (s .pre .3) all),
+    removing-turn (a .bucket) (a .j) (store s) (a .base) (a .base + a .n) (now l) (l .loop .to) (l .loop .from) (l .loop .inv) (s .pre .3)
+    (f .next-in .result) (f .next-in .ensures) (after d) (d .move-run .ensures) (c .next-out .result) (c .next-out .ensures)
+
+zero-requires : tie.Need-zero-requires Inv-loop μ-loop
+zero-requires c κs =
+    let l = left c .before in
+    (omega (arith, l .loop .inv .down, l .loop .inv .within), omega (arith, l .loop .inv .down, l .loop .inv .within, space l))
+
+sub-result : tie.Need-sub-result Inv-loop μ-loop
+sub-result c = omega (arith, count (left (zeroed c .before)))
+
+same-length : tie.Need-same-length Inv-loop μ-loop
+same-length c = let z = zeroed c in z .zero .kept .0 ∙ left (z .before) .before .loop .inv .lengths .ids
+
+same-length-2 : tie.Need-same-length-2 Inv-loop μ-loop
+same-length-2 c = let z = zeroed c in z .zero .kept .1 .0 ∙ left (z .before) .before .loop .inv .lengths .times
+
+same-length-3 : tie.Need-same-length-3 Inv-loop μ-loop
+same-length-3 c = let z = zeroed c in z .zero .kept .1 .1 .0 ∙ left (z .before) .before .loop .inv .lengths .values
+
+same-length-4 : tie.Need-same-length-4 Inv-loop μ-loop
+same-length-4 c = let z = zeroed c in z .zero .kept .1 .1 .1 .0 ∙ left (z .before) .before .loop .inv .lengths .arrivals
+
+same-length-5 : tie.Need-same-length-5 Inv-loop μ-loop
+same-length-5 c = let z = zeroed c in z .zero .kept .1 .1 .1 .1 .0 ∙ left (z .before) .before .loop .inv .lengths .kinds
+
+same-length-6 : tie.Need-same-length-6 Inv-loop μ-loop
+same-length-6 c = let z = zeroed c in z .zero .kept .1 .1 .1 .1 .1 .0 ∙ left (z .before) .before .loop .inv .lengths .meters
+
+returns : tie.Need-returns Inv-loop μ-loop
+returns c =
+    let z = zeroed c in
+    let e = left (z .before) in
+    let l = e .before in
+    let s = entered l in
+    let a = s .args in (
+      omega (arith, count e),
+      removed-rows (a .bucket) (a .j) (store s) (a .base) (a .base + a .n) (now l) (l .loop .to) (l .loop .from) (l .loop .inv) (a .n) refl
+          (e .loop-test .left) (last z) (z .zero .ensures),
     )
 
 pub remove-bucket-spec : {M : Type 1} → statement M
 remove-bucket-spec =
     tie.close
     (tie.spec
-    slice-aggregate-places
-    select-requires
-    sub-close-first
-    part-close-first-start
-    part-close-first-end
-    close-first-requires
-    sub-close-others
-    part-close-others-start
-    part-close-others-end
-    close-others-requires
+    Inv-loop
+    μ-loop
+    add-end
+    loop-holds
+    next-in-requires
+    sub-left
+    move-run-requires
+    add-to
+    next-out-requires
+    loop-less
+    loop-again
+    zero-requires
+    sub-result
     same-length
     same-length-2
     same-length-3
     same-length-4
     same-length-5
     same-length-6
-    returns
-    same-length-7
-    returns-2)
+    returns)

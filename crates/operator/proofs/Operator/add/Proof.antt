@@ -2,7 +2,7 @@
 -- each meter has room for one value more a place.
 use Prim.Native.Nat.{ℕ, _+_, _-_, _*_, _<_, _≤_}
 use mathlib.Core.Path.{_≡_, sym, _∙_, ap₂, subst⁻¹}
-use mathlib.Core.Bool.{_&&_}
+use mathlib.Core.Bool.{true, _&&_}
 use mathlib.Core.List.{List}
 use mathlib.Core.Logic.{⊎-elim}
 use native.Mathlib.Omega.{arith}
@@ -19,6 +19,8 @@ use Rattle.settings.specs.Limits.{maxLines}
 use Rattle.signed.specs.Range.{InRange}
 use Rattle.store.specs.Sizes.{readingsPerLine}
 use Rattle.store.proofs.Pairs.{every-index}
+use Rattle.store_places.specs.Places.{isTimeOf}
+use Rattle.store_places.proofs.FirstPlaces.{first-within}
 use Rattle.operator_meter.specs.Bounds.{countLimit}
 use Rattle.operator_meter.specs.Values.{isCounted}
 use Rattle.operator_meter.proofs.Sums.{range-fits, add-range}
@@ -27,7 +29,7 @@ use Rattle.operator.specs.Meters.{meterCount}
 use Rattle.operator.specs.Loaded.{operatorOf}
 use Rattle.operator.proofs.Loaded.{length-meters}
 use Rattle.operator.proofs.Pass.{Passing, started}
-use Rattle.operator.proofs.Turns.{afterVisit, visit-enters, visit-passes, Turn, turn-start, turn-more}
+use Rattle.operator.proofs.Turns.{afterVisit, visit-enters, visit-passes, Turn, turn-start, turn-more, turn-skips}
 use Rattle.operator.proofs.Turns.{Lines, lines-start, lines-more, lines-in-range, lines-end}
 use Rattle.operator.proofs.Entered.{passing, Long, with-sum-long, counted-at, entered-newest, entered-older}
 use Rattle.operator.proofs.KnownMeters.{meter-known}
@@ -118,6 +120,10 @@ kept-told t = getD-take (start t .args .s .lines) (start t .args .t3) (lineOf t)
 
 few : (t : Line) → getD (keptBy (start t)) (lineOf t) 0 ≤ readingsPerLine
 few t = every-index (λ n. n ≤ readingsPerLine) (keptBy (start t)) (lineOf t) 0 (some-line t) (start t .pre .1 .small)
+
+-- its share lies in the column of times
+all-times : (t : Line) → lineOf t * readingsPerLine + getD (start t .args .t3) (lineOf t) 0 ≤ length (start t .args .times .now)
+all-times t = omega (arith, some-line t, few t, kept-told t, start t .pre .1 .ofTimes)
 
 -- ---- a place that is visited, and what stands there
 
@@ -236,6 +242,26 @@ long-yet c =
     (λ e. subst⁻¹ Long (e .5) (with-sum-long (l .self) m _ _ long (long .lasts)))
     (λ e. subst⁻¹ Long (e .1) long))
     (c .if2 .came)
+
+-- so the pass has met one place more
+turns :
+    (c : Left) → let v = visited c in
+    let t = line v in
+    let a = start t .args in
+    let l₀ = t .before .before .loop in
+    Turn (a .s) (a .j) (a .times .now) (a .values .now) (a .meters .now) (passing (l₀ .self) (l₀ .newest))
+    (passing (c .if2 .self) (c .if2 .newest)) (lineOf t * readingsPerLine) (place v + 1)
+    (lineOf t * readingsPerLine + getD (a .t3) (lineOf t) 0)
+turns c =
+    let w = tested (c .before) in
+    let v = visit w in
+    let t = line v in
+    let a = start t .args in
+    let l₀ = t .before .before .loop in
+    let l = v .before .loop2 in
+    rw (goes-on c)
+    (turn-more (a .s) (a .j) (a .times .now) (a .values .now) (a .meters .now) (passing (l₀ .self) (l₀ .newest)) (passing (l .self) (l .newest))
+    (lineOf t * readingsPerLine) (place v) _ (l .inv .0) (v .loop2-test .taken) (all-times t) (value-fits w .sfits))
 
 -- ---- the needs
 
@@ -357,24 +383,41 @@ array-write-newest c = known (visit (counted (c .before)))
 add-at : tie.Need-add-at Inv-loop2 μ-loop2 Inv-loop μ-loop
 add-at c = let t = visit (tested (c .before)) in omega (arith, below t, start (line t) .pre .1 .lines)
 
+next-in-requires : tie.Need-next-in-requires Inv-loop2 μ-loop2 Inv-loop μ-loop
+next-in-requires c κs =
+    let v = visited (c .before) in
+    (start (line v) .pre .1 .bucket, omega (arith, v .loop2-test .taken), all-times (line v))
+
 loop2-less : tie.Need-loop2-less Inv-loop2 μ-loop2 Inv-loop μ-loop
-loop2-less c = omega (arith, visit (tested (c .before)) .loop2-test .taken)
+loop2-less c =
+    let d = c .before .before in
+    let v = visited d in
+    let a = start (line v) .args in
+    omega (
+      arith,
+      v .loop2-test .taken,
+      c .next-in .ensures,
+      first-within (isTimeOf true (a .s .bucket) (a .j)) (place v + 1) _ (a .times .now) (turns d .within),
+    )
 
 loop2-again : tie.Need-loop2-again Inv-loop2 μ-loop2 Inv-loop μ-loop
 loop2-again c =
-    let w = tested (c .before) in
-    let v = visit w in
+    let d = c .before .before in
+    let v = visited d in
     let t = line v in
-    let b = start t in
-    let a = b .args in
-    let l₀ = t .before .before .loop in
-    let l = v .before .loop2 in (
-      rw (goes-on c)
-          (turn-more (a .s) (a .j) (a .times .now) (a .values .now) (a .meters .now) (passing (l₀ .self) (l₀ .newest)) (passing (l .self) (l .newest))
-          (lineOf t * readingsPerLine) (place v) _ (l .inv .0) (v .loop2-test .taken)
-          (omega (arith, some-line t, few t, kept-told t, b .pre .1 .ofTimes)) (value-fits w .sfits)),
-      long-yet c,
+    let a = start t .args in
+    let l₀ = t .before .before .loop in (
+      turn-skips (a .s) (a .j) (a .times .now) (a .values .now) (a .meters .now) (passing (l₀ .self) (l₀ .newest))
+          (passing (d .if2 .self) (d .if2 .newest)) (lineOf t * readingsPerLine) (place v + 1) _ (turns d) (c .next-in .result)
+          (c .next-in .ensures) (all-times t),
+      long-yet d,
     )
+
+loop2-less-2 : tie.Need-loop2-less-2 Inv-loop2 μ-loop2 Inv-loop μ-loop
+loop2-less-2 c = omega (arith, visited (c .before) .loop2-test .taken)
+
+loop2-again-2 : tie.Need-loop2-again-2 Inv-loop2 μ-loop2 Inv-loop μ-loop
+loop2-again-2 c = (turns (c .before), long-yet (c .before))
 
 add-i : tie.Need-add-i Inv-loop2 μ-loop2 Inv-loop μ-loop
 add-i c = let t = c .before .before in omega (arith, some-line t, start t .pre .1 .lines)
@@ -449,8 +492,11 @@ add-spec =
     mul-newest
     array-write-newest
     add-at
+    next-in-requires
     loop2-less
     loop2-again
+    loop2-less-2
+    loop2-again-2
     add-i
     loop-less
     loop-again
