@@ -199,20 +199,21 @@ pub fn read_integer(s: &[u8], at: usize) -> Integer
     Integer::Value(m as i32, end)
 }
 
-// How many digits a number has.
+// How many digits a number has: it is compared with powers of ten.
 fn count_digits(n: u64) -> usize
+    requires { ⌜ n < 10 ^ 19 ⌝ }
     ensures { λ r. ⌜ r ≡ length (digits n) ⌝ }
 {
     let mut count = 1;
-    let mut rest = n;
-    while 9 < rest {
-        rest = rest / 10;
+    let mut bound: u64 = 10;
+    while bound <= n {
+        bound = bound * 10;
         count += 1;
     }
     count
 }
 
-// Lays a number's digits over the area from `at` to `end`, the last one first.
+// Lays a number's digits over the area from `at` to `end`, the last two first, then the two before them.
 fn fill_digits(out: &mut [u8], at: usize, end: usize, n: u64)
     requires { ⌜ end ≡ at + length (digits n) ⌝ }
     requires { ⌜ end ≤ length (now out) ⌝ }
@@ -220,9 +221,15 @@ fn fill_digits(out: &mut [u8], at: usize, end: usize, n: u64)
 {
     let mut i = end;
     let mut rest = n;
-    while 9 < rest {
-        i -= 1;
-        out[i] = (48 + rest % 10) as u8;
+    while 99 < rest {
+        let pair = rest % 100;
+        i -= 2;
+        out[i] = (48 + pair / 10) as u8;
+        out[i + 1] = (48 + pair % 10) as u8;
+        rest = rest / 100;
+    }
+    if 9 < rest {
+        out[i - 1] = (48 + rest % 10) as u8;
         rest = rest / 10;
     }
     out[at] = (48 + rest) as u8;
@@ -230,6 +237,7 @@ fn fill_digits(out: &mut [u8], at: usize, end: usize, n: u64)
 
 // Lays a number's digits over the area from `at` on; answers the place behind them.
 fn put_digits(out: &mut [u8], at: usize, n: u64) -> usize
+    requires { ⌜ n < 10 ^ 19 ⌝ }
     requires { ⌜ at + length (digits n) ≤ length (now out) ⌝ }
     ensures { λ r. ⌜ r ≡ at + length (digits n) ⌝ }
     ensures { λ _. ⌜ now (out .exit) ≡ laid (now (out .entry)) at (digits n) ⌝ }
@@ -246,9 +254,10 @@ pub fn put_decimal(out: &mut [u8], at: usize, z: i64) -> usize
     ensures { λ _. ⌜ now (out .exit) ≡ laid (now (out .entry)) at (decimal z) ⌝ }
 {
     let m = signed::magnitude(z);
+    let mut place = at;
     if z < 0 {
         out[at] = 45;
-        return put_digits(out, at + 1, m);
+        place = at + 1;
     }
-    put_digits(out, at, m)
+    put_digits(out, place, m)
 }
