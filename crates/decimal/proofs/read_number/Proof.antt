@@ -157,7 +157,7 @@ add-value c = omega (arith, digit-range _ (digit-here (c .before)))
 returns-6 : tie.Need-returns-6 Inv-loop μ-loop
 returns-6 c =
     let t = c .before .before in
-    sym (number-past-most (entry (turn (t .before)) .args .most) _ _ _ _ (taken-in t) (c .if7 .taken))
+    sym (number-past-most (entry (turn (t .before)) .args .most) _ _ _ _ (taken-in t) (omega arith))
 
 add-i : tie.Need-add-i Inv-loop μ-loop
 add-i c = omega arith
