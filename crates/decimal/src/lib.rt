@@ -1,11 +1,12 @@
 // Decimal numbers in text: read from a place on, and written into a lent area.
 ghost use mathlib.Core.Path.{_≡_};
-ghost use Prim.Native.Nat.{_+_, _<_, _≤_, _^_};
+ghost use mathlib.Core.Bool.{cond};
+ghost use Prim.Native.Nat.{_+_, _-_, _≤_, _^_};
+ghost use lib.Dec.{eqb};
 ghost use lib.ListN.{length, getD};
-ghost use lib.Seq.{slice};
 ghost use Rattle.area.specs.Laid.{laid};
 ghost use Rattle.decimal.specs.Decimal.{digits, decimal};
-ghost use Rattle.decimal.specs.Spelled.{isDigit, runLength, runValue, runAt, numberAt, widened, negated, integerAt};
+ghost use Rattle.decimal.specs.Spelled.{Ended, isDigit, runAt, numberAt, widened, negated, asInteger, integerAt};
 
 // An unsigned number that a text spells from a place on, with the place behind it.
 pub enum Number {
@@ -29,12 +30,6 @@ pub enum Integer {
 enum Run {
     Digits(u64, usize),
     Past,
-}
-
-// The digits that stand in a text from a place on, up to a stop: their value and the place behind them.
-struct ShortRun {
-    value: u64,
-    end: usize,
 }
 
 // The widest number of 64 bits without its last digit, and that digit.
@@ -107,38 +102,10 @@ fn is_digit(b: u8) -> bool
     (48 <= b) & (b <= 57)
 }
 
-// Whether a digit stands at a place.
-fn digit_at(s: &[u8], at: usize) -> bool
-    ensures { λ r. ⌜ r ≡ isDigit (getD (now (s .entry)) at 0) ⌝ }
-{
-    if at < s.len() { is_digit(s[at]) } else { false }
-}
-
-// The run of digits from `from` on, up to `stop` at most, behind digits of value `first`; 64 bits must hold it.
-fn scan_short(s: &[u8], first: u64, from: usize, stop: usize) -> ShortRun
-    requires { ⌜ stop ≤ length (now s) ⌝ }
-    requires { ⌜ runValue first (slice from stop (now s)) < 2 ^ 64 ⌝ }
-    ensures { λ r. ⌜ r .value ≡ runValue first (slice from stop (now (s .entry))) ⌝ }
-    ensures { λ r. ⌜ r .end ≡ from + runLength (slice from stop (now (s .entry))) ⌝ }
-{
-    let mut value = first;
-    let mut i = from;
-    while i < stop {
-        let b = s[i];
-        if !is_digit(b) {
-            break;
-        }
-        value = value * 10 + ((b - 48) as u64);
-        i += 1;
-    }
-    ShortRun {
-        value: value,
-        end: i,
-    }
-}
-
-// The unsigned number, of at most `most`, that the text spells from `at` on. With 32 bits it has at most ten digits.
+// The unsigned number, of at most `most`, that the text spells from `at` on. The text ends with no digit, so that the loop needs no other
+// stop.
 pub fn read_number(s: &[u8], at: usize, most: u32) -> Number
+    requires { ⌜ Ended (now s) ⌝ }
     ensures { λ r. ⌜ r ≡ numberAt most (now (s .entry)) at ⌝ }
 {
     if s.len() <= at {
@@ -150,24 +117,24 @@ pub fn read_number(s: &[u8], at: usize, most: u32) -> Number
     }
     let next = at + 1;
     if b == 48 {
-        if digit_at(s, next) {
+        if is_digit(s[next]) {
             return Number::Malformed;
         }
         return Number::Value(0, next);
     }
-    let stop = if s.len() - at < 10 { s.len() } else { at + 10 };
-    let run = scan_short(s, (b - 48) as u64, next, stop);
-    let end = run.end;
-    let value = run.value;
-    if end == stop {
-        if digit_at(s, end) {
-            return Number::Malformed;
-        }
-    }
+    let mut value = (b - 48) as u64;
     if (most as u64) < value {
         return Number::Malformed;
     }
-    Number::Value(value as u32, end)
+    let mut i = next;
+    while is_digit(s[i]) {
+        value = value * 10 + ((s[i] - 48) as u64);
+        if (most as u64) < value {
+            return Number::Malformed;
+        }
+        i += 1;
+    }
+    Number::Value(value as u32, i)
 }
 
 // The number with this magnitude below zero; zero has no minus.
@@ -181,22 +148,36 @@ fn negative(m: u32, end: usize) -> Integer
     Integer::Value((0 - (m as i64)) as i32, end)
 }
 
-// The signed number that the text spells from `at` on.
+// The number with this magnitude and sign.
+fn with_sign(minus: bool, m: u32, end: usize) -> Integer
+    requires { ⌜ m ≤ cond minus (2 ^ 31) (2 ^ 31 - 1) ⌝ }
+    ensures { λ r. ⌜ r ≡ cond minus (negated (Number.Value m end)) (asInteger (Number.Value m end)) ⌝ }
+{
+    if minus {
+        negative(m, end)
+    } else {
+        Integer::Value(m as i32, end)
+    }
+}
+
+// Whether a minus stands at a place.
+fn minus_at(s: &[u8], at: usize) -> bool
+    ensures { λ r. ⌜ r ≡ eqb (getD (now (s .entry)) at 0) 45 ⌝ }
+{
+    if at < s.len() { s[at] == 45 } else { false }
+}
+
+// The signed number that the text spells from `at` on. One reading for both signs.
 pub fn read_integer(s: &[u8], at: usize) -> Integer
+    requires { ⌜ Ended (now s) ⌝ }
     ensures { λ r. ⌜ r ≡ integerAt (now (s .entry)) at ⌝ }
 {
-    if at < s.len() {
-        if s[at] == 45 {
-            let Number::Value(m, end) = read_number(s, at + 1, 2147483648) else {
-                return Integer::Malformed;
-            };
-            return negative(m, end);
-        }
-    }
-    let Number::Value(m, end) = read_number(s, at, 2147483647) else {
+    let minus = minus_at(s, at);
+    let Number::Value(m, end) = read_number(s, at + minus as usize, 2147483647 + minus as u32)
+    else {
         return Integer::Malformed;
     };
-    Integer::Value(m as i32, end)
+    with_sign(minus, m, end)
 }
 
 // How many digits a number has: it is compared with powers of ten.
