@@ -8,7 +8,7 @@ use native.Mathlib.Nat.{add-zero}
 use native.Mathlib.Numerals.{add-one}
 use lib.IntN.{ℤ}
 use lib.ListN.{length, getD, drop, length-append, length-drop, List·getD-eq-default}
-use lib.Seq.{drop-cons, getD-drop}
+use lib.Seq.{drop-cons, getD-drop, drop-append-seam}
 use borrow.Author.Tests.{eq-eqb, eqb-true}
 use mir.Syntax.{w32}
 use mir.Val.{SFits}
@@ -23,6 +23,7 @@ use Rattle.decimal.proofs.Runs.{run-short}
 use Rattle.decimal.proofs.Numbers.{spelled, number-run, widened-value}
 use Rattle.decimal.proofs.NumberText.{number-sound, number-complete}
 use Rattle.decimal.proofs.Integers.{integer-sound, integer-complete}
+use Rattle.fields.specs.Line.{lineOf}
 use Rattle.fields.specs.Field.{startsWith, endsLine, numberField, integerField, withNumber, withInteger}
 use Rattle.fields.proofs.Keys.{starts-sound, starts-complete}
 use Rattle.fields.proofs.Spells.{Spells, spells-append, spells-rest, spells-front}
@@ -168,3 +169,16 @@ no-end-past s at h = rw (List·getD-eq-default s 0 h)
 pub line-ended : (s : List ℕ) → endsLine s (length s - 1) ≡ true → Ended s
 unfolding endsLine isDigit
 line-ended s q = rw (eqb-true (getD s (length s - 1) 0) 10 q)
+
+-- a line as it is written ends with 0A
+ends-behind : (a t : List ℕ) → endsLine t (length t - 1) ≡ true → endsLine (a ++ t) (length (a ++ t) - 1) ≡ true
+unfolding endsLine
+ends-behind a t q =
+    let place : length (a ++ t) - 1 ≡ length a + (length t - 1) = omega (arith, length-append a t, end-inside t (length t - 1) q) in
+    rw (place, ← getD-drop (length a) (a ++ t) (length t - 1) 0, drop-append-seam a t) q
+
+pub line-ends : (fs : List (List ℕ)) → endsLine (lineOf fs) (length (lineOf fs) - 1) ≡ true
+unfolding endsLine lineOf
+line-ends [] = refl
+line-ends (f ∷ []) = ends-behind f (10 ∷ []) refl
+line-ends (f ∷ g ∷ fs) = ends-behind f (32 ∷ lineOf (g ∷ fs)) (ends-behind (32 ∷ []) (lineOf (g ∷ fs)) (line-ends (g ∷ fs)))

@@ -16,7 +16,7 @@ same-bytes : (a b : List ℕ) → AreBytes a → AreBytes b → length a ≡ len
 same-bytes a b p q n e = sym (littleEndian-numberOf a p) ∙ ap₂ littleEndian n e ∙ littleEndian-numberOf b q
 
 module _ (key s : List ℕ) (at : ℕ) (four : 4 ≤ length key) where
-  -- the text has the key: so its first word is the key's
+  -- where the first word is another, the key is not there
   pub word-differs : (numberOf (take 4 (drop at s)) ≡ numberOf (take 4 key) → ⊥) → startsWith key (drop at s) ≡ false
   word-differs n = by (startsWith key (drop at s)) refl
     where
