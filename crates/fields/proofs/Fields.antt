@@ -114,7 +114,8 @@ pub number-field-within :
 unfolding numberField
 number-field-within key most s at v e q =
     let t = drop (at + length key) s in
-    let read = picked (startsWith key (drop at s)) (numberAt most s (at + length key)) Number.Malformed (Number.Value v e) q (no-number v e) .1 in
+    let read =
+    picked (startsWith key (drop at s)) (numberAt most s (at + length key)) Number.Malformed (Number.Value v e) q (no-number v e) .1 in
     let run = number-run most s (at + length key) v e read in
     omega (arith, run .3, spelled t (run .0) .0, run-short t, length-drop (at + length key) s)
 

@@ -22,7 +22,8 @@ module _ (key s : List ℕ) (at : ℕ) (four : 4 ≤ length key) where
     where
       by : (x : Bool) → startsWith key (drop at s) ≡ x → x ≡ false
       by true e =
-          absurd (n (ap numberOf (ap (take 4) (starts-sound key (drop at s) e) ∙ take-append-le 4 key (drop (length key) (drop at s)) four)))
+          let rest = drop (length key) (drop at s) in
+          absurd (n (ap numberOf (ap (take 4) (starts-sound key (drop at s) e) ∙ take-append-le 4 key rest four)))
       by false e = refl
 
   -- the words are equal: the bytes behind them are left to compare
@@ -31,9 +32,9 @@ module _ (key s : List ℕ) (at : ℕ) (four : 4 ≤ length key) where
       startsWith (drop 4 key) (drop (at + 4) s) ≡ startsWith key (drop at s)
   word-agrees p q room e =
       let t = drop at s in
-      let one : length (take 4 t) ≡ 4 = length-take-le 4 t (omega (arith, length-drop at s)) in
+      let count = length-take-le 4 t (omega (arith, length-drop at s)) ∙ sym (length-take-le 4 key four) in
       let same : take 4 t ≡ take 4 key =
-      same-bytes (take 4 t) (take 4 key) (areBytes-take 4 t (areBytes-drop at s q)) (areBytes-take 4 key p) (one ∙ sym (length-take-le 4 key four)) e in
+      same-bytes (take 4 t) (take 4 key) (areBytes-take 4 t (areBytes-drop at s q)) (areBytes-take 4 key p) count e in
       let text : t ≡ take 4 key ++ drop (at + 4) s =
       sym (take-append-drop 4 t) ∙ ap₂ (λ (a b : List ℕ). a ++ b) same (drop-drop 4 at s) in
       sym (starts-behind (take 4 key) (drop 4 key) (drop (at + 4) s)) ∙ ap₂ startsWith (take-append-drop 4 key) (sym text)

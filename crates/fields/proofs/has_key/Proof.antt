@@ -49,7 +49,9 @@ returns-2 : tie.Need-returns-2 Inv-loop μ-loop
 returns-2 c =
     let w = c .before in
     let b = start (known w) in
-    sym (word-differs (b .args .key .now) (b .args .s .now) (b .args .at) (b .pre .1) (rw (w .before .get4 .ensures, w .get42 .ensures) at (c .if2 .taken)))
+    sym
+    (word-differs (b .args .key .now) (b .args .s .now) (b .args .at) (b .pre .1)
+    (rw (w .before .get4 .ensures, w .get42 .ensures) at (c .if2 .taken)))
 
 loop-holds : tie.Need-loop-holds Inv-loop μ-loop
 loop-holds c =

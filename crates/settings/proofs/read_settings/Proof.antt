@@ -58,7 +58,10 @@ unfolding settingsOf judged
 returns-3 c =
     let s = c .before .before in
     both (text-of s) _
-    (rw (sym (s .before .before .settings-at .ensures) ∙ s .s .given .1, ne-eqb (s .s .given .0 .1 .0) (length (text-of s)) (c .if2 .taken)))
+    (rw (
+      sym (s .before .before .settings-at .ensures) ∙ s .s .given .1,
+      ne-eqb (s .s .given .0 .1 .0) (length (text-of s)) (c .if2 .taken),
+    ))
 
 within-limits-requires : tie.Need-within-limits-requires
 within-limits-requires c κs = tt
