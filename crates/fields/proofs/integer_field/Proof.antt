@@ -31,7 +31,7 @@ add-read-integer c =
     omega (arith, starts-room (a .key .now) (drop (a .at) (a .s .now)) (stands c), length-drop (a .at) (a .s .now))
 
 read-integer-requires : tie.Need-read-integer-requires
-read-integer-requires c κs = tt
+read-integer-requires c κs = start (c .before) .pre .2
 
 returns : tie.Need-returns
 unfolding integerField

@@ -31,7 +31,7 @@ add-read-number c =
     omega (arith, starts-room (a .key .now) (drop (a .at) (a .s .now)) (stands c), length-drop (a .at) (a .s .now))
 
 read-number-requires : tie.Need-read-number-requires
-read-number-requires c κs = tt
+read-number-requires c κs = start (c .before) .pre .2
 
 returns : tie.Need-returns
 unfolding numberField
