@@ -29,7 +29,7 @@ const SMALL_STEPS_BACK: u32 = 4_286_578_688;
 // ---- places zeroed, one function for each type of element
 
 // Zeroes the places from `from` up to `to`.
-pub fn zero_u32(xs: &mut [u32], from: usize, to: usize)
+fn zero_u32(xs: &mut [u32], from: usize, to: usize)
     requires { ⌜ (from ≤ to) × (to ≤ length (now xs)) ⌝ }
     ensures { λ _. ⌜ now (xs .exit) ≡ sets (now (xs .entry)) from (replicate (to - from) 0) ⌝ }
 {
@@ -40,7 +40,7 @@ pub fn zero_u32(xs: &mut [u32], from: usize, to: usize)
     }
 }
 
-pub fn zero_i32(xs: &mut [i32], from: usize, to: usize)
+fn zero_i32(xs: &mut [i32], from: usize, to: usize)
     requires { ⌜ (from ≤ to) × (to ≤ length (now xs)) ⌝ }
     ensures { λ _. ⌜ now (xs .exit) ≡ sets (now (xs .entry)) from (replicate (to - from) (pos 0)) ⌝ }
 {
