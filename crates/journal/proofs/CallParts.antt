@@ -45,7 +45,7 @@ module _ {A : Type 0} where
   and-test true none t x = refl
   and-test false none t x = refl
 
--- the line that fields make
+-- the line that the fields' parts make, up to `end`
 abbrev pub lineOfParts : (now line kind id time meter : Number) (value : Integer) (end : ℕ) → CallAt
 lineOfParts now line kind id time meter value end =
     CallAt.Line
@@ -60,6 +60,7 @@ lineOfParts now line kind id time meter value end =
     })
     (end + 1)
 
+-- the tests b1 to b8 are those of the code, which makes them all
 pub call-parts :
     (s : List ℕ) (at : ℕ) {now line kind id time meter : Number} {value : Integer} {end : ℕ} {b1 b2 b3 b4 b5 b6 b7 b8 ok : Bool} →
     now ≡ numberField (first nowKey) (2 ^ 32 - 1) s at → line ≡ numberField (later lineKey) 255 s (endOf now) →
@@ -100,8 +101,8 @@ call-parts s at {now} {line} {kind} {id} {time} {meter} {value} {end} q1 q2 q3 q
       all,
     )
 
--- a value, and 0 in place of one, is within the field's width
 module _ (key s : List ℕ) (at : ℕ) where
+  -- a field's value, and 0 in place of one, is within its width
   pub number-value : (most : ℕ) → most < 2 ^ 64 → (n : Number) → n ≡ numberField key most s at → valueOf n ≤ most
   number-value most h (Number.Value v e) q = number-field-sound key s most at v h e (sym q) .1
   number-value most h Number.Malformed q = omega arith

@@ -45,31 +45,79 @@ text c = start c .args .s .now
 abbrev place : tie.After-number-field → ℕ
 place c = start c .args .at
 
-line-read : (c : tie.After-number-field2) → c .number-field2 .result ≡ numberField (later lineKey) 255 (text (now c)) (endOf (now c .number-field .result))
+line-read :
+    (c : tie.After-number-field2) →
+    c .number-field2 .result ≡ numberField (later lineKey) 255 (text (now c)) (endOf (now c .number-field .result))
 line-read c = rw (← c .before .before .end-of .ensures) (c .number-field2 .ensures)
 
-kind-read : (c : tie.After-letter-field) → c .letter-field .result ≡ letterField (later kindKey) (text (now (line c))) (endOf (line c .number-field2 .result))
+kind-read :
+    (c : tie.After-letter-field) →
+    c .letter-field .result ≡ letterField (later kindKey) (text (now (line c))) (endOf (line c .number-field2 .result))
 kind-read c = rw (← c .before .before .end-of2 .ensures) (c .letter-field .ensures)
 
-id-read : (c : tie.After-number-field3) → c .number-field3 .result ≡ numberField (later idKey) (2 ^ 32 - 1) (text (now (line (kind c)))) (endOf (kind c .letter-field .result))
+id-read :
+    (c : tie.After-number-field3) →
+    c .number-field3 .result ≡ numberField (later idKey) (2 ^ 32 - 1) (text (now (line (kind c)))) (endOf (kind c .letter-field .result))
 id-read c = rw (← c .before .before .end-of3 .ensures) (c .number-field3 .ensures)
 
-time-read : (c : tie.After-number-field4) → c .number-field4 .result ≡ numberField (later timeKey) (2 ^ 32 - 1) (text (now (line (kind (id c))))) (endOf (id c .number-field3 .result))
+time-read :
+    (c : tie.After-number-field4) →
+    c .number-field4 .result ≡ numberField (later timeKey) (2 ^ 32 - 1) (text (now (line (kind (id c))))) (endOf (id c .number-field3 .result))
 time-read c = rw (← c .before .before .end-of4 .ensures) (c .number-field4 .ensures)
 
-meter-read : (c : tie.After-number-field5) → c .number-field5 .result ≡ numberField (later meterKey) 255 (text (now (line (kind (id (time c)))))) (endOf (time c .number-field4 .result))
+meter-read :
+    (c : tie.After-number-field5) →
+    c .number-field5 .result ≡ numberField (later meterKey) 255 (text (now (line (kind (id (time c)))))) (endOf (time c .number-field4 .result))
 meter-read c = rw (← c .before .before .end-of5 .ensures) (c .number-field5 .ensures)
 
-value-read : (c : tie.After-integer-field) → c .integer-field .result ≡ integerField (later valueKey) (text (now (line (kind (id (time (meter c))))))) (endOf (meter c .number-field5 .result))
+value-read :
+    (c : tie.After-integer-field) →
+    c .integer-field .result ≡ integerField (later valueKey) (text (now (line (kind (id (time (meter c))))))) (endOf (meter c .number-field5 .result))
 value-read c = rw (← c .before .before .end-of6 .ensures) (c .integer-field .ensures)
 
--- from the last test to the place where the last field is read
-abbrev read : tie.After-ends-line → tie.After-integer-field
-read c = c .before .before .before .before .before .before .before .before .before
+-- what the readers of the fields ask for
+number-field-requires : tie.Need-number-field-requires
+number-field-requires c κs = tt
 
+number-field-requires-2 : tie.Need-number-field-requires-2
+number-field-requires-2 c κs = tt
+
+letter-field-requires : tie.Need-letter-field-requires
+letter-field-requires c κs = tt
+
+number-field-requires-3 : tie.Need-number-field-requires-3
+number-field-requires-3 c κs = tt
+
+number-field-requires-4 : tie.Need-number-field-requires-4
+number-field-requires-4 c κs = tt
+
+number-field-requires-5 : tie.Need-number-field-requires-5
+number-field-requires-5 c κs = tt
+
+integer-field-requires : tie.Need-integer-field-requires
+integer-field-requires c κs = tt
+
+-- from the last test back to the end of the last field and to that field, and from the last value back to the last test
+abbrev ended : tie.After-ends-line → tie.After-integer-end
+ended c = c .before .before .before .before .before .before .before .before
+
+abbrev read : tie.After-ends-line → tie.After-integer-field
+read c = ended c .before
+
+abbrev tested : tie.After-value-of6 → tie.Then1
+tested c = c .before .before .before .before .before .before .before
+
+-- the answer, by the code's tests
 told :
     (c : tie.After-ends-line) {ok : Bool} →
-    (c .before .before .before .before .before .before .before .is-value .result && c .before .before .before .before .before .before .is-value2 .result && c .before .before .before .before .before .is-value3 .result && c .before .before .before .before .is-value4 .result && c .before .before .before .is-value5 .result && c .before .before .is-value6 .result && c .before .is-integer .result && c .ends-line .result) ≡ ok →
+    (c .before .before .before .before .before .before .before .is-value .result &&
+    c .before .before .before .before .before .before .is-value2 .result &&
+    c .before .before .before .before .before .is-value3 .result &&
+    c .before .before .before .before .is-value4 .result &&
+    c .before .before .before .is-value5 .result &&
+    c .before .before .is-value6 .result &&
+    c .before .is-integer .result &&
+    c .ends-line .result) ≡ ok →
     let v = read c in
     let m = meter v in
     let t = time m in
@@ -79,7 +127,15 @@ told :
     let n = now l in
     callAt (text n) (place n) ≡
     cond ok
-    (lineOfParts (n .number-field .result) (l .number-field2 .result) (k .letter-field .result) (i .number-field3 .result) (t .number-field4 .result) (m .number-field5 .result) (v .integer-field .result) (c .before .before .before .before .before .before .before .before .integer-end .result))
+    (lineOfParts
+    (n .number-field .result)
+    (l .number-field2 .result)
+    (k .letter-field .result)
+    (i .number-field3 .result)
+    (t .number-field4 .result)
+    (m .number-field5 .result)
+    (v .integer-field .result)
+    (ended c .integer-end .result))
     CallAt.Malformed
 told c q =
     let v = read c in
@@ -89,8 +145,15 @@ told c q =
     let k = kind i in
     let l = line k in
     let n = now l in
-    call-parts (text n) (place n) (n .number-field .ensures) (line-read l) (kind-read k) (id-read i) (time-read t) (meter-read m) (value-read v)
-    (c .before .before .before .before .before .before .before .before .integer-end .ensures)
+    call-parts (text n) (place n)
+    (n .number-field .ensures)
+    (line-read l)
+    (kind-read k)
+    (id-read i)
+    (time-read t)
+    (meter-read m)
+    (value-read v)
+    (ended c .integer-end .ensures)
     (c .before .before .before .before .before .before .before .is-value .ensures)
     (c .before .before .before .before .before .before .is-value2 .ensures)
     (c .before .before .before .before .before .is-value3 .ensures)
@@ -113,21 +176,20 @@ cast-t56 c =
 
 cast-t58 : tie.Need-cast-t58
 cast-t58 c =
-    let m = meter (read (c .before .before .before .before .before .before .before .before)) in
+    let m = meter (read (tested c .before)) in
     omega (arith, c .value-of6 .ensures, number-value (later meterKey) (text (now (line (kind (id (time m)))))) _ 255 (omega arith) _ (meter-read m))
 
 add-t60 : tie.Need-add-t60
 add-t60 c =
-    let v = read (c .before .before .before .before .before .before .before .before) in
+    let e = tested c .before in
+    let v = read e in
     let n = now (line (kind (id (time (meter v))))) in
-    omega (arith, c .before .before .before .before .before .before .before .before .before .before .before .before .before .before .before .before .integer-end .ensures, integer-inside (later valueKey) (text n) _ (lit≤ tt) _ (value-read v), start n .good)
+    omega (arith, ended e .integer-end .ensures, integer-inside (later valueKey) (text n) _ (lit≤ tt) _ (value-read v), start n .good)
 
 returns : tie.Need-returns
 returns c =
     let value = c .before .before .before .integer-value in
-    let t = c .before .before .before .before .before .before .before in
     rw (
-      told (t .before) (t .if1 .taken),
       c .value-of6 .ensures,
       c .before .value-of5 .ensures,
       c .before .before .value-of4 .ensures,
@@ -137,34 +199,36 @@ returns c =
       c .before .before .before .before .before .value-of2 .ensures,
       c .before .before .before .before .before .before .value-of .ensures,
     )
+    (sym (told (tested c .before) (tested c .if1 .taken)))
 
 returns-2 : tie.Need-returns-2
 returns-2 c = sym (told (c .before) (c .if1 .left))
 
+-- besides, a key is its bytes, and the parts of a number ask for nothing
 pub call-at-spec : {M : Type 1} → statement M
 call-at-spec =
     tie.close
     (tie.spec
     (λ c. refl)
-    (λ c κs. tt)
-    (λ c κs. tt)
-    (λ c. refl)
-    (λ c κs. tt)
+    number-field-requires
     (λ c κs. tt)
     (λ c. refl)
-    (λ c κs. tt)
-    (λ c κs. tt)
-    (λ c. refl)
-    (λ c κs. tt)
+    number-field-requires-2
     (λ c κs. tt)
     (λ c. refl)
-    (λ c κs. tt)
-    (λ c κs. tt)
-    (λ c. refl)
-    (λ c κs. tt)
+    letter-field-requires
     (λ c κs. tt)
     (λ c. refl)
+    number-field-requires-3
     (λ c κs. tt)
+    (λ c. refl)
+    number-field-requires-4
+    (λ c κs. tt)
+    (λ c. refl)
+    number-field-requires-5
+    (λ c κs. tt)
+    (λ c. refl)
+    integer-field-requires
     (λ c κs. tt)
     (λ c κs. tt)
     (λ c κs. tt)
