@@ -1,20 +1,18 @@
 -- A journal line with its tests made all together: each field is read behind the one before it, and a call is there where all are.
 use mathlib.Core.Path.{_≡_, refl, sym, ap}
 use mathlib.Core.Bool.{Bool, true, false, cond, _&&_}
-use mathlib.Core.List.{List, _++_}
+use mathlib.Core.List.{List, [], _∷_}
 use Prim.Native.Nat.{ℕ, _+_, _-_, _<_, _≤_, _^_}
 use native.Mathlib.Omega.{arith}
 use lib.IntN.{ℤ}
 use lib.ListN.{length, length-append, length-drop}
-use Rattle.decimal.specs.Decimal.{decimal}
 use Rattle.decimal.specs.declared.Number.{Number}
 use Rattle.decimal.specs.declared.Number.the-variants as Number
 use Rattle.decimal.specs.declared.Integer.{Integer}
 use Rattle.decimal.specs.declared.Integer.the-variants as Integer
 use Rattle.fields.specs.Keys.{nowKey, lineKey, kindKey, idKey, timeKey, meterKey, valueKey}
 use Rattle.fields.specs.Field.{first, later, endsLine, numberField, integerField, withNumber, withInteger}
-use Rattle.fields.proofs.Spells.{Spells}
-use Rattle.fields.proofs.Fields.{number-field-sound, integer-field-sound}
+use Rattle.fields.proofs.Fields.{number-field-sound, number-field-within, integer-field-within}
 use Rattle.journal.specs.NumberParts.{isValue, valueOf, endOf, isInteger, integerValue, integerEnd}
 use Rattle.journal.specs.ReadLine.{letterField, callAt}
 use Rattle.journal.specs.declared.CallAt.{CallAt}
@@ -112,10 +110,16 @@ module _ (key s : List ℕ) (at : ℕ) where
   letter-value Number.Malformed q = omega arith
 
   -- the place behind a field, and 0 in place of it, lies in the text
-  field-inside : (t : List ℕ) (e : ℕ) → 0 < length key → Spells s at (key ++ t) e → e ≤ length s
-  field-inside t e some p =
-      omega (arith, p .end, length-append key t, simp (length-append, length-drop) at (ap length (p .text)))
+  pub number-inside : (most : ℕ) (n : Number) → n ≡ numberField key most s at → endOf n ≤ length s
+  number-inside most (Number.Value v e) q = number-field-within key most s at v e (sym q)
+  number-inside most Number.Malformed q = omega arith
 
-  pub integer-inside : 0 < length key → (n : Integer) → n ≡ integerField key s at → integerEnd n ≤ length s
-  integer-inside some (Integer.Value v e) q = field-inside (decimal v) e some (integer-field-sound key s at v e (sym q) .0)
-  integer-inside some Integer.Malformed q = omega arith
+  pub letter-inside : 4 ≤ length key → (n : Number) → n ≡ letterField key s at → endOf n ≤ length s
+  letter-inside some (Number.Value v e) q =
+      let p = letter-field-sound key s at v e (sym q) .0 in
+      omega (arith, p .end, length-append key (v ∷ []), simp (length-append, length-drop) at (ap length (p .text)))
+  letter-inside some Number.Malformed q = omega arith
+
+  pub integer-inside : (n : Integer) → n ≡ integerField key s at → integerEnd n ≤ length s
+  integer-inside (Integer.Value v e) q = integer-field-within key s at v e (sym q)
+  integer-inside Integer.Malformed q = omega arith

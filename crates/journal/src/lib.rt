@@ -1,5 +1,8 @@
 // The journal line: one call, and the reader of its text.
 ghost use mathlib.Core.Path.{_≡_};
+ghost use Prim.Native.Nat.{_≤_};
+ghost use lib.ListN.{length};
+ghost use Rattle.decimal.specs.Spelled.{Ended};
 ghost use Rattle.journal.specs.Kinds.{isLetter};
 ghost use Rattle.journal.specs.JournalLine.{hasForm, ExactCall};
 ghost use Rattle.journal.specs.ReadLine.{letterAt, letterField, callAt, callOf};
@@ -76,6 +79,7 @@ fn letter_at(s: &[u8], at: usize) -> Number
 
 // The letter of the field that the text has from `at` on.
 fn letter_field(s: &[u8], at: usize, key: &[u8]) -> Number
+    requires { ⌜ (at ≤ length (now s)) × (4 ≤ length (now key)) ⌝ }
     ensures { λ r. ⌜ r ≡ letterField (now (key .entry)) (now (s .entry)) at ⌝ }
 {
     if fields::has_key(s, at, key) {
@@ -146,6 +150,7 @@ fn integer_end(n: Integer) -> usize
 // The journal line that the text has from `at` on. All fields are read, each from the end of the one before or, behind one that is
 // malformed, from the first place, and told to be right together: a way out behind each would make the rest look rare to the compiler.
 fn call_at(s: &[u8], at: usize) -> CallAt
+    requires { ⌜ (at ≤ length (now s)) × Ended (now s) ⌝ }
     ensures { λ r. ⌜ r ≡ callAt (now (s .entry)) at ⌝ }
 {
     let now = fields::number_field(s, at, b"now=", WORD);
@@ -186,6 +191,9 @@ pub fn read_call(text: &[u8]) -> CallRead
     ensures { λ r. ⌜ r ≡ callOf (now (text .entry)) ⌝ }
     ensures { λ r. ⌜ ExactCall (now (text .entry)) r ⌝ }
 {
+    if !fields::is_line(text) {
+        return CallRead::Malformed;
+    }
     let CallAt::Line(c, end) = call_at(text, 0) else {
         return CallRead::Malformed;
     };

@@ -12,7 +12,7 @@ use Rattle.fields.specs.Keys.{nowKey, lineKey, kindKey, idKey, timeKey, meterKe
 use Rattle.journal.specs.NumberParts.{endOf}
 use Rattle.journal.specs.ReadLine.{letterField, callAt}
 use Rattle.journal.specs.declared.CallAt.the-variants as CallAt
-use Rattle.journal.proofs.CallParts.{lineOfParts, call-parts, number-value, letter-value, integer-inside}
+use Rattle.journal.proofs.CallParts.{lineOfParts, call-parts, number-value, letter-value, number-inside, letter-inside, integer-inside}
 use Rattle.journal.proofs.call_at.Statement.{statement}
 use Rattle.journal.proofs.call_at.Tie as tie
 
@@ -75,27 +75,51 @@ value-read :
     c .integer-field .result ≡ integerField (later valueKey) (text (now (line (kind (id (time (meter c))))))) (endOf (meter c .number-field5 .result))
 value-read c = rw (← c .before .before .end-of6 .ensures) (c .integer-field .ensures)
 
--- what the readers of the fields ask for
+-- what the readers of the fields ask for: a place in the text, a key of four bytes or more, and the text's end
 number-field-requires : tie.Need-number-field-requires
-number-field-requires c κs = tt
+number-field-requires c κs =
+    let b = c .before .before in
+    (b .pre .0, lit≤ tt, b .pre .1)
 
 number-field-requires-2 : tie.Need-number-field-requires-2
-number-field-requires-2 c κs = tt
+number-field-requires-2 c κs =
+    let n = c .before .before in (
+      omega (arith, c .before .end-of .ensures, number-inside (first nowKey) (text n) (place n) _ _ (n .number-field .ensures)),
+      lit≤ tt,
+      start n .pre .1,
+    )
 
 letter-field-requires : tie.Need-letter-field-requires
-letter-field-requires c κs = tt
+letter-field-requires c κs =
+    let l = c .before .before in
+    (omega (arith, c .before .end-of2 .ensures, number-inside (later lineKey) (text (now l)) _ _ _ (line-read l)), lit≤ tt)
 
 number-field-requires-3 : tie.Need-number-field-requires-3
-number-field-requires-3 c κs = tt
+number-field-requires-3 c κs =
+    let k = c .before .before in
+    let n = now (line k) in (
+      omega (arith, c .before .end-of3 .ensures, letter-inside (later kindKey) (text n) _ (lit≤ tt) _ (kind-read k)),
+      lit≤ tt,
+      start n .pre .1,
+    )
 
 number-field-requires-4 : tie.Need-number-field-requires-4
-number-field-requires-4 c κs = tt
+number-field-requires-4 c κs =
+    let i = c .before .before in
+    let n = now (line (kind i)) in
+    (omega (arith, c .before .end-of4 .ensures, number-inside (later idKey) (text n) _ _ _ (id-read i)), lit≤ tt, start n .pre .1)
 
 number-field-requires-5 : tie.Need-number-field-requires-5
-number-field-requires-5 c κs = tt
+number-field-requires-5 c κs =
+    let t = c .before .before in
+    let n = now (line (kind (id t))) in
+    (omega (arith, c .before .end-of5 .ensures, number-inside (later timeKey) (text n) _ _ _ (time-read t)), lit≤ tt, start n .pre .1)
 
 integer-field-requires : tie.Need-integer-field-requires
-integer-field-requires c κs = tt
+integer-field-requires c κs =
+    let m = c .before .before in
+    let n = now (line (kind (id (time m)))) in
+    (omega (arith, c .before .end-of6 .ensures, number-inside (later meterKey) (text n) _ _ _ (meter-read m)), lit≤ tt, start n .pre .1)
 
 -- from the last test back to the end of the last field and to that field, and from the last value back to the last test
 abbrev ended : tie.After-ends-line → tie.After-integer-end
@@ -184,7 +208,7 @@ add-t60 c =
     let e = tested c .before in
     let v = read e in
     let n = now (line (kind (id (time (meter v))))) in
-    omega (arith, ended e .integer-end .ensures, integer-inside (later valueKey) (text n) _ (lit≤ tt) _ (value-read v), start n .good)
+    omega (arith, ended e .integer-end .ensures, integer-inside (later valueKey) (text n) _ _ (value-read v), start n .good)
 
 returns : tie.Need-returns
 returns c =

@@ -10,7 +10,9 @@ use Rattle.journal.proofs.letter_field.Statement.{statement}
 use Rattle.journal.proofs.letter_field.Tie as tie
 
 has-key-requires : tie.Need-has-key-requires
-has-key-requires c κs = tt
+has-key-requires c κs =
+    let start = c .before .before in
+    (start .pre .0, start .pre .1)
 
 add-letter-at : tie.Need-add-letter-at
 add-letter-at c =
