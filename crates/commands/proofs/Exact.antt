@@ -2,13 +2,15 @@
 -- is the line of two commands.
 use mathlib.Core.Path.{_≡_, refl, sym, ap, _∙_}
 use mathlib.Core.Logic.{_↔_}
+use mathlib.Core.Bool.{true, false, true≢false}
 use mathlib.Core.List.{List, _++_}
-use Prim.Native.Nat.{ℕ}
+use Prim.Native.Nat.{ℕ, _-_}
 use native.Mathlib.Omega.{arith}
-use lib.ListN.{getD}
+use lib.ListN.{length, getD}
 use Rattle.fields.specs.Keys.{displayKey}
 use Rattle.fields.specs.Line.{lineOf}
-use Rattle.fields.specs.Field.{later}
+use Rattle.fields.specs.Field.{later, endsLine}
+use Rattle.fields.proofs.Fields.{line-ends}
 use Rattle.commands.specs.CommandLine.{ackWord, fetchWord, displayText, acknowledgeText, fetchText, IsLine, ExactCommand}
 use Rattle.commands.specs.ReadLine.{displayLineOf, orElse, commandOf}
 use Rattle.commands.specs.declared.Command.{Command}
@@ -64,3 +66,20 @@ module _ (text : List ℕ) where
 
   pub exact-command : ExactCommand text (commandOf text)
   exact-command = record { acknowledge = acknowledge-exact; fetch = fetch-exact }
+
+-- a text that does not end with 0A is no command's line
+module _ (text : List ℕ) (n : endsLine text (length text - 1) ≡ false) where
+  no-text : (word : List ℕ) (display id : ℕ) → text ≡ displayText word display id → ⊥
+  unfolding displayText
+  no-text word display id p =
+      let ends : endsLine text (length text - 1) ≡ true = rw p (line-ends _) in
+      true≢false (sym ends ∙ n)
+
+  only-none : (answer : Command) → ExactCommand text answer → answer ≡ Command.None
+  unfolding acknowledgeText fetchText
+  only-none (Command.Acknowledge d i) exact = absurd (no-text ackWord d i (exact .acknowledge d i .0 refl .2))
+  only-none (Command.Fetch d i) exact = absurd (no-text fetchWord d i (exact .fetch d i .0 refl .2))
+  only-none Command.None exact = refl
+
+  pub not-line : commandOf text ≡ Command.None
+  not-line = only-none (commandOf text) (exact-command text)

@@ -1,5 +1,8 @@
 // The lines of the calls that a display makes.
 ghost use mathlib.Core.Path.{_≡_};
+ghost use Prim.Native.Nat.{_≤_};
+ghost use lib.ListN.{length};
+ghost use Rattle.decimal.specs.Spelled.{Ended};
 ghost use Rattle.commands.specs.CommandLine.{ExactCommand};
 ghost use Rattle.commands.specs.ReadLine.{displayLineOf, commandOf};
 use decimal::Number;
@@ -25,6 +28,7 @@ enum DisplayLine {
 
 // The line that the whole text is, with `start` up to the display's number.
 fn display_line(text: &[u8], start: &[u8]) -> DisplayLine
+    requires { ⌜ (4 ≤ length (now start)) × Ended (now text) ⌝ }
     ensures { λ r. ⌜ r ≡ displayLineOf (now (start .entry)) (now (text .entry)) ⌝ }
 {
     let Number::Value(display, e1) = fields::number_field(text, 0, start, WORD) else {
@@ -46,6 +50,9 @@ pub fn read_command(text: &[u8]) -> Command
     ensures { λ r. ⌜ r ≡ commandOf (now (text .entry)) ⌝ }
     ensures { λ r. ⌜ ExactCommand (now (text .entry)) r ⌝ }
 {
+    if !fields::is_line(text) {
+        return Command::None;
+    }
     if let DisplayLine::Fields(display, id) = display_line(text, b"ack display=") {
         return Command::Acknowledge(display, id);
     }

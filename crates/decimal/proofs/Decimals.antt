@@ -29,6 +29,9 @@ natAbs-mag : (z : ℤ) → natAbs z ≤ suc (mag z)
 natAbs-mag (pos n) = omega arith
 natAbs-mag (negsuc n) = omega arith
 
+pub natAbs64-below : (z : ℤ) → SFits w64 z → natAbs z < 10 ^ 19
+natAbs64-below z f = omega (arith, natAbs-mag z, f .sfits)
+
 -- a magnitude of k digits at most, and a minus
 pub decimal-short : (k : ℕ) (z : ℤ) → 0 < k → k ≤ 20 → natAbs z < 10 ^ k → length (decimal z) ≤ suc k
 unfolding decimal
@@ -40,7 +43,7 @@ pub decimal32-short : (z : ℤ) → SFits w32 z → length (decimal z) ≤ 11
 decimal32-short z f = decimal-short 10 z (omega arith) (omega arith) (omega (arith, natAbs-mag z, f .sfits))
 
 pub decimal64-short : (z : ℤ) → SFits w64 z → length (decimal z) ≤ 20
-decimal64-short z f = decimal-short 19 z (omega arith) (omega arith) (omega (arith, natAbs-mag z, f .sfits))
+decimal64-short z f = decimal-short 19 z (omega arith) (omega arith) (natAbs64-below z f)
 
 -- a number of 32 bits has at most ten digits, one of 8 bits at most three
 pub unsigned32-short : (n : ℕ) → n < 2 ^ 32 → length (decimal (pos n)) ≤ 10

@@ -6,7 +6,7 @@ use mathlib.Core.Bool.{Bool, true, false}
 use mathlib.Core.List.{List, [], _∷_, _++_}
 use Prim.Native.Nat.{ℕ, zero, suc, _+_, _*_, _/_, _%_, _<_, _≤_, _^_}
 use native.Mathlib.Omega.{arith}
-use native.Mathlib.Nat.{pow-suc, div-lt-iff-lt-mul}
+use native.Mathlib.Nat.{pow-suc, one-le-pow, div-lt-iff-lt-mul, le-div-iff-mul-le}
 use lib.Dec.{ltb}
 use lib.ListN.{length, length-append}
 use borrow.Author.Tests.{lt-ltb, le-ltb, ltb-true, ltb-false}
@@ -70,6 +70,13 @@ length-snoc s b = length-append s (b ∷ [])
 pub length-more : (n : ℕ) → 10 ≤ n → n < 10 ^ 20 → length (digits n) ≡ length (digits (n / 10)) + 1
 length-more n g h = rw (digits-more n g h, length-snoc)
 
+-- two digits at once
+pub hundredth : (n : ℕ) → n / 100 ≡ n / 10 / 10
+hundredth n = omega arith
+
+pub length-pair : (n : ℕ) → 100 ≤ n → n < 10 ^ 20 → length (digits n) ≡ length (digits (n / 100)) + 2
+length-pair n g h = rw (hundredth n) (omega (arith, length-more n (omega arith) h, length-more (n / 10) (omega arith) (omega arith)))
+
 within-short : (most k n : ℕ) → n < 10 ^ suc k → length (digitsWithin most n) ≤ suc k
 unfolding digitsWithin
 within-short zero k n h = omega arith
@@ -95,3 +102,12 @@ digits-some n =
     (λ l. rw (within-one 19 n l) (omega arith))
     (λ g. rw (within-more 19 n g, length-snoc) (omega arith))
     (one-or-more n)
+
+-- a number of at least 10^k has more than k
+pub digits-long : (k n : ℕ) → 10 ^ k ≤ n → n < 10 ^ 20 → k < length (digits n)
+digits-long zero n g h = digits-some n
+digits-long (suc k) n g h =
+    let q : 10 ^ k * 10 ≤ n = rw (pow-suc 10 k) at g in
+    let p : 1 ≤ 10 ^ k = one-le-pow k 10 (omega arith) in
+    let t : 10 ^ k ≤ n / 10 = le-div-iff-mul-le {k = 10} {x = 10 ^ k} {y = n} (omega arith) .1 q in
+    omega (arith, length-more n (omega arith) h, digits-long k (n / 10) t (omega arith))

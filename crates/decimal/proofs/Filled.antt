@@ -8,7 +8,7 @@ use lib.Seq.{sets, set-comm}
 use Rattle.area.specs.Laid.{laid}
 use Rattle.area.proofs.Laid.{laid-laid, laid-one}
 use Rattle.decimal.specs.Decimal.{digits}
-use Rattle.decimal.proofs.Digits.{digits-one, digits-more, length-more}
+use Rattle.decimal.proofs.Digits.{digits-one, digits-more, length-more, hundredth, length-pair}
 
 sets-set : (a l : List ℕ) (i j x : ℕ) → i + length a ≤ j → sets (set l j x) i a ≡ set (sets l i a) j x
 sets-set [] l i j x h = refl
@@ -29,6 +29,20 @@ pub fill-digit :
 fill-digit l at i n g h e =
     laid-behind l at (i - 1) (48 + n % 10) (digits (n / 10)) (omega (arith, length-more n g h))
     ∙ ap (laid l at) (sym (digits-more n g h))
+
+-- the last two digits, laid before the others
+pub fill-pair :
+    (l : List ℕ) (at i n : ℕ) {x y : ℕ} → 100 ≤ n → n < 10 ^ 20 → i ≡ at + length (digits n) →
+    x ≡ 48 + n / 10 % 10 → y ≡ 48 + n % 10 → laid (set (set l (i - 2) x) (i - 2 + 1) y) at (digits (n / 100)) ≡ laid l at (digits n)
+fill-pair l at i n g h e first last =
+    let long = length-pair n g h in
+    let before : i - 2 ≡ i - 1 - 1 = omega arith in
+    let behind : i - 1 - 1 + 1 ≡ i - 1 = omega arith in
+    rw (before, behind, first, last, hundredth n)
+    (ap (λ (m : List ℕ). laid m at (digits (n / 10 / 10))) (set-comm l (i - 1 - 1) (i - 1) _ _ (λ same. absurd (omega arith)))
+    ∙ fill-digit (set l (i - 1) (48 + n % 10)) at (i - 1) (n / 10) (omega arith) (omega arith)
+    (omega (arith, length-more n (omega arith) h))
+    ∙ fill-digit l at i n (omega arith) h e)
 
 -- the one digit left
 pub fill-first : (l : List ℕ) (at n : ℕ) → n < 10 → set l at (48 + n) ≡ laid l at (digits n)

@@ -1,17 +1,18 @@
 -- Laws on the signed number that a text spells from a place on, from those on its magnitude.
 use mathlib.Core.Path.{_≡_, refl, sym, ap, _∙_}
-use mathlib.Core.Bool.{Bool, true, false}
+use mathlib.Core.Bool.{Bool, true, false, cond}
 use mathlib.Core.List.{List, _++_}
-use Prim.Native.Nat.{ℕ, zero, suc, _+_, _-_, _≤_, _^_}
+use Prim.Native.Nat.{ℕ, zero, suc, _+_, _-_, _<_, _≤_, _^_}
+use native.Mathlib.Nat.{add-zero}
 use native.Mathlib.Numerals.{add-one}
 use native.Mathlib.Omega.{arith}
-use borrow.Author.Tests.{eq-eqb, ne-eqb, eqb-true, eqb-false}
-use lib.Dec.{eqb}
+use borrow.Author.Tests.{eq-eqb, ne-eqb, eqb-true, eqb-false, ltb-true, ltb-false}
+use lib.Dec.{ltb, eqb}
 use lib.IntN.{ℤ, pos, negsuc}
-use lib.ListN.{length, getD, drop}
+use lib.ListN.{length, getD, drop, List·getD-eq-default}
 use lib.Seq.{drop-cons, drop-drop, drop-append-seam}
 use mir.Syntax.{w32}
-use mir.Val.{SFits}
+use mir.Val.{SFits, boolByte}
 use Rattle.decimal.specs.Decimal.{digits, decimal}
 use Rattle.decimal.specs.Spelled.{NoDigit, numberAt, negated, asInteger, integerAt}
 use Rattle.decimal.specs.declared.Number.{Number}
@@ -28,6 +29,41 @@ integer-minus s at e = rw (eq-eqb (getD (drop at s) 0 0) 45 (head-drop at s ∙ 
 pub integer-asInteger : (s : List ℕ) (at : ℕ) → (getD s at 0 ≡ 45 → ⊥) → integerAt s at ≡ asInteger (numberAt (2 ^ 31 - 1) s at)
 unfolding integerAt
 integer-asInteger s at n = rw (ne-eqb (getD (drop at s) 0 0) 45 (λ e. n (sym (head-drop at s) ∙ e)))
+
+-- ---- one reading for both signs: where it begins and the most that it may be go by whether a minus stands at the place
+
+pub integer-read :
+    (s : List ℕ) (at : ℕ) (minus : Bool) (n : Number) {most from : ℕ} → minus ≡ eqb (getD s at 0) 45 → n ≡ numberAt most s from →
+    most ≡ 2147483647 + boolByte minus → from ≡ at + boolByte minus → cond minus (negated n) (asInteger n) ≡ integerAt s at
+integer-read s at true n e q m f = ap negated (rw (m, f) at q) ∙ sym (integer-minus s at (eqb-true (getD s at 0) 45 (sym e)))
+integer-read s at false n e q m f =
+    ap asInteger (rw (m, f ∙ add-zero at) at q) ∙ sym (integer-asInteger s at (eqb-false (getD s at 0) 45 (sym e)))
+
+pub malformed-either : (minus : Bool) → Integer.Malformed ≡ cond minus (negated Number.Malformed) (asInteger Number.Malformed)
+unfolding negated asInteger
+malformed-either true = refl
+malformed-either false = refl
+
+pub most-either : (minus : Bool) (m : ℕ) → m ≤ 2147483647 + boolByte minus → m ≤ cond minus (2 ^ 31) (2 ^ 31 - 1)
+most-either true m h = omega arith
+most-either false m h = omega arith
+
+pub byte-of-bool : (b : Bool) → boolByte b ≤ 1
+byte-of-bool true = omega arith
+byte-of-bool false = omega arith
+
+-- a minus stands inside the text
+minus-inside : (s : List ℕ) (at : ℕ) → getD s at 0 ≡ 45 → at < length s
+minus-inside s at e = by (ltb at (length s)) refl
+  where
+    by : (x : Bool) → ltb at (length s) ≡ x → at < length s
+    by true q = ltb-true at (length s) q
+    by false q = absurd (omega (arith, List·getD-eq-default s 0 (ltb-false at (length s) q)))
+
+pub behind-minus :
+    (s : List ℕ) (at top : ℕ) (minus : Bool) → minus ≡ eqb (getD s at 0) 45 → at < top → length s < top → at + boolByte minus < top
+behind-minus s at top true e h l = omega (arith, minus-inside s at (eqb-true (getD s at 0) 45 (sym e)))
+behind-minus s at top false e h l = omega arith
 
 -- ---- soundness
 
@@ -77,6 +113,9 @@ integer-sound s at z e q = by (eqb (getD s at 0) 45) refl
     by false b =
         let n = asInteger-value (numberAt (2 ^ 31 - 1) s at) z e (sym (integer-asInteger s at (eqb-false (getD s at 0) 45 b)) ∙ q) in
         rw (n .2) (asInteger-sound s at (n .0) e (n .1))
+
+pub integer-end : (s : List ℕ) (at : ℕ) (z : ℤ) (e : ℕ) → integerAt s at ≡ Integer.Value z e → e ≤ length s
+integer-end s at z e q = integer-sound s at z e q .3
 
 -- ---- completeness
 

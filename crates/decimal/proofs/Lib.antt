@@ -4,8 +4,7 @@ pub mod Decimals
 pub mod Filled
 pub mod Runs
 pub mod Scanned
-pub mod ShortRuns
 pub mod Numbers
-pub mod ShortNumbers
+pub mod FirstDigits
 pub mod NumberText
 pub mod Integers

@@ -7,14 +7,14 @@ use mathlib.Core.List.{List, [], _∷_, _++_, append-nil}
 use Prim.Native.Nat.{ℕ, zero, suc, _+_, _-_, _*_, _/_, _%_, _<_, _≤_, _^_}
 use native.Mathlib.Nat.{pow-suc}
 use native.Mathlib.Omega.{arith}
-use lib.ListN.{length, getD, drop, take, take-append-drop, length-drop}
+use lib.ListN.{length, getD, drop, take, take-append-drop}
 use lib.Seq.{append-snoc, drop-drop, drop-append-seam, length-take-le}
 use Rattle.decimal.specs.Decimal.{digitsWithin, digits}
 use Rattle.decimal.specs.Spelled.{isDigit, NoDigit, runLength, runValue, misspelled, numberAt}
 use Rattle.decimal.specs.declared.Number.the-variants as Number
 use Rattle.decimal.proofs.Digits.{one-or-more, within-one, within-more, tenth-below, digits-one, digits-behind, digits-some, length-snoc}
 use Rattle.decimal.proofs.Runs.{is-digit, digit-range, no-run, no-value, run-begins, run-digit, value-digit, run-short, value-grows}
-use Rattle.decimal.proofs.Numbers.{well-spelled, spelled, number-value, number-run}
+use Rattle.decimal.proofs.Numbers.{well-spelled, spelled, number-value, number-run, number-end}
 
 -- ---- soundness
 
@@ -66,7 +66,7 @@ number-sound most s at v e l q =
       sym (take-append-drop (runLength t) t) ∙ rw (d, f),
       omega arith,
       omega arith,
-      omega (arith, spelled t (r .0) .0, run-short t, length-drop at s),
+      number-end most s at v e q,
     )
 
 -- ---- completeness

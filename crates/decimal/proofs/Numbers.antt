@@ -5,12 +5,13 @@ use mathlib.Core.List.{List}
 use Prim.Native.Nat.{ℕ, _+_, _<_, _≤_}
 use native.Mathlib.Omega.{arith}
 use lib.Dec.{ltb, eqb}
-use lib.ListN.{getD, drop}
+use lib.ListN.{length, getD, drop, length-drop}
 use borrow.Author.Tests.{eq-eqb, ne-eqb, lt-ltb, le-ltb, eqb-true, eqb-false, ltb-false}
 use Rattle.decimal.specs.Spelled.{runLength, runValue, misspelled, numberAt, widened}
 use Rattle.decimal.specs.declared.Number.{Number}
 use Rattle.decimal.specs.declared.Number.the-variants as Number
 use Rattle.decimal.specs.declared.WideNumber.the-variants as WideNumber
+use Rattle.decimal.proofs.Runs.{run-short}
 
 either-false : (x y : Bool) → (x || y) ≡ false → (x ≡ false) × (y ≡ false)
 either-false true y e = let z : _≡_ {A = ℕ} 0 1 = cc in absurd (omega arith)
@@ -72,6 +73,12 @@ module _ (most : ℕ) (s : List ℕ) (at : ℕ) where
 
   pub number-most : (v e : ℕ) → numberAt most s at ≡ Number.Value v e → v ≤ most
   number-most v e q = let r = number-run v e q in omega arith
+
+  pub number-end : (v e : ℕ) → numberAt most s at ≡ Number.Value v e → e ≤ length s
+  number-end v e q =
+      let r = number-run v e q in
+      let t = drop at s in
+      omega (arith, spelled t (r .0) .0, run-short t, length-drop at s)
 
 -- what was read where 64 bits are read
 pub widened-value : (n : Number) (v e : ℕ) → widened n ≡ WideNumber.Value v e → n ≡ Number.Value v e

@@ -13,18 +13,17 @@ use Rattle.decimal.specs.Spelled.{isDigit, NoDigit, runLength, runValue,
 use Rattle.decimal.specs.declared.Run.the-variants as Run
 use Rattle.decimal.proofs.Runs.{below-digits, head-drop, no-run, no-value, run-digit, value-digit, value-grows}
 
-unfoldable pub Scanned : List ℕ → ℕ → ℕ → ℕ → ℕ → Type 0
-Scanned s first at i v =
-    (i + runLength (drop i s) ≡ at + runLength (drop at s)) × (runValue v (drop i s) ≡ runValue first (drop at s))
+unfoldable pub Scanned : List ℕ → ℕ → ℕ → ℕ → Type 0
+Scanned s at i v = (i + runLength (drop i s) ≡ at + runLength (drop at s)) × (runValue v (drop i s) ≡ runValue 0 (drop at s))
 
-pub scanned-none : (s : List ℕ) (first at : ℕ) → Scanned s first at at first
+pub scanned-none : (s : List ℕ) (at : ℕ) → Scanned s at at 0
 unfolding Scanned
-scanned-none s first at = (refl, refl)
+scanned-none s at = (refl, refl)
 
-module _ (s : List ℕ) (first at i v : ℕ) (so : Scanned s first at i v) where
+module _ (s : List ℕ) (at i v : ℕ) (so : Scanned s at i v) where
   -- a digit taken in
   pub scanned-digit :
-      (next : ℕ) → i < length s → isDigit (getD s i 0) ≡ true → next ≡ v * 10 + (getD s i 0 - 48) → Scanned s first at (suc i) next
+      (next : ℕ) → i < length s → isDigit (getD s i 0) ≡ true → next ≡ v * 10 + (getD s i 0 - 48) → Scanned s at (suc i) next
   unfolding Scanned
   scanned-digit next h e q =
       let b = getD s i 0 in
@@ -34,28 +33,27 @@ module _ (s : List ℕ) (first at i v : ℕ) (so : Scanned s first at i v) where
       (omega (arith, so .0, ap runLength d ∙ run-digit b t e), sym r ∙ so .1)
 
   -- the value so far is not above that of the run
-  pub scanned-most : v ≤ runValue first (drop at s)
+  pub scanned-most : v ≤ runValue 0 (drop at s)
   unfolding Scanned
   scanned-most = omega (arith, so .1, value-grows v (drop i s))
 
   -- the run's end: another byte, or the end of the text
-  pub scanned-run : isDigit (getD s i 0) ≡ false → (v ≡ runValue first (drop at s)) × (i ≡ at + runLength (drop at s))
+  pub scanned-run : isDigit (getD s i 0) ≡ false → (v ≡ runValue 0 (drop at s)) × (i ≡ at + runLength (drop at s))
   unfolding Scanned
   scanned-run e =
       let n : NoDigit (drop i s) = rw head-drop e in
       (sym (no-value v (drop i s) n) ∙ so .1, omega (arith, so .0, no-run (drop i s) n))
 
-module _ (s : List ℕ) (at i v : ℕ) (so : Scanned s 0 at i v) where
   pub scanned-all : isDigit (getD s i 0) ≡ false → v < 2 ^ 64 → Run.Digits v i ≡ runAt s at
   unfolding runAt
   scanned-all e h =
-      let r = scanned-run s 0 at i v so e in
+      let r = scanned-run e in
       rw (← r .0, ← r .1, lt-ltb v (2 ^ 64) h)
 
   -- a value past 64 bits
   pub scanned-past : 2 ^ 64 ≤ v → Run.Past ≡ runAt s at
   unfolding runAt
-  scanned-past l = rw (le-ltb (runValue 0 (drop at s)) (2 ^ 64) (omega (arith, scanned-most s 0 at i v so)))
+  scanned-past l = rw (le-ltb (runValue 0 (drop at s)) (2 ^ 64) (omega (arith, scanned-most)))
 
 pub no-digit-past : (s : List ℕ) (i : ℕ) → length s ≤ i → isDigit (getD s i 0) ≡ false
 no-digit-past s i h = rw (List·getD-eq-default s 0 h) (below-digits 0 (omega arith))

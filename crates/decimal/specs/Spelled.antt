@@ -6,7 +6,7 @@ use mathlib.Core.Bool.{Bool, false, cond, _&&_, _||_}
 use mathlib.Core.List.{List, [], _∷_}
 use lib.Dec.{ltb, leb, eqb}
 use lib.IntN.{pos, negℤ}
-use lib.ListN.{getD, drop}
+use lib.ListN.{length, getD, drop}
 use Rattle.decimal.specs.declared.Number.{Number}
 use Rattle.decimal.specs.declared.Number.the-variants as Number
 use Rattle.decimal.specs.declared.WideNumber.{WideNumber}
@@ -23,6 +23,10 @@ isDigit b = leb 48 b && leb b 57
 -- a text that does not begin with a digit: nothing, or another byte first
 abbrev pub NoDigit : List ℕ → Type 0
 NoDigit t = isDigit (getD t 0 0) ≡ false
+
+-- a text whose last byte is no digit: no run of digits reaches its end
+abbrev pub Ended : List ℕ → Type 0
+Ended s = isDigit (getD s (length s - 1) 0) ≡ false
 
 -- how many digits stand at the start of a text
 unfoldable pub runLength : List ℕ → ℕ

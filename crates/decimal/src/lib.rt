@@ -1,11 +1,12 @@
 // Decimal numbers in text: read from a place on, and written into a lent area.
 ghost use mathlib.Core.Path.{_≡_};
-ghost use Prim.Native.Nat.{_+_, _<_, _≤_, _^_};
+ghost use mathlib.Core.Bool.{cond};
+ghost use Prim.Native.Nat.{_+_, _-_, _<_, _≤_, _^_};
+ghost use lib.Dec.{eqb};
 ghost use lib.ListN.{length, getD};
-ghost use lib.Seq.{slice};
 ghost use Rattle.area.specs.Laid.{laid};
 ghost use Rattle.decimal.specs.Decimal.{digits, decimal};
-ghost use Rattle.decimal.specs.Spelled.{isDigit, runLength, runValue, runAt, numberAt, widened, negated, integerAt};
+ghost use Rattle.decimal.specs.Spelled.{Ended, isDigit, runAt, numberAt, widened, negated, asInteger, integerAt};
 
 // An unsigned number that a text spells from a place on, with the place behind it.
 pub enum Number {
@@ -29,12 +30,6 @@ pub enum Integer {
 enum Run {
     Digits(u64, usize),
     Past,
-}
-
-// The digits that stand in a text from a place on, up to a stop: their value and the place behind them.
-struct ShortRun {
-    value: u64,
-    end: usize,
 }
 
 // The widest number of 64 bits without its last digit, and that digit.
@@ -107,38 +102,10 @@ fn is_digit(b: u8) -> bool
     (48 <= b) & (b <= 57)
 }
 
-// Whether a digit stands at a place.
-fn digit_at(s: &[u8], at: usize) -> bool
-    ensures { λ r. ⌜ r ≡ isDigit (getD (now (s .entry)) at 0) ⌝ }
-{
-    if at < s.len() { is_digit(s[at]) } else { false }
-}
-
-// The run of digits from `from` on, up to `stop` at most, behind digits of value `first`; 64 bits must hold it.
-fn scan_short(s: &[u8], first: u64, from: usize, stop: usize) -> ShortRun
-    requires { ⌜ stop ≤ length (now s) ⌝ }
-    requires { ⌜ runValue first (slice from stop (now s)) < 2 ^ 64 ⌝ }
-    ensures { λ r. ⌜ r .value ≡ runValue first (slice from stop (now (s .entry))) ⌝ }
-    ensures { λ r. ⌜ r .end ≡ from + runLength (slice from stop (now (s .entry))) ⌝ }
-{
-    let mut value = first;
-    let mut i = from;
-    while i < stop {
-        let b = s[i];
-        if !is_digit(b) {
-            break;
-        }
-        value = value * 10 + ((b - 48) as u64);
-        i += 1;
-    }
-    ShortRun {
-        value: value,
-        end: i,
-    }
-}
-
-// The unsigned number, of at most `most`, that the text spells from `at` on. With 32 bits it has at most ten digits.
+// The unsigned number, of at most `most`, that the text spells from `at` on. The text ends with no digit, so that the loop needs no other
+// stop.
 pub fn read_number(s: &[u8], at: usize, most: u32) -> Number
+    requires { ⌜ Ended (now s) ⌝ }
     ensures { λ r. ⌜ r ≡ numberAt most (now (s .entry)) at ⌝ }
 {
     if s.len() <= at {
@@ -150,24 +117,24 @@ pub fn read_number(s: &[u8], at: usize, most: u32) -> Number
     }
     let next = at + 1;
     if b == 48 {
-        if digit_at(s, next) {
+        if is_digit(s[next]) {
             return Number::Malformed;
         }
         return Number::Value(0, next);
     }
-    let stop = if s.len() - at < 10 { s.len() } else { at + 10 };
-    let run = scan_short(s, (b - 48) as u64, next, stop);
-    let end = run.end;
-    let value = run.value;
-    if end == stop {
-        if digit_at(s, end) {
-            return Number::Malformed;
-        }
-    }
+    let mut value = (b - 48) as u64;
     if (most as u64) < value {
         return Number::Malformed;
     }
-    Number::Value(value as u32, end)
+    let mut i = next;
+    while is_digit(s[i]) {
+        value = value * 10 + ((s[i] - 48) as u64);
+        if (most as u64) < value {
+            return Number::Malformed;
+        }
+        i += 1;
+    }
+    Number::Value(value as u32, i)
 }
 
 // The number with this magnitude below zero; zero has no minus.
@@ -181,38 +148,53 @@ fn negative(m: u32, end: usize) -> Integer
     Integer::Value((0 - (m as i64)) as i32, end)
 }
 
-// The signed number that the text spells from `at` on.
-pub fn read_integer(s: &[u8], at: usize) -> Integer
-    ensures { λ r. ⌜ r ≡ integerAt (now (s .entry)) at ⌝ }
+// The number with this magnitude and sign.
+fn with_sign(minus: bool, m: u32, end: usize) -> Integer
+    requires { ⌜ m ≤ cond minus (2 ^ 31) (2 ^ 31 - 1) ⌝ }
+    ensures { λ r. ⌜ r ≡ cond minus (negated (Number.Value m end)) (asInteger (Number.Value m end)) ⌝ }
 {
-    if at < s.len() {
-        if s[at] == 45 {
-            let Number::Value(m, end) = read_number(s, at + 1, 2147483648) else {
-                return Integer::Malformed;
-            };
-            return negative(m, end);
-        }
+    if minus {
+        negative(m, end)
+    } else {
+        Integer::Value(m as i32, end)
     }
-    let Number::Value(m, end) = read_number(s, at, 2147483647) else {
-        return Integer::Malformed;
-    };
-    Integer::Value(m as i32, end)
 }
 
-// How many digits a number has.
+// Whether a minus stands at a place.
+fn minus_at(s: &[u8], at: usize) -> bool
+    ensures { λ r. ⌜ r ≡ eqb (getD (now (s .entry)) at 0) 45 ⌝ }
+{
+    if at < s.len() { s[at] == 45 } else { false }
+}
+
+// The signed number that the text spells from `at` on. One reading for both signs.
+pub fn read_integer(s: &[u8], at: usize) -> Integer
+    requires { ⌜ Ended (now s) ⌝ }
+    ensures { λ r. ⌜ r ≡ integerAt (now (s .entry)) at ⌝ }
+{
+    let minus = minus_at(s, at);
+    let Number::Value(m, end) = read_number(s, at + minus as usize, 2147483647 + minus as u32)
+    else {
+        return Integer::Malformed;
+    };
+    with_sign(minus, m, end)
+}
+
+// How many digits a number has: it is compared with powers of ten.
 fn count_digits(n: u64) -> usize
+    requires { ⌜ n < 10 ^ 19 ⌝ }
     ensures { λ r. ⌜ r ≡ length (digits n) ⌝ }
 {
     let mut count = 1;
-    let mut rest = n;
-    while 9 < rest {
-        rest = rest / 10;
+    let mut bound: u64 = 10;
+    while bound <= n {
+        bound = bound * 10;
         count += 1;
     }
     count
 }
 
-// Lays a number's digits over the area from `at` to `end`, the last one first.
+// Lays a number's digits over the area from `at` to `end`, the last two first, then the two before them.
 fn fill_digits(out: &mut [u8], at: usize, end: usize, n: u64)
     requires { ⌜ end ≡ at + length (digits n) ⌝ }
     requires { ⌜ end ≤ length (now out) ⌝ }
@@ -220,9 +202,15 @@ fn fill_digits(out: &mut [u8], at: usize, end: usize, n: u64)
 {
     let mut i = end;
     let mut rest = n;
-    while 9 < rest {
-        i -= 1;
-        out[i] = (48 + rest % 10) as u8;
+    while 99 < rest {
+        let pair = rest % 100;
+        i -= 2;
+        out[i] = (48 + pair / 10) as u8;
+        out[i + 1] = (48 + pair % 10) as u8;
+        rest = rest / 100;
+    }
+    if 9 < rest {
+        out[i - 1] = (48 + rest % 10) as u8;
         rest = rest / 10;
     }
     out[at] = (48 + rest) as u8;
@@ -230,6 +218,7 @@ fn fill_digits(out: &mut [u8], at: usize, end: usize, n: u64)
 
 // Lays a number's digits over the area from `at` on; answers the place behind them.
 fn put_digits(out: &mut [u8], at: usize, n: u64) -> usize
+    requires { ⌜ n < 10 ^ 19 ⌝ }
     requires { ⌜ at + length (digits n) ≤ length (now out) ⌝ }
     ensures { λ r. ⌜ r ≡ at + length (digits n) ⌝ }
     ensures { λ _. ⌜ now (out .exit) ≡ laid (now (out .entry)) at (digits n) ⌝ }
@@ -246,9 +235,10 @@ pub fn put_decimal(out: &mut [u8], at: usize, z: i64) -> usize
     ensures { λ _. ⌜ now (out .exit) ≡ laid (now (out .entry)) at (decimal z) ⌝ }
 {
     let m = signed::magnitude(z);
+    let mut place = at;
     if z < 0 {
         out[at] = 45;
-        return put_digits(out, at + 1, m);
+        place = at + 1;
     }
-    put_digits(out, at, m)
+    put_digits(out, place, m)
 }

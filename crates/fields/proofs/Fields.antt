@@ -2,24 +2,28 @@
 use mathlib.Core.Path.{_≡_, refl, sym, ap, _∙_}
 use mathlib.Core.Bool.{Bool, true, false, cond}
 use mathlib.Core.List.{List, [], _∷_, _++_, append-assoc}
-use Prim.Native.Nat.{ℕ, zero, suc, _+_, _<_, _≤_, _^_}
+use Prim.Native.Nat.{ℕ, zero, suc, _+_, _-_, _<_, _≤_, _^_}
 use native.Mathlib.Omega.{arith}
 use native.Mathlib.Nat.{add-zero}
 use native.Mathlib.Numerals.{add-one}
 use lib.IntN.{ℤ}
-use lib.ListN.{length, getD, drop, length-append, List·getD-eq-default}
-use lib.Seq.{drop-cons, getD-drop}
+use lib.ListN.{length, getD, drop, length-append, length-drop, List·getD-eq-default}
+use lib.Seq.{drop-cons, getD-drop, drop-append-seam}
 use borrow.Author.Tests.{eq-eqb, eqb-true}
 use mir.Syntax.{w32}
 use mir.Val.{SFits}
 use Rattle.decimal.specs.Decimal.{digits, decimal}
-use Rattle.decimal.specs.Spelled.{NoDigit, numberAt, integerAt}
+use Rattle.decimal.specs.Spelled.{isDigit, NoDigit, Ended, numberAt, integerAt, widened}
 use Rattle.decimal.specs.declared.Number.{Number}
 use Rattle.decimal.specs.declared.Number.the-variants as Number
+use Rattle.decimal.specs.declared.WideNumber.the-variants as WideNumber
 use Rattle.decimal.specs.declared.Integer.{Integer}
 use Rattle.decimal.specs.declared.Integer.the-variants as Integer
+use Rattle.decimal.proofs.Runs.{run-short}
+use Rattle.decimal.proofs.Numbers.{spelled, number-run, widened-value}
 use Rattle.decimal.proofs.NumberText.{number-sound, number-complete}
 use Rattle.decimal.proofs.Integers.{integer-sound, integer-complete}
+use Rattle.fields.specs.Line.{lineOf}
 use Rattle.fields.specs.Field.{startsWith, endsLine, numberField, integerField, withNumber, withInteger}
 use Rattle.fields.proofs.Keys.{starts-sound, starts-complete}
 use Rattle.fields.proofs.Spells.{Spells, spells-append, spells-rest, spells-front}
@@ -104,6 +108,30 @@ module _ (key s : List ℕ) (at : ℕ) (v : ℤ) where
       p in
       k (at + length (key ++ decimal v)) refl read (spells-rest s (key ++ decimal v) r at p)
 
+-- the place behind a field lies within the text
+pub number-field-within :
+    (key : List ℕ) (most : ℕ) (s : List ℕ) (at v e : ℕ) → numberField key most s at ≡ Number.Value v e → e ≤ length s
+unfolding numberField
+number-field-within key most s at v e q =
+    let t = drop (at + length key) s in
+    let read =
+    picked (startsWith key (drop at s)) (numberAt most s (at + length key)) Number.Malformed (Number.Value v e) q (no-number v e) .1 in
+    let run = number-run most s (at + length key) v e read in
+    omega (arith, run .3, spelled t (run .0) .0, run-short t, length-drop (at + length key) s)
+
+pub wide-field-within :
+    (key : List ℕ) (most : ℕ) (s : List ℕ) (at v e : ℕ) → widened (numberField key most s at) ≡ WideNumber.Value v e → e ≤ length s
+wide-field-within key most s at v e q =
+    number-field-within key most s at v e (widened-value (numberField key most s at) v e q)
+
+pub integer-field-within :
+    (key s : List ℕ) (at : ℕ) (v : ℤ) (e : ℕ) → integerField key s at ≡ Integer.Value v e → e ≤ length s
+unfolding integerField
+integer-field-within key s at v e q =
+    integer-sound s (at + length key) v e
+    (picked (startsWith key (drop at s)) (integerAt s (at + length key)) Integer.Malformed (Integer.Value v e) q (no-integer v e) .1)
+    .3
+
 -- what a chain of fields answers, if it is not `none`, it answers behind a field that was read
 module _ {A G : Type 0} (none x : A) (differs : none ≡ x → ⊥) where
   pub with-number : (n : Number) (go : ℕ → ℕ → A) → withNumber n none go ≡ x → ((v e : ℕ) → n ≡ Number.Value v e → go v e ≡ x → G) → G
@@ -137,3 +165,21 @@ end-complete s r at p =
 pub no-end-past : (s : List ℕ) (at : ℕ) → length s ≤ at → endsLine s at ≡ false
 unfolding endsLine
 no-end-past s at h = rw (List·getD-eq-default s 0 h)
+
+-- a text that ends with 0A ends with no digit
+pub line-ended : (s : List ℕ) → endsLine s (length s - 1) ≡ true → Ended s
+unfolding endsLine isDigit
+line-ended s q = rw (eqb-true (getD s (length s - 1) 0) 10 q)
+
+-- a line as it is written ends with 0A
+ends-behind : (a t : List ℕ) → endsLine t (length t - 1) ≡ true → endsLine (a ++ t) (length (a ++ t) - 1) ≡ true
+unfolding endsLine
+ends-behind a t q =
+    let place : length (a ++ t) - 1 ≡ length a + (length t - 1) = omega (arith, length-append a t, end-inside t (length t - 1) q) in
+    rw (place, ← getD-drop (length a) (a ++ t) (length t - 1) 0, drop-append-seam a t) q
+
+pub line-ends : (fs : List (List ℕ)) → endsLine (lineOf fs) (length (lineOf fs) - 1) ≡ true
+unfolding endsLine lineOf
+line-ends [] = refl
+line-ends (f ∷ []) = ends-behind f (10 ∷ []) refl
+line-ends (f ∷ g ∷ fs) = ends-behind f (32 ∷ lineOf (g ∷ fs)) (ends-behind (32 ∷ []) (lineOf (g ∷ fs)) (line-ends (g ∷ fs)))

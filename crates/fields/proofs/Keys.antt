@@ -33,11 +33,11 @@ starts-short [] t h = absurd (omega arith)
 starts-short (k ∷ key) [] h = refl
 starts-short (k ∷ key) (b ∷ t) h = rw (starts-short key t (omega arith)) (and-false (eqb k b))
 
--- a text that has ended begins with no bytes only
-pub starts-ended : (key : List ℕ) → startsWith key [] ≡ eqb (length key) 0
+-- bytes that both begin with decide nothing
+pub starts-behind : (a key t : List ℕ) → startsWith (a ++ key) (a ++ t) ≡ startsWith key t
 unfolding startsWith
-starts-ended [] = refl
-starts-ended (k ∷ key) = sym (ne-eqb (suc (length key)) 0 (λ e. omega arith))
+starts-behind [] key t = refl
+starts-behind (k ∷ a) key t = rw (eq-eqb k k refl) (starts-behind a key t)
 
 -- a turn of the comparison: an equal byte leaves the rest to compare, another byte decides
 module _ (key s : List ℕ) (at i : ℕ) (h : i < length key) (k : at + i < length s) where

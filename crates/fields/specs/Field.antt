@@ -1,5 +1,5 @@
 -- One field read from a place on: its key with what stands before it, then its number.
-use Prim.Native.Nat.{ℕ, _+_, _≤_}
+use Prim.Native.Nat.{ℕ, _+_}
 use mathlib.Core.Bool.{Bool, true, false, cond, _&&_}
 use mathlib.Core.List.{List, [], _∷_, _++_}
 use lib.Dec.{eqb}
@@ -17,10 +17,6 @@ first key = key ++ 61 ∷ []
 
 abbrev pub later : List ℕ → List ℕ
 later key = 32 ∷ key ++ 61 ∷ []
-
--- a key whose first four bytes and last four are all of them
-abbrev pub ShortKey : List ℕ → Type 0
-ShortKey key = (4 ≤ length key) × (length key ≤ 8)
 
 -- a text begins with these bytes
 unfoldable pub startsWith : List ℕ → List ℕ → Bool

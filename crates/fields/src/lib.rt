@@ -2,14 +2,14 @@
 ghost use mathlib.Core.Path.{_≡_};
 ghost use mathlib.Core.Bool.{true};
 ghost use mathlib.Core.List.{[], _∷_, _++_};
-ghost use Prim.Native.Nat.{_+_, _<_, _≤_};
+ghost use Prim.Native.Nat.{_+_, _-_, _<_, _≤_};
 ghost use lib.IntN.{pos};
 ghost use lib.ListN.{length, take, drop};
 ghost use Rattle.area.specs.Laid.{laid};
 ghost use Rattle.decimal.specs.Decimal.{decimal};
-ghost use Rattle.decimal.specs.Spelled.{widened};
+ghost use Rattle.decimal.specs.Spelled.{Ended, widened};
 ghost use Rattle.fields.specs.Line.{holdsLine, nextLine};
-ghost use Rattle.fields.specs.Field.{ShortKey, startsWith, endsLine, numberField, integerField};
+ghost use Rattle.fields.specs.Field.{startsWith, endsLine, numberField, integerField};
 use decimal::Integer;
 use decimal::Number;
 use decimal::WideNumber;
@@ -24,7 +24,7 @@ pub enum Written {
 // A 0A is looked for by these blocks of bytes while it is far and once it is near, and byte by byte at the end.
 const FAR: usize = 16;
 
-const NEAR: usize = 4;
+const NEAR: usize = 8;
 
 // Whether 0A is among the n bytes from `at` on. Without an early end, so that they are looked at side by side.
 fn holds_end(s: &[u8], at: usize, n: usize) -> bool
@@ -68,17 +68,18 @@ pub fn next_line(s: &[u8]) -> &[u8]
     if at < s.len() { &s[..at + 1] } else { s }
 }
 
-// Whether a text begins with these bytes from `at` on.
+// Whether a text begins with the bytes of a key from `at` on: the first four as one word, the others one by one.
 pub fn has_key(s: &[u8], at: usize, key: &[u8]) -> bool
+    requires { ⌜ (at ≤ length (now s)) × (4 ≤ length (now key)) ⌝ }
     ensures { λ r. ⌜ r ≡ startsWith (now (key .entry)) (drop at (now (s .entry))) ⌝ }
 {
-    if s.len() < at {
-        return key.len() == 0;
-    }
     if s.len() - at < key.len() {
         return false;
     }
-    let mut i = 0;
+    if endian::get4(s, at) != endian::get4(key, 0) {
+        return false;
+    }
+    let mut i = 4;
     while i < key.len() {
         if s[at + i] != key[i] {
             return false;
@@ -88,22 +89,6 @@ pub fn has_key(s: &[u8], at: usize, key: &[u8]) -> bool
     true
 }
 
-// Whether a text begins with the bytes of a short key from `at` on: by the first four and the last four, each as one word.
-pub fn has_short_key(s: &[u8], at: usize, key: &[u8]) -> bool
-    requires { ⌜ ShortKey (now key) ⌝ }
-    ensures { λ r. ⌜ r ≡ startsWith (now (key .entry)) (drop at (now (s .entry))) ⌝ }
-{
-    if s.len() < at {
-        return false;
-    }
-    if s.len() - at < key.len() {
-        return false;
-    }
-    let last = key.len() - 4;
-    (endian::get4(s, at) == endian::get4(key, 0))
-        & (endian::get4(s, at + last) == endian::get4(key, last))
-}
-
 // Whether 0A stands at a place, which ends the line.
 pub fn ends_line(s: &[u8], at: usize) -> bool
     ensures { λ r. ⌜ r ≡ endsLine (now (s .entry)) at ⌝ }
@@ -111,8 +96,20 @@ pub fn ends_line(s: &[u8], at: usize) -> bool
     if at < s.len() { s[at] == 10 } else { false }
 }
 
+// Whether a text ends with 0A.
+pub fn is_line(s: &[u8]) -> bool
+    ensures { λ r. ⌜ r ≡ endsLine (now (s .entry)) (length (now (s .entry)) - 1) ⌝ }
+{
+    if s.len() > 0 {
+        s[s.len() - 1] == 10
+    } else {
+        false
+    }
+}
+
 // The unsigned number, of at most `most`, of the field that the text has from `at` on.
 pub fn number_field(s: &[u8], at: usize, key: &[u8], most: u32) -> Number
+    requires { ⌜ (at ≤ length (now s)) × (4 ≤ length (now key)) × Ended (now s) ⌝ }
     ensures { λ r. ⌜ r ≡ numberField (now (key .entry)) most (now (s .entry)) at ⌝ }
 {
     if has_key(s, at, key) {
@@ -124,6 +121,7 @@ pub fn number_field(s: &[u8], at: usize, key: &[u8], most: u32) -> Number
 
 // The unsigned number of 64 bits, of at most `most`, of the field that the text has from `at` on.
 pub fn wide_field(s: &[u8], at: usize, key: &[u8], most: u64) -> WideNumber
+    requires { ⌜ (at ≤ length (now s)) × (4 ≤ length (now key)) ⌝ }
     ensures { λ r. ⌜ r ≡ widened (numberField (now (key .entry)) most (now (s .entry)) at) ⌝ }
 {
     if has_key(s, at, key) {
@@ -135,6 +133,7 @@ pub fn wide_field(s: &[u8], at: usize, key: &[u8], most: u64) -> WideNumber
 
 // The signed number of the field that the text has from `at` on.
 pub fn integer_field(s: &[u8], at: usize, key: &[u8]) -> Integer
+    requires { ⌜ (at ≤ length (now s)) × (4 ≤ length (now key)) × Ended (now s) ⌝ }
     ensures { λ r. ⌜ r ≡ integerField (now (key .entry)) (now (s .entry)) at ⌝ }
 {
     if has_key(s, at, key) {

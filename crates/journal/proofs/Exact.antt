@@ -1,18 +1,21 @@
 -- The reader is exact: a text is read as a call exactly if it is the call's line, whole.
 use mathlib.Core.Path.{_≡_, refl, sym, ap, subst, _∙_}
-use mathlib.Core.Bool.{true, false, cond}
+use mathlib.Core.Bool.{true, false, cond, true≢false}
 use mathlib.Core.List.{List, []}
-use Prim.Native.Nat.{ℕ, _+_}
+use Prim.Native.Nat.{ℕ, _+_, _-_}
 use native.Mathlib.Omega.{arith}
 use borrow.Author.Tests.{eq-eqb, eqb-true}
 use lib.Dec.{eqb}
 use lib.ListN.{length}
+use Rattle.fields.specs.Field.{endsLine}
 use Rattle.fields.proofs.Spells.{spells-whole, whole-spelled}
+use Rattle.fields.proofs.Fields.{line-ends}
 use Rattle.journal.specs.JournalLine.{lineText, callAnswer, CallFits, ExactCall}
 use Rattle.journal.specs.ReadLine.{callAt, whole, callOf}
 use Rattle.journal.specs.declared.Call.{Call}
 use Rattle.journal.specs.declared.CallAt.{CallAt}
 use Rattle.journal.specs.declared.CallAt.the-variants as CallAt
+use Rattle.journal.specs.declared.CallRead.{CallRead}
 use Rattle.journal.specs.declared.CallRead.the-variants as CallRead
 use Rattle.journal.proofs.JournalLines.{call-sound, call-complete}
 
@@ -51,3 +54,18 @@ accepted-line text c e =
     let found = exact-call text .only (λ m. accepted-six c (sym (ap callAnswer e) ∙ m)) in
     let q = exact-call text .line (found .0) (found .1) (found .2) in
     subst (λ (d : Call). CallFits d × (text ≡ lineText d)) (same-call (found .0) c (sym q ∙ e)) (found .1, found .2)
+
+-- a text that does not end with 0A is no journal line
+module _ (text : List ℕ) (n : endsLine text (length text - 1) ≡ false) where
+  no-text : (c : Call) × CallFits c × (text ≡ lineText c) → ⊥
+  unfolding lineText
+  no-text found =
+      let ends : endsLine text (length text - 1) ≡ true = rw (found .2) (line-ends _) in
+      true≢false (sym ends ∙ n)
+
+  only-malformed : (answer : CallRead) → ExactCall text answer → answer ≡ CallRead.Malformed
+  only-malformed (CallRead.Accepted c) exact = absurd (no-text (exact .only (accepted-six c)))
+  only-malformed CallRead.Malformed exact = refl
+
+  pub not-line : callOf text ≡ CallRead.Malformed
+  not-line = only-malformed (callOf text) (exact-call text)

@@ -1,5 +1,5 @@
 -- Laws on the journal line.
 pub mod Letters
-pub mod KeyedFields
+pub mod CallParts
 pub mod JournalLines
 pub mod Exact

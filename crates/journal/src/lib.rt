@@ -1,9 +1,12 @@
 // The journal line: one call, and the reader of its text.
 ghost use mathlib.Core.Path.{_≡_};
-ghost use Rattle.fields.specs.Field.{ShortKey};
+ghost use Prim.Native.Nat.{_≤_};
+ghost use lib.ListN.{length};
+ghost use Rattle.decimal.specs.Spelled.{Ended};
 ghost use Rattle.journal.specs.Kinds.{isLetter};
 ghost use Rattle.journal.specs.JournalLine.{hasForm, ExactCall};
 ghost use Rattle.journal.specs.ReadLine.{letterAt, letterField, callAt, callOf};
+ghost use Rattle.journal.specs.NumberParts.{isValue, valueOf, endOf, isInteger, integerValue, integerEnd};
 use clock::ArrivalTick;
 use clock::ReadingTime;
 use decimal::Integer;
@@ -76,72 +79,107 @@ fn letter_at(s: &[u8], at: usize) -> Number
 
 // The letter of the field that the text has from `at` on.
 fn letter_field(s: &[u8], at: usize, key: &[u8]) -> Number
-    requires { ⌜ ShortKey (now key) ⌝ }
+    requires { ⌜ (at ≤ length (now s)) × (4 ≤ length (now key)) ⌝ }
     ensures { λ r. ⌜ r ≡ letterField (now (key .entry)) (now (s .entry)) at ⌝ }
 {
-    if fields::has_short_key(s, at, key) {
+    if fields::has_key(s, at, key) {
         letter_at(s, at + key.len())
     } else {
         Number::Malformed
     }
 }
 
-// The journal line that the text has from `at` on. Each key is tested here and not in a function of its own, which would make it an
-// argument where it can be a constant.
+// The parts of a number that was read: whether it is one, its value and the place behind it; 0 where it is malformed.
+
+fn is_value(n: Number) -> bool
+    ensures { λ r. ⌜ r ≡ isValue n ⌝ }
+{
+    match n {
+        Number::Value(_, _) => true,
+        Number::Malformed => false,
+    }
+}
+
+fn value_of(n: Number) -> u32
+    ensures { λ r. ⌜ r ≡ valueOf n ⌝ }
+{
+    match n {
+        Number::Value(value, _) => value,
+        Number::Malformed => 0,
+    }
+}
+
+fn end_of(n: Number) -> usize
+    ensures { λ r. ⌜ r ≡ endOf n ⌝ }
+{
+    match n {
+        Number::Value(_, end) => end,
+        Number::Malformed => 0,
+    }
+}
+
+// The same of a signed one.
+
+fn is_integer(n: Integer) -> bool
+    ensures { λ r. ⌜ r ≡ isInteger n ⌝ }
+{
+    match n {
+        Integer::Value(_, _) => true,
+        Integer::Malformed => false,
+    }
+}
+
+fn integer_value(n: Integer) -> i32
+    ensures { λ r. ⌜ r ≡ integerValue n ⌝ }
+{
+    match n {
+        Integer::Value(value, _) => value,
+        Integer::Malformed => 0,
+    }
+}
+
+fn integer_end(n: Integer) -> usize
+    ensures { λ r. ⌜ r ≡ integerEnd n ⌝ }
+{
+    match n {
+        Integer::Value(_, end) => end,
+        Integer::Malformed => 0,
+    }
+}
+
+// The journal line that the text has from `at` on. All fields are read, each from the end of the one before or, behind one that is
+// malformed, from the first place, and told to be right together: a way out behind each would make the rest look rare to the compiler.
 fn call_at(s: &[u8], at: usize) -> CallAt
+    requires { ⌜ (at ≤ length (now s)) × Ended (now s) ⌝ }
     ensures { λ r. ⌜ r ≡ callAt (now (s .entry)) at ⌝ }
 {
-    if !fields::has_short_key(s, at, b"now=") {
-        return CallAt::Malformed;
-    }
-    let Number::Value(now, e1) = decimal::read_number(s, at + 4, WORD) else {
-        return CallAt::Malformed;
-    };
-    if !fields::has_short_key(s, e1, b" line=") {
-        return CallAt::Malformed;
-    }
-    let Number::Value(line, e2) = decimal::read_number(s, e1 + 6, BYTE) else {
-        return CallAt::Malformed;
-    };
-    let Number::Value(kind, e3) = letter_field(s, e2, b" kind=") else {
-        return CallAt::Malformed;
-    };
-    if !fields::has_short_key(s, e3, b" id=") {
-        return CallAt::Malformed;
-    }
-    let Number::Value(id, e4) = decimal::read_number(s, e3 + 4, WORD) else {
-        return CallAt::Malformed;
-    };
-    if !fields::has_short_key(s, e4, b" time=") {
-        return CallAt::Malformed;
-    }
-    let Number::Value(time, e5) = decimal::read_number(s, e4 + 6, WORD) else {
-        return CallAt::Malformed;
-    };
-    if !fields::has_short_key(s, e5, b" meter=") {
-        return CallAt::Malformed;
-    }
-    let Number::Value(meter, e6) = decimal::read_number(s, e5 + 7, BYTE) else {
-        return CallAt::Malformed;
-    };
-    if !fields::has_short_key(s, e6, b" value=") {
-        return CallAt::Malformed;
-    }
-    let Integer::Value(value, e7) = decimal::read_integer(s, e6 + 7) else {
-        return CallAt::Malformed;
-    };
-    if fields::ends_line(s, e7) {
+    let now = fields::number_field(s, at, b"now=", WORD);
+    let line = fields::number_field(s, end_of(now), b" line=", BYTE);
+    let kind = letter_field(s, end_of(line), b" kind=");
+    let id = fields::number_field(s, end_of(kind), b" id=", WORD);
+    let time = fields::number_field(s, end_of(id), b" time=", WORD);
+    let meter = fields::number_field(s, end_of(time), b" meter=", BYTE);
+    let value = fields::integer_field(s, end_of(meter), b" value=");
+    let end = integer_end(value);
+    let ok = is_value(now)
+        & is_value(line)
+        & is_value(kind)
+        & is_value(id)
+        & is_value(time)
+        & is_value(meter)
+        & is_integer(value);
+    if ok & fields::ends_line(s, end) {
         CallAt::Line(
             Call {
-                now: ArrivalTick(now),
-                id: id,
-                time: ReadingTime(time),
-                value: value,
-                line: line as u8,
-                kind: kind as u8,
-                meter: meter as u8,
+                now: ArrivalTick(value_of(now)),
+                id: value_of(id),
+                time: ReadingTime(value_of(time)),
+                value: integer_value(value),
+                line: value_of(line) as u8,
+                kind: value_of(kind) as u8,
+                meter: value_of(meter) as u8,
             },
-            e7 + 1,
+            end + 1,
         )
     } else {
         CallAt::Malformed
@@ -153,6 +191,9 @@ pub fn read_call(text: &[u8]) -> CallRead
     ensures { λ r. ⌜ r ≡ callOf (now (text .entry)) ⌝ }
     ensures { λ r. ⌜ ExactCall (now (text .entry)) r ⌝ }
 {
+    if !fields::is_line(text) {
+        return CallRead::Malformed;
+    }
     let CallAt::Line(c, end) = call_at(text, 0) else {
         return CallRead::Malformed;
     };

@@ -1,6 +1,5 @@
 -- Laws on replies.
 pub mod Words
 pub mod Records
-pub mod Texts
 pub mod Longest
 pub mod Replies

@@ -1,18 +1,13 @@
 // What is printed for a line: the answer line, then the records as text.
-ghost use mathlib.Core.Path.{_≡_};
 ghost use Prim.Native.Nat.{_+_, _*_, _≤_};
 ghost use lib.ListN.{length};
-ghost use Rattle.fields.specs.Written.{writtenLength};
 ghost use Rattle.record.specs.Sizes.{recordBytes};
-ghost use Rattle.record.specs.Decoded.{decoded};
 ghost use Rattle.record_text.specs.Sizes.{longestRecordText};
-ghost use Rattle.record_text.specs.RecordText.{textOf};
 ghost use Rattle.node.specs.Sizes.{recordsPerCall};
 ghost use Rattle.playback_reply.specs.Sizes.{longestAnswer, longestReply};
 ghost use Rattle.playback_reply.specs.Reply.{wordOf, answerLine, recordLines, replyLines};
 ghost use Rattle.playback_reply.specs.Parts.{stateField};
 ghost use Rattle.playback_reply.specs.Put.{PutAt, PutInFront};
-use fields::Written;
 use protocol::Phase;
 
 // Bytes of the longest answer line, and records that a call gives at most: one for each meter, and one more.
@@ -58,26 +53,6 @@ pub fn put_answer(out: &mut [u8], answer: u32, records: u32, lines: u32, phase: 
     put_state(out, state, lines, phase)
 }
 
-// The length of the text that was written.
-fn written_length(w: Written) -> usize
-    ensures { λ n. ⌜ n ≡ writtenLength w ⌝ }
-{
-    match w {
-        Written::Text(n) => n,
-        Written::ShortArea => 0,
-        Written::Malformed => 0,
-    }
-}
-
-// Writes the text of the record that these bytes are from `at` on, and none of bytes that are no record; answers the place behind it.
-fn put_text(out: &mut [u8], at: usize, bytes: &[u8]) -> usize
-    requires { ⌜ at + longestRecordText ≤ length (now out) ⌝ }
-    ensures { λ r. ⌜ PutAt (now (out .entry)) at (textOf (decoded (now (bytes .entry)))) r (now (out .exit)) ⌝ }
-{
-    let written = record_text::write_text(bytes, &mut out[at..]);
-    at + written_length(written)
-}
-
 // Writes the texts of the area's first n records from `at` on; answers the place behind them.
 fn put_records(out: &mut [u8], at: usize, area: &[u8], n: usize) -> usize
     requires { ⌜ (n * recordBytes ≤ length (now area)) × (at + n * longestRecordText ≤ length (now out)) ⌝ }
@@ -88,7 +63,7 @@ fn put_records(out: &mut [u8], at: usize, area: &[u8], n: usize) -> usize
     while i < n {
         let start = i * record::RECORD_BYTES;
         let end = start + record::RECORD_BYTES;
-        place = put_text(out, place, &area[start..end]);
+        place = record_text::put_record(out, place, &area[start..end]);
         i += 1;
     }
     place

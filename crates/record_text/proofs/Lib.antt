@@ -1,4 +1,5 @@
 -- Laws on the text of a record.
 pub mod RecordText
 pub mod Longest
+pub mod Lent
 pub mod Written

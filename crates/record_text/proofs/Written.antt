@@ -36,12 +36,6 @@ pub text-written : (r : Record) (area left : List ℕ) (n : ℕ) → length (rec
 unfolding writtenAnswer writtenLength textAnswer textWritten textOf
 text-written r area left n h size whole = rw (le-ltb (length area) (length (recordText r)) h) (refl, (size, whole))
 
--- an area that has room gets the whole text, which of bytes that are no record is empty
-pub whole-text : (d : Decoded) (area : List ℕ) → length (textOf d) ≤ length area → textWritten d area ≡ textOf d
-unfolding textAnswer textWritten textOf
-whole-text (Decoded.Is r) area h = rw (le-ltb (length area) (length (recordText r)) h)
-whole-text Decoded.Malformed area h = refl
-
 -- a text is read back from where it was laid in front
 take-inFront : (t area : List ℕ) → take (length t) (inFront t area) ≡ t
 unfolding inFront

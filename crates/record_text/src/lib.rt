@@ -5,7 +5,7 @@ ghost use lib.ListN.{length};
 ghost use Rattle.area.specs.Laid.{laid, inFront};
 ghost use Rattle.fields.specs.Written.{writtenAnswer, writtenLength};
 ghost use Rattle.record.specs.Decoded.{decoded};
-ghost use Rattle.record_text.specs.RecordText.{recordText, textAnswer, textWritten};
+ghost use Rattle.record_text.specs.RecordText.{recordText, textOf, textAnswer, textWritten};
 ghost use Rattle.record_text.specs.Parts.{textHead, textTail};
 use fields::Written;
 use record::Decoded;
@@ -46,6 +46,19 @@ fn put_text(out: &mut [u8], r: Record) -> usize
 {
     let at = put_head(out, r);
     put_tail(out, at, r)
+}
+
+// Lays the text of the record that these bytes are over the area from `at` on, and none of bytes that are no record; answers the place
+// behind it.
+pub fn put_record(out: &mut [u8], at: usize, bytes: &[u8]) -> usize
+    requires { ⌜ at + length (textOf (decoded (now bytes))) ≤ length (now out) ⌝ }
+    ensures { λ n. ⌜ n ≡ at + length (textOf (decoded (now (bytes .entry)))) ⌝ }
+    ensures { λ _. ⌜ now (out .exit) ≡ laid (now (out .entry)) at (textOf (decoded (now (bytes .entry)))) ⌝ }
+{
+    match record::decode(bytes) {
+        Decoded::Is(r) => at + put_text(&mut out[at..], r),
+        Decoded::Malformed => at,
+    }
 }
 
 // Writes a record's text, or answers that the area is shorter than this text. The text is made apart, so that a short area stays as it is.

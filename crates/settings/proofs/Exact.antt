@@ -1,19 +1,22 @@
 -- The reader is exact: a text is read as settings exactly if it is their line, whole.
-use mathlib.Core.Path.{_≡_, refl, ap}
-use mathlib.Core.Bool.{true, false, cond}
+use mathlib.Core.Path.{_≡_, refl, sym, ap, _∙_}
+use mathlib.Core.Bool.{true, false, cond, true≢false}
 use mathlib.Core.List.{List, []}
-use Prim.Native.Nat.{ℕ, _+_}
+use Prim.Native.Nat.{ℕ, _+_, _-_}
 use native.Mathlib.Omega.{arith}
 use borrow.Author.Tests.{eq-eqb, eqb-true}
 use lib.Dec.{eqb}
 use lib.ListN.{length}
+use Rattle.fields.specs.Field.{endsLine}
 use Rattle.fields.proofs.Spells.{spells-whole, whole-spelled}
+use Rattle.fields.proofs.Fields.{line-ends}
 use Rattle.settings.specs.Limits.{SettingsFit}
 use Rattle.settings.specs.SettingsLine.{settingsText, limited, settingsAnswer, ExactSettings}
 use Rattle.settings.specs.ReadLine.{settingsAt, judged, settingsOf}
 use Rattle.settings.specs.declared.Settings.{Settings}
 use Rattle.settings.specs.declared.SettingsAt.{SettingsAt}
 use Rattle.settings.specs.declared.SettingsAt.the-variants as SettingsAt
+use Rattle.settings.specs.declared.SettingsRead.{SettingsRead}
 use Rattle.settings.specs.declared.SettingsRead.the-variants as SettingsRead
 use Rattle.settings.proofs.SettingsLines.{settings-sound, settings-complete}
 
@@ -38,3 +41,20 @@ settings-only text SettingsAt.Malformed q n = absurd (n refl)
 pub exact-settings : (text : List ℕ) → ExactSettings text (settingsOf text)
 unfolding settingsOf
 exact-settings text = record { line = settings-line text; only = settings-only text (settingsAt text 0) refl }
+
+-- a text that does not end with 0A is no line of settings
+module _ (text : List ℕ) (n : endsLine text (length text - 1) ≡ false) where
+  no-text : (s : Settings) × SettingsFit s × (text ≡ settingsText s) → ⊥
+  unfolding settingsText
+  no-text found =
+      let ends : endsLine text (length text - 1) ≡ true = rw (found .2) (line-ends _) in
+      true≢false (sym ends ∙ n)
+
+  only-malformed : (answer : SettingsRead) → ExactSettings text answer → answer ≡ SettingsRead.Malformed
+  unfolding settingsAnswer
+  only-malformed (SettingsRead.Accepted s) exact = absurd (no-text (exact .only (λ q. omega arith)))
+  only-malformed SettingsRead.Malformed exact = refl
+  only-malformed SettingsRead.OutsideLimits exact = absurd (no-text (exact .only (λ q. omega arith)))
+
+  pub not-line : settingsOf text ≡ SettingsRead.Malformed
+  not-line = only-malformed (settingsOf text) (exact-settings text)

@@ -1,5 +1,8 @@
 // The settings line: what the installer sets.
 ghost use mathlib.Core.Path.{_≡_};
+ghost use Prim.Native.Nat.{_≤_};
+ghost use lib.ListN.{length};
+ghost use Rattle.decimal.specs.Spelled.{Ended};
 ghost use Rattle.settings.specs.Limits.{withinLimits};
 ghost use Rattle.settings.specs.SettingsLine.{ExactSettings};
 ghost use Rattle.settings.specs.ReadLine.{settingsAt, settingsOf};
@@ -59,6 +62,7 @@ pub fn within_limits(s: Settings) -> bool
 
 // The settings line that the text has from `at` on.
 fn settings_at(s: &[u8], at: usize) -> SettingsAt
+    requires { ⌜ (at ≤ length (now s)) × Ended (now s) ⌝ }
     ensures { λ r. ⌜ r ≡ settingsAt (now (s .entry)) at ⌝ }
 {
     let Number::Value(lines, e1) = fields::number_field(s, at, b"lines=", WIDTH) else {
@@ -105,6 +109,9 @@ pub fn read_settings(text: &[u8]) -> SettingsRead
     ensures { λ r. ⌜ r ≡ settingsOf (now (text .entry)) ⌝ }
     ensures { λ r. ⌜ ExactSettings (now (text .entry)) r ⌝ }
 {
+    if !fields::is_line(text) {
+        return SettingsRead::Malformed;
+    }
     let SettingsAt::Line(s, end) = settings_at(text, 0) else {
         return SettingsRead::Malformed;
     };

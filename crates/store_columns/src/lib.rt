@@ -13,6 +13,7 @@ ghost use Rattle.store.specs.Sizes.{readingsPerLine};
 ghost use Rattle.store.specs.Lists.{someOf, allOf};
 ghost use Rattle.store.specs.Parts.{share, withRowsAt};
 ghost use Rattle.store_columns.specs.Tests.{PowerOfTwo, someOfBoth, allFrom, isReadingAt, areZero, isLateDue};
+ghost use Rattle.store_columns.specs.Steps.{smallBack, SmallSteps, AreSmallBack};
 ghost use Rattle.store_columns.specs.Shape.{rises, isReadingKind};
 ghost use Rattle.store.specs.Columns.{Columns, columnsOf, storeLength, zeroed};
 use clock::ArrivalTick;
@@ -29,7 +30,7 @@ const SMALL_STEPS_BACK: u32 = 4_286_578_688;
 // ---- places zeroed, one function for each type of element
 
 // Zeroes the places from `from` up to `to`.
-pub fn zero_u32(xs: &mut [u32], from: usize, to: usize)
+fn zero_u32(xs: &mut [u32], from: usize, to: usize)
     requires { ⌜ (from ≤ to) × (to ≤ length (now xs)) ⌝ }
     ensures { λ _. ⌜ now (xs .exit) ≡ sets (now (xs .entry)) from (replicate (to - from) 0) ⌝ }
 {
@@ -40,7 +41,7 @@ pub fn zero_u32(xs: &mut [u32], from: usize, to: usize)
     }
 }
 
-pub fn zero_i32(xs: &mut [i32], from: usize, to: usize)
+fn zero_i32(xs: &mut [i32], from: usize, to: usize)
     requires { ⌜ (from ≤ to) × (to ≤ length (now xs)) ⌝ }
     ensures { λ _. ⌜ now (xs .exit) ≡ sets (now (xs .entry)) from (replicate (to - from) (pos 0)) ⌝ }
 {
@@ -78,6 +79,74 @@ fn ids_rise_exactly(ids: &[u32], base: usize, n: usize) -> bool
     ok
 }
 
+// Lays a block of steps back over the words, each over that of its place: bits that all have set are left.
+fn lay_steps(words: &mut [u32; 8], ids: &[u32], from: usize)
+    requires { ⌜ (from + 8 < length (now ids)) × (length (now words) ≡ 8) ⌝ }
+    ensures { λ _. ⌜ (length (now (words .exit)) ≡ 8)
+        × (AreSmallBack (now (words .exit)) → AreSmallBack (now (words .entry)) × SmallSteps (now (ids .entry)) from (from + 8)) ⌝ }
+{
+    let mut k = 0;
+    while k < 8 {
+        words[k] = words[k] & std::num::wrapping_sub_u32(ids[from + k], ids[from + k + 1]);
+        k += 1;
+    }
+}
+
+// The bits that all words have set.
+fn common_bits(words: [u32; 8]) -> u32
+    ensures { λ r. ⌜ (smallBack ≤ r → AreSmallBack words) ⌝ }
+{
+    let mut common = 4_294_967_295u32;
+    let mut k = 0;
+    while k < 8 {
+        common = common & words[k];
+        k += 1;
+    }
+    common
+}
+
+// The bits that all steps back of a share have set, block by block. The last block is laid first, and the others up to where it begins, so
+// that nothing is left behind a whole one.
+fn block_steps_back(ids: &[u32], base: usize, n: usize) -> u32
+    requires { ⌜ (9 ≤ n) × (base + n ≤ length (now ids)) ⌝ }
+    ensures { λ r. ⌜ (smallBack ≤ r → SmallSteps (now (ids .entry)) base (base + n - 1)) ⌝ }
+{
+    let mut words = [4_294_967_295u32; 8];
+    let last = base + n - 9;
+    lay_steps(&mut words, ids, last);
+    let mut at = base;
+    while at < last {
+        lay_steps(&mut words, ids, at);
+        at += 8;
+    }
+    common_bits(words)
+}
+
+// The same one by one, for fewer steps than a block.
+fn few_steps_back(ids: &[u32], base: usize, n: usize) -> u32
+    requires { ⌜ (1 ≤ n) × (base + n ≤ length (now ids)) ⌝ }
+    ensures { λ r. ⌜ (smallBack ≤ r → SmallSteps (now (ids .entry)) base (base + n - 1)) ⌝ }
+{
+    let mut back = 4_294_967_295u32;
+    let mut i = 1;
+    while i < n {
+        back = back & std::num::wrapping_sub_u32(ids[base + i - 1], ids[base + i]);
+        i += 1;
+    }
+    back
+}
+
+// The same for any share that keeps a reading.
+fn steps_back(ids: &[u32], base: usize, n: usize) -> u32
+    requires { ⌜ (1 ≤ n) × (base + n ≤ length (now ids)) ⌝ }
+    ensures { λ r. ⌜ (smallBack ≤ r → SmallSteps (now (ids .entry)) base (base + n - 1)) ⌝ }
+{
+    if 9 <= n {
+        return block_steps_back(ids, base, n);
+    }
+    few_steps_back(ids, base, n)
+}
+
 // Whether each id is above the one before it. Mostly all steps are small, and one test tells: bits that every step back has set are left,
 // and ids that went round end below the first.
 pub fn ids_rise(ids: &[u32], base: usize, n: usize) -> bool
@@ -87,12 +156,7 @@ pub fn ids_rise(ids: &[u32], base: usize, n: usize) -> bool
     if n < 2 {
         return true;
     }
-    let mut back = 4_294_967_295u32;
-    let mut i = 1;
-    while i < n {
-        back = back & std::num::wrapping_sub_u32(ids[base + i - 1], ids[base + i]);
-        i += 1;
-    }
+    let back = steps_back(ids, base, n);
     if (SMALL_STEPS_BACK <= back) & (ids[base] < ids[base + n - 1]) {
         return true;
     }

@@ -8,13 +8,13 @@ use Rattle.decimal.specs.declared.Number.the-variants as Number
 use Rattle.decimal.proofs.Numbers.{widened-value, widened-none}
 use Rattle.fields.specs.Field.{numberField, withNumber, later}
 use Rattle.fields.specs.Keys.{idKey}
-use Rattle.fields.proofs.Fields.{end-inside}
+use Rattle.fields.proofs.Fields.{number-field-within, end-inside}
 use Rattle.commands.specs.ReadLine.{widestId, displayLineOf}
 use Rattle.commands.proofs.display_line.Statement.{statement}
 use Rattle.commands.proofs.display_line.Tie as tie
 
 number-field-requires : tie.Need-number-field-requires
-number-field-requires c κs = tt
+number-field-requires c κs = let b = c .before .before in (omega arith, b .pre .0, b .pre .1)
 
 enum-known-display : tie.Need-enum-known-display
 enum-known-display c = c .match .keys1
@@ -39,7 +39,7 @@ slice-aggregate-wide-field : tie.Need-slice-aggregate-wide-field
 slice-aggregate-wide-field c = refl
 
 wide-field-requires : tie.Need-wide-field-requires
-wide-field-requires c κs = tt
+wide-field-requires c κs = (number-field-within _ _ _ _ _ _ (display-read (c .before .before)), omega arith)
 
 enum-known-id : tie.Need-enum-known-id
 enum-known-id c = c .match2 .keys1

@@ -1,6 +1,6 @@
 -- `decimal::scan` meets its contract: in the loop what is left of the run makes the whole.
 use mathlib.Core.Logic.{⊎-elim}
-use Prim.Native.Nat.{ℕ, _+_, _-_, _*_, _<_, _≤_, _^_}
+use Prim.Native.Nat.{ℕ, _+_, _-_, _*_, _<_, _^_}
 use native.Mathlib.Numerals.{add-one}
 use native.Mathlib.Omega.{arith}
 use lib.ListN.{length, getD}
@@ -10,13 +10,13 @@ use Rattle.decimal.proofs.scan.Statement.{statement}
 use Rattle.decimal.proofs.scan.Tie as tie
 
 abbrev Inv-loop : tie.InvT-loop
-Inv-loop s at value₀ i₀ value i = (value < 2 ^ 64) × Scanned s 0 at i value
+Inv-loop s at value₀ i₀ value i = (value < 2 ^ 64) × Scanned s at i value
 
 abbrev μ-loop : tie.MeasureT-loop
 μ-loop s at value₀ i₀ value i = length s - i
 
 loop-holds : tie.Need-loop-holds Inv-loop μ-loop
-loop-holds c = (omega arith, scanned-none (c .before .args .s .now) 0 (c .before .args .at))
+loop-holds c = (omega arith, scanned-none (c .before .args .s .now) (c .before .args .at))
 
 shared-slice-read-b : tie.Need-shared-slice-read-b Inv-loop μ-loop
 shared-slice-read-b c = omega arith
@@ -42,12 +42,12 @@ next c = c .before .before .before .before .before .loop .value * 10 + c .wide .
 
 with-digit : (c : tie.After-wide Inv-loop μ-loop) →
     let b = c .before .before .before .before .before in
-    Scanned (b .before .before .args .s .now) 0 (b .before .before .args .at) (b .loop .i + 1) (next c)
+    Scanned (b .before .before .args .s .now) (b .before .before .args .at) (b .loop .i + 1) (next c)
 with-digit c =
     let a = c .before .before .before .before .before .before .before .args in
     let l = c .before .before .before .before .before .loop in
     let e = is-digit (getD (a .s .now) (l .i) 0) (omega arith) (omega arith) in
-    rw add-one (scanned-digit (a .s .now) 0 (a .at) (l .i) (l .value) (l .inv .1) (next c) (omega arith) e (omega arith))
+    rw add-one (scanned-digit (a .s .now) (a .at) (l .i) (l .value) (l .inv .1) (next c) (omega arith) e (omega arith))
 
 returns-3 : tie.Need-returns-3 Inv-loop μ-loop
 returns-3 c = scanned-past _ _ _ _ (with-digit (c .before .before)) (omega arith)

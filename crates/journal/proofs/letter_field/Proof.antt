@@ -9,13 +9,15 @@ use Rattle.fields.proofs.Keys.{starts-room}
 use Rattle.journal.proofs.letter_field.Statement.{statement}
 use Rattle.journal.proofs.letter_field.Tie as tie
 
-has-short-key-requires : tie.Need-has-short-key-requires
-has-short-key-requires c κs = c .before .before .pre
+has-key-requires : tie.Need-has-key-requires
+has-key-requires c κs =
+    let start = c .before .before in
+    (start .pre .0, start .pre .1)
 
 add-letter-at : tie.Need-add-letter-at
 add-letter-at c =
     let a = c .before .before .before .before .args in
-    let stands : startsWith (a .key .now) (drop (a .at) (a .s .now)) ≡ true = sym (c .before .has-short-key .ensures) ∙ c .if1 .taken in
+    let stands : startsWith (a .key .now) (drop (a .at) (a .s .now)) ≡ true = sym (c .before .has-key .ensures) ∙ c .if1 .taken in
     omega (arith, starts-room (a .key .now) (drop (a .at) (a .s .now)) stands, length-drop (a .at) (a .s .now))
 
 letter-at-requires : tie.Need-letter-at-requires
@@ -25,15 +27,15 @@ returns : tie.Need-returns
 unfolding letterField
 returns c =
     let a = c .before .before .before .before .before .args in
-    let stands : startsWith (a .key .now) (drop (a .at) (a .s .now)) ≡ true = sym (c .before .before .has-short-key .ensures) ∙ c .before .if1 .taken in
+    let stands : startsWith (a .key .now) (drop (a .at) (a .s .now)) ≡ true = sym (c .before .before .has-key .ensures) ∙ c .before .if1 .taken in
     rw stands (c .letter-at .ensures)
 
 returns-2 : tie.Need-returns-2
 unfolding letterField
 returns-2 c =
     let a = c .before .before .before .before .args in
-    let fails : startsWith (a .key .now) (drop (a .at) (a .s .now)) ≡ false = sym (c .before .has-short-key .ensures) ∙ c .if1 .left in
+    let fails : startsWith (a .key .now) (drop (a .at) (a .s .now)) ≡ false = sym (c .before .has-key .ensures) ∙ c .if1 .left in
     rw fails
 
 pub letter-field-spec : {M : Type 1} → statement M
-letter-field-spec = tie.close (tie.spec has-short-key-requires add-letter-at letter-at-requires returns returns-2)
+letter-field-spec = tie.close (tie.spec has-key-requires add-letter-at letter-at-requires returns returns-2)

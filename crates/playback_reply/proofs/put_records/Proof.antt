@@ -7,10 +7,11 @@ use Prim.Native.Nat.{_+_, _*_, _-_, _≤_}
 use lib.ListN.{length}
 use Rattle.area.proofs.Laid.{laid-none}
 use Rattle.area.proofs.Runs.{LaidTo}
+use Rattle.endian.proofs.LittleEndian.{AreBytes}
 use Rattle.record.specs.Sizes.{recordBytes}
 use Rattle.record_text.specs.Sizes.{longestRecordText}
 use Rattle.playback_reply.specs.Reply.{recordLines}
-use Rattle.playback_reply.proofs.Records.{recordLines-short, laid-more}
+use Rattle.playback_reply.proofs.Records.{room-more, laid-more}
 use Rattle.playback_reply.proofs.put_records.Statement.{statement}
 use Rattle.playback_reply.proofs.put_records.Tie as tie
 
@@ -20,6 +21,16 @@ Inv-loop out₀ at area n place₀ i₀ out place i =
 
 abbrev μ-loop : tie.MeasureT-loop
 μ-loop out₀ at area n place₀ i₀ out place i = n - i
+
+-- the places on the way, each from the one behind it; the area's numbers are bytes
+abbrev start : tie.At-loop Inv-loop μ-loop → tie.Start Inv-loop μ-loop
+start c = c .before .before .before
+
+abbrev turn : tie.After-put-record-arg2 Inv-loop μ-loop → tie.At-loop Inv-loop μ-loop
+turn c = c .before .before .before
+
+bounded : (c : tie.At-loop Inv-loop μ-loop) → AreBytes (start c .args .area .now)
+bounded c = λ i. omega (arith, c .before .shared-slice-known .given i)
 
 loop-holds : tie.Need-loop-holds Inv-loop μ-loop
 unfolding recordLines
@@ -33,20 +44,20 @@ mul-start c = omega arith
 add-end : tie.Need-add-end Inv-loop μ-loop
 add-end c = omega arith
 
-sub-put-text : tie.Need-sub-put-text Inv-loop μ-loop
-sub-put-text c = omega arith
+sub-put-record : tie.Need-sub-put-record Inv-loop μ-loop
+sub-put-record c = omega arith
 
-part-put-text-start : tie.Need-part-put-text-start Inv-loop μ-loop
-part-put-text-start c = search needs
+part-put-record-start : tie.Need-part-put-record-start Inv-loop μ-loop
+part-put-record-start c = search needs
 
-part-put-text-end : tie.Need-part-put-text-end Inv-loop μ-loop
-part-put-text-end c = omega arith
+part-put-record-end : tie.Need-part-put-record-end Inv-loop μ-loop
+part-put-record-end c = omega arith
 
-put-text-requires : tie.Need-put-text-requires Inv-loop μ-loop
-put-text-requires c κs =
-    let l = c .before .before .before .loop in
-    let a = c .before .before .before .before .before .before .args in
-    omega (arith, recordLines-short (l .i) (a .area .now) (λ i. omega (arith, c .before .before .before .before .shared-slice-known .given i)))
+put-record-requires : tie.Need-put-record-requires Inv-loop μ-loop
+put-record-requires c κs =
+    let l = turn c .loop in
+    let a = start (turn c) .args in
+    room-more (a .area .now) (l .out) (a .at) (l .i) (a .n) _ (bounded (turn c)) (omega arith) (l .inv .2) (l .inv .4 .0)
 
 add-i : tie.Need-add-i Inv-loop μ-loop
 add-i c = omega arith
@@ -56,11 +67,11 @@ loop-less c = omega arith
 
 loop-again : tie.Need-loop-again Inv-loop μ-loop
 loop-again c =
-    let a = c .before .before .before .before .before .before .before .before .before .args in
-    let l = c .before .before .before .before .before .before .loop in
-    let p = c .before .before .put-text in
-    let more = laid-more (a .out .now) (a .area .now) (a .at) (l .i) (l .inv .4) (p .ensures) in
-    rw add-one (omega arith, l .inv .1, omega (arith, p .kept .0), omega (arith, p .kept .0), more)
+    let p = c .before .before in
+    let l = turn (p .before) .loop in
+    let a = start (turn (p .before)) .args in
+    let more = laid-more (a .out .now) (a .area .now) (a .at) (l .i) (l .inv .4) (p .put-record .ensures) in
+    rw add-one (omega arith, l .inv .1, omega (arith, p .put-record .kept .0), omega (arith, p .put-record .kept .0), more)
 
 same-length : tie.Need-same-length Inv-loop μ-loop
 same-length c = omega arith
@@ -68,7 +79,7 @@ same-length c = omega arith
 returns : tie.Need-returns Inv-loop μ-loop
 returns c =
     let l = c .before .loop in
-    let end : l .i ≡ c .before .before .before .before .args .n = omega arith in
+    let end : l .i ≡ start (c .before) .args .n = omega arith in
     rw end at (l .inv .4)
 
 pub put-records-spec : {M : Type 1} → statement M
@@ -80,10 +91,10 @@ put-records-spec =
     loop-holds
     mul-start
     add-end
-    sub-put-text
-    part-put-text-start
-    part-put-text-end
-    put-text-requires
+    sub-put-record
+    part-put-record-start
+    part-put-record-end
+    put-record-requires
     add-i
     loop-less
     loop-again

@@ -11,7 +11,7 @@ use Rattle.decimal.specs.declared.Number.the-variants as Number
 use Rattle.decimal.specs.declared.Integer.the-variants as Integer
 use Rattle.fields.specs.Field.{numberField, integerField, withNumber, withInteger, first, later}
 use Rattle.fields.specs.Keys.{linesKey, bucketKey, windowKey, holdKey, lowKey, highKey, displaysKey}
-use Rattle.fields.proofs.Fields.{integer-field-sound, end-inside}
+use Rattle.fields.proofs.Fields.{integer-field-sound, number-field-within, integer-field-within, end-inside}
 use Rattle.settings.specs.ReadLine.{settingsAt}
 use Rattle.settings.proofs.settings_at.Statement.{statement}
 use Rattle.settings.proofs.settings_at.Tie as tie
@@ -20,7 +20,9 @@ slice-aggregate-number-field : tie.Need-slice-aggregate-number-field
 slice-aggregate-number-field c = refl
 
 number-field-requires : tie.Need-number-field-requires
-number-field-requires c κs = tt
+number-field-requires c κs =
+    let b = c .before .before in
+    (b .pre .0, omega arith, b .pre .1)
 
 enum-known-lines : tie.Need-enum-known-lines
 enum-known-lines c = c .match .keys1
@@ -45,7 +47,9 @@ slice-aggregate-number-field-2 : tie.Need-slice-aggregate-number-field-2
 slice-aggregate-number-field-2 c = refl
 
 number-field-requires-2 : tie.Need-number-field-requires-2
-number-field-requires-2 c κs = tt
+number-field-requires-2 c κs =
+    let r = c .before .before in
+    (number-field-within _ _ _ _ _ _ (lines-read r), omega arith, start r .pre .1)
 
 enum-known-bucket : tie.Need-enum-known-bucket
 enum-known-bucket c = c .match2 .keys1
@@ -72,7 +76,9 @@ slice-aggregate-number-field-3 : tie.Need-slice-aggregate-number-field-3
 slice-aggregate-number-field-3 c = refl
 
 number-field-requires-3 : tie.Need-number-field-requires-3
-number-field-requires-3 c κs = tt
+number-field-requires-3 c κs =
+    let r = c .before .before in
+    (number-field-within _ _ _ _ _ _ (bucket-read r), omega arith, start (lines r) .pre .1)
 
 enum-known-window : tie.Need-enum-known-window
 enum-known-window c = c .match3 .keys1
@@ -99,7 +105,9 @@ slice-aggregate-number-field-4 : tie.Need-slice-aggregate-number-field-4
 slice-aggregate-number-field-4 c = refl
 
 number-field-requires-4 : tie.Need-number-field-requires-4
-number-field-requires-4 c κs = tt
+number-field-requires-4 c κs =
+    let r = c .before .before in
+    (number-field-within _ _ _ _ _ _ (window-read r), omega arith, start (lines (bucket r)) .pre .1)
 
 enum-known-hold : tie.Need-enum-known-hold
 enum-known-hold c = c .match4 .keys1
@@ -126,7 +134,9 @@ slice-aggregate-integer-field : tie.Need-slice-aggregate-integer-field
 slice-aggregate-integer-field c = refl
 
 integer-field-requires : tie.Need-integer-field-requires
-integer-field-requires c κs = tt
+integer-field-requires c κs =
+    let r = c .before .before in
+    (number-field-within _ _ _ _ _ _ (hold-read r), omega arith, start (lines (bucket (window r))) .pre .1)
 
 enum-known-low : tie.Need-enum-known-low
 enum-known-low c = c .match5 .keys1
@@ -153,7 +163,9 @@ slice-aggregate-integer-field-2 : tie.Need-slice-aggregate-integer-field-2
 slice-aggregate-integer-field-2 c = refl
 
 integer-field-requires-2 : tie.Need-integer-field-requires-2
-integer-field-requires-2 c κs = tt
+integer-field-requires-2 c κs =
+    let r = c .before .before in
+    (integer-field-within _ _ _ _ _ (low-read r), omega arith, start (lines (bucket (window (hold r)))) .pre .1)
 
 enum-known-high : tie.Need-enum-known-high
 enum-known-high c = c .match6 .keys1
@@ -180,7 +192,9 @@ slice-aggregate-number-field-5 : tie.Need-slice-aggregate-number-field-5
 slice-aggregate-number-field-5 c = refl
 
 number-field-requires-5 : tie.Need-number-field-requires-5
-number-field-requires-5 c κs = tt
+number-field-requires-5 c κs =
+    let r = c .before .before in
+    (integer-field-within _ _ _ _ _ (high-read r), omega arith, start (lines (bucket (window (hold (low r))))) .pre .1)
 
 enum-known-displays : tie.Need-enum-known-displays
 enum-known-displays c = c .match7 .keys1
