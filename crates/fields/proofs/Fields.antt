@@ -7,22 +7,20 @@ use native.Mathlib.Omega.{arith}
 use native.Mathlib.Nat.{add-zero}
 use native.Mathlib.Numerals.{add-one}
 use lib.IntN.{ℤ}
-use lib.ListN.{length, getD, drop, length-append, length-drop, List·getD-eq-default}
+use lib.ListN.{length, getD, drop, length-append, List·getD-eq-default}
 use lib.Seq.{drop-cons, getD-drop, drop-append-seam}
 use borrow.Author.Tests.{eq-eqb, eqb-true}
 use mir.Syntax.{w32}
 use mir.Val.{SFits}
 use Rattle.decimal.specs.Decimal.{digits, decimal}
-use Rattle.decimal.specs.Spelled.{isDigit, NoDigit, Ended, numberAt, integerAt, widened}
+use Rattle.decimal.specs.Spelled.{isDigit, NoDigit, Ended, numberAt, integerAt}
 use Rattle.decimal.specs.declared.Number.{Number}
 use Rattle.decimal.specs.declared.Number.the-variants as Number
-use Rattle.decimal.specs.declared.WideNumber.the-variants as WideNumber
 use Rattle.decimal.specs.declared.Integer.{Integer}
 use Rattle.decimal.specs.declared.Integer.the-variants as Integer
-use Rattle.decimal.proofs.Runs.{run-short}
-use Rattle.decimal.proofs.Numbers.{spelled, number-run, widened-value}
+use Rattle.decimal.proofs.Numbers.{number-end}
 use Rattle.decimal.proofs.NumberText.{number-sound, number-complete}
-use Rattle.decimal.proofs.Integers.{integer-sound, integer-complete}
+use Rattle.decimal.proofs.Integers.{integer-sound, integer-complete, integer-end}
 use Rattle.fields.specs.Line.{lineOf}
 use Rattle.fields.specs.Field.{startsWith, endsLine, numberField, integerField, withNumber, withInteger}
 use Rattle.fields.proofs.Keys.{starts-sound, starts-complete}
@@ -113,24 +111,15 @@ pub number-field-within :
     (key : List ℕ) (most : ℕ) (s : List ℕ) (at v e : ℕ) → numberField key most s at ≡ Number.Value v e → e ≤ length s
 unfolding numberField
 number-field-within key most s at v e q =
-    let t = drop (at + length key) s in
-    let read =
-    picked (startsWith key (drop at s)) (numberAt most s (at + length key)) Number.Malformed (Number.Value v e) q (no-number v e) .1 in
-    let run = number-run most s (at + length key) v e read in
-    omega (arith, run .3, spelled t (run .0) .0, run-short t, length-drop (at + length key) s)
-
-pub wide-field-within :
-    (key : List ℕ) (most : ℕ) (s : List ℕ) (at v e : ℕ) → widened (numberField key most s at) ≡ WideNumber.Value v e → e ≤ length s
-wide-field-within key most s at v e q =
-    number-field-within key most s at v e (widened-value (numberField key most s at) v e q)
+    number-end most s (at + length key) v e
+    (picked (startsWith key (drop at s)) (numberAt most s (at + length key)) Number.Malformed (Number.Value v e) q (no-number v e) .1)
 
 pub integer-field-within :
     (key s : List ℕ) (at : ℕ) (v : ℤ) (e : ℕ) → integerField key s at ≡ Integer.Value v e → e ≤ length s
 unfolding integerField
 integer-field-within key s at v e q =
-    integer-sound s (at + length key) v e
+    integer-end s (at + length key) v e
     (picked (startsWith key (drop at s)) (integerAt s (at + length key)) Integer.Malformed (Integer.Value v e) q (no-integer v e) .1)
-    .3
 
 -- what a chain of fields answers, if it is not `none`, it answers behind a field that was read
 module _ {A G : Type 0} (none x : A) (differs : none ≡ x → ⊥) where
