@@ -5,7 +5,7 @@ use mathlib.Core.Path.{◌≡◌, refl, sym, ◌∙◌, ap}
 use mathlib.Core.Bool.{true, false, not, ◌&&◌}
 use mathlib.Core.List.{List, [], ◌∷◌, map}
 use native.Mathlib.Omega.{arith}
-use borrow.Author.Tests.{eqb-true, eq-eqb, not_false, lt-ltb}
+use borrow.Author.Tests.{eqb-true, eq-eqb, not-false, lt-ltb}
 use lib.Dec.{leb}
 use lib.ListN.{length, get_or, set, length-take}
 use Rattle.area.specs.Laid.{in_front}
@@ -78,7 +78,7 @@ module _ (s : Settings) (n : Node) (k : Call) where
   input_done Kind.B e h = ((line_iff s k.line).0 e, refl)
   input_done Kind.U e h = ((line_iff s k.line).0 e, refl)
   input_done Kind.R e h = ((line_iff s k.line).0 e, refl)
-  input_done Kind.P e h = absurd (h (eqb-true _ _ (not_false _ e)))
+  input_done Kind.P e h = absurd (h (eqb-true _ _ (not-false _ e)))
 
 -- ---- laid down
 

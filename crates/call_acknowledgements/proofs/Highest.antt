@@ -4,7 +4,7 @@ use mathlib.Core.Path.{◌≡◌, sym, ◌∙◌, ap}
 use mathlib.Core.Bool.{◌&&◌}
 use mathlib.Core.List.{List, [], ◌∷◌, ◌++◌}
 use native.Mathlib.Omega.{arith}
-use borrow.Author.Tests.{leb_true, le-leb}
+use borrow.Author.Tests.{leb-true, le-leb}
 use lib.Dec.{leb}
 use lib.ListN.{length, take, get_or}
 use lib.Seq.{take-suc}
@@ -17,11 +17,11 @@ use Rattle.call_acknowledgements.specs.SpanOf.{greatest_of}
 leb_max : (n a b : ℕ) → leb (max a b) n ≡ leb a n && leb b n
 leb_max n a b =
     both_ways (leb (max a b) n) (leb a n && leb b n)
-    (λ e. let h : max a b ≤ n = leb_true _ _ e in rw (le-leb a n (omega arith), le-leb b n (omega arith)))
+    (λ e. let h : max a b ≤ n = leb-true _ _ e in rw (le-leb a n (omega arith), le-leb b n (omega arith)))
     (λ e.
     let (h, g) = and_parts (leb a n) (leb b n) e in
-    let first : a ≤ n = leb_true _ _ h in
-    let second : b ≤ n = leb_true _ _ g in
+    let first : a ≤ n = leb-true _ _ h in
+    let second : b ≤ n = leb-true _ _ g in
     le-leb (max a b) n (omega arith))
 
 pub all_at_most : (n : ℕ) (ids : List ℕ) → all_of (λ (id : ℕ). leb id n) ids ≡ leb (greatest_of ids) n

@@ -1,7 +1,7 @@
 -- Ids near the newest stable one: all of them, exactly if the greatest is not above it and the least not more than 512 below it.
 use Prim.Native.Nat.{ℕ, ◌+◌, ◌-◌, ◌≤◌, ◌<◌, min}
 use mathlib.Core.Path.{◌≡◌, refl, sym, ◌∙◌, ap}
-use mathlib.Core.Bool.{Bool, true, false, ◌&&◌, and-true, and_false}
+use mathlib.Core.Bool.{Bool, true, false, ◌&&◌, and-true, and-false}
 use mathlib.Core.List.{List, [], ◌∷◌}
 use native.Mathlib.Omega.{arith}
 use borrow.Author.Tests.{le-leb, lt-leb}
@@ -19,7 +19,7 @@ use Rattle.call_acknowledgements.proofs.Highest.{all_at_most}
 
 and_crossed : (a b c d : Bool) → (a && b) && (c && d) ≡ (a && c) && (b && d)
 and_crossed true true c d = refl
-and_crossed true false c d = sym (and_false c)
+and_crossed true false c d = sym (and-false c)
 and_crossed false b c d = refl
 
 -- the two sides of the test, each for all ids at once

@@ -4,7 +4,7 @@ use mathlib.Core.Path.{◌≡◌}
 use mathlib.Core.Bool.{Bool, true, false, not, ◌&&◌, ◌||◌}
 use mathlib.Core.List.{List}
 use native.Mathlib.Omega.{arith}
-use borrow.Author.Tests.{leb_true, not_false}
+use borrow.Author.Tests.{leb-true, not-false}
 use lib.Dec.{leb, ltb}
 use lib.ListN.{take, get_or}
 use lib.Seq.{get_or-take}
@@ -33,8 +33,8 @@ pub record Inside (displays display : ℕ) : Type 0 where
 
 pub inside : (displays display : ℕ) → is_outside displays display ≡ false → Inside displays display
 inside displays display e =
-    let parts = and_parts (leb 1 display) (leb display displays) (not_false _ e) in
-    record { first = leb_true _ _ parts.0; last = leb_true _ _ parts.1 }
+    let parts = and_parts (leb 1 display) (leb display displays) (not-false _ e) in
+    record { first = leb-true _ _ parts.0; last = leb-true _ _ parts.1 }
 
 module _ (s : Settings) (n : Node) (displays newest display id : ℕ) (same : s.displays ≡ displays) (known : newest_stable n ≡ newest) where
   numbered : wrong_display s display ≡ is_outside displays display

@@ -4,7 +4,7 @@ use Prim.Native.Nat.{ℕ, ◌-◌, ◌≤◌, ◌<◌}
 use mathlib.Core.Path.{◌≡◌, refl, sym, ◌∙◌}
 use mathlib.Core.Bool.{Bool, true, false, not, ◌&&◌}
 use mathlib.Core.List.{List}
-use borrow.Author.Tests.{lt-ltb, le-ltb, ltb-false, not-true, not_false}
+use borrow.Author.Tests.{lt-ltb, le-ltb, ltb-false, not-true, not-false}
 use lib.ListN.{length}
 use Rattle.store.specs.Columns.{Columns}
 use Rattle.protocol.specs.Tests.{first_failed}
@@ -47,7 +47,7 @@ module _ (st : Held) (x : Columns) (sent area : List ℕ) (short : Bool) (found 
       module _ (is : not shaped ≡ false) (held : Bool) (looked : held ≡ displays_ok st && sent_ok st sent) where
         pub out_of_places : not held ≡ true → 4 ≡ first_failed (host_tests st (lent_of x sent) area)
         unfolding host_tests first_failed is_short in_shape
-        out_of_places e = rw (← found, long, le-ltb (length sent) held_bytes room, ← tested, not_false shaped is, ← looked, e)
+        out_of_places e = rw (← found, long, le-ltb (length sent) held_bytes room, ← tested, not-false shaped is, ← looked, e)
 
         pub short_area : not held ≡ false → length area < area_bytes → 5 ≡ first_failed (host_tests st (lent_of x sent) area)
         unfolding host_tests first_failed is_short in_shape
@@ -57,7 +57,7 @@ module _ (st : Held) (x : Columns) (sent area : List ℕ) (short : Bool) (found 
               long,
               le-ltb (length sent) held_bytes room,
               ← tested,
-              not_false shaped is,
+              not-false shaped is,
               ← looked,
               e,
               lt-ltb (length area) area_bytes h,
@@ -71,7 +71,7 @@ module _ (st : Held) (x : Columns) (sent area : List ℕ) (short : Bool) (found 
               long,
               le-ltb (length sent) held_bytes room,
               ← tested,
-              not_false shaped is,
+              not-false shaped is,
               ← looked,
               e,
               le-ltb (length area) area_bytes h,

@@ -3,11 +3,11 @@
 -- columns.
 use Prim.Native.Nat.{ℕ, ◌+◌, ◌*◌, ◌≤◌, ◌<◌}
 use mathlib.Core.Path.{◌≡◌, refl, sym, ◌∙◌, ap, ap₂}
-use mathlib.Core.Bool.{Bool, true, false, ◌&&◌, and_false}
+use mathlib.Core.Bool.{Bool, true, false, ◌&&◌, and-false}
 use mathlib.Core.List.{List, [], ◌∷◌}
 use native.Mathlib.Numerals.{add-one}
 use native.Mathlib.Omega.{arith}
-use borrow.Author.Tests.{leb_true}
+use borrow.Author.Tests.{leb-true}
 use lib.Dec.{leb, ltb}
 use lib.ListN.{length, get_or, take, drop, drop_of_length-le}
 use lib.Seq.{drop-cons, get_or-take, length-take-le}
@@ -34,7 +34,7 @@ use Rattle.node_heads.proofs.Heads.{head_of_lem, length_heads}
 
 and_exchange : (a b c d : Bool) → (a && b) && (c && d) ≡ (a && c) && (b && d)
 and_exchange true true c d = refl
-and_exchange true false c d = sym (and_false c)
+and_exchange true false c d = sym (and-false c)
 and_exchange false b c d = refl
 
 all_of_and : {A : Type 0} (p q : A → Bool) (xs : List A) → all_of (λ x. p x && q x) xs ≡ all_of p xs && all_of q xs
@@ -56,7 +56,7 @@ rows_ok x base n h =
 
 pub small_head : (h : LineHead) → head_ok h ≡ true → h.kept ≤ readings_per_line
 unfolding head_ok
-small_head h e = leb_true _ _ (and_parts (leb h.kept readings_per_line) (leb h.last_stable_id h.last_id) e).0
+small_head h e = leb-true _ _ (and_parts (leb h.kept readings_per_line) (leb h.last_stable_id h.last_id) e).0
 
 -- ---- the lines left
 
@@ -128,7 +128,7 @@ module _
 
       pub lines_wrong_share : ok ≡ false → false ≡ lines_ok n hs x 0
       lines_wrong_share e =
-          sym (and_false (all_of head_ok (drop i (take n hs)))) ∙ (rw (line_left, e) at (v x lent))
+          sym (and-false (all_of head_ok (drop i (take n hs)))) ∙ (rw (line_left, e) at (v x lent))
 
       pub lines_turn : ok ≡ true → lines_ok n hs x (i + 1) ≡ lines_ok n hs x 0
       lines_turn e = rw (head_left, right, line_left, e) at (v x lent)

@@ -2,7 +2,7 @@
 -- The definition joins them in another order; by cases on the tests.
 use mathlib.Core.Path.{◌≡◌, refl, sym, ◌∙◌}
 use mathlib.Core.Bool.{Bool, true, false, not, ◌&&◌}
-use borrow.Author.Tests.{not-true, not_false}
+use borrow.Author.Tests.{not-true, not-false}
 use lib.ListN.{take}
 use Rattle.settings.specs.Limits.{within_limits}
 use Rattle.store.specs.Lists.{all_of}
@@ -48,14 +48,14 @@ module _ (st : Held) (own : Bool) (found : own ≡ own_in_shape st) where
 
   module _ (right : not own ≡ false) where
     pub own_limits : within_limits st.settings ≡ true
-    own_limits = (and_parts (within_limits st.settings) _ (sym found ∙ not_false own right)).0
+    own_limits = (and_parts (within_limits st.settings) _ (sym found ∙ not-false own right)).0
 
     module _ (x : Columns) (lines : Bool) (tested : lines ≡ lines_in_shape st x) where
       pub wrong_lines : not lines ≡ true → false ≡ state_in_shape st x
-      wrong_lines e = rw (not_false own right, not-true lines e) at (in_parts st x own lines _ found tested refl)
+      wrong_lines e = rw (not-false own right, not-true lines e) at (in_parts st x own lines _ found tested refl)
 
       pub left_to_meters : not lines ≡ false → (meters : Bool) → meters ≡ meters_in_shape st → meters ≡ state_in_shape st x
-      left_to_meters e meters m = rw (not_false own right, not_false lines e) at (in_parts st x own lines meters found tested m)
+      left_to_meters e meters m = rw (not-false own right, not-false lines e) at (in_parts st x own lines meters found tested m)
 
 pub shape_limits : (st : Held) (x : Columns) → state_in_shape st x ≡ true → within_limits st.settings ≡ true
 unfolding state_in_shape

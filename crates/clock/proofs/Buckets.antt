@@ -6,7 +6,7 @@ use mathlib.Core.Logic.{◌↔◌}
 use Prim.Native.Nat.{ℕ, ◌*◌, ◌<◌, ◌≤◌, ◌^◌}
 use native.Mathlib.Omega.{arith}
 use native.Mathlib.Nat.{div-mul-le_self, lt-div-mul-add, div-eq_of_lt-le}
-use borrow.Author.Tests.{leb_true, le-leb}
+use borrow.Author.Tests.{leb-true, le-leb}
 use Rattle.clock.specs.declared.ReadingTime.{ReadingTime}
 use Rattle.clock.specs.Buckets.{bucket_of, bucket_end, finishes}
 
@@ -22,7 +22,7 @@ in_bucket_lem bucket j t p = (
 -- a boundary finishes a bucket exactly if it is at or above the end
 pub finishes_le : (bucket : ℕ) (m : ReadingTime) (j : ℕ) → (finishes bucket m j ≡ true) ↔ (bucket_end bucket j ≤ m.0)
 unfolding finishes
-finishes_le bucket m j = (leb_true (bucket_end bucket j) m.0, le-leb (bucket_end bucket j) m.0)
+finishes_le bucket m j = (leb-true (bucket_end bucket j) m.0, le-leb (bucket_end bucket j) m.0)
 
 -- the end of a finished bucket is a time of 32 bits
 pub finished_end_fits : (bucket : ℕ) (m : ReadingTime) (j : ℕ) → m.0 < 2 ^ 32 → finishes bucket m j ≡ true → bucket_end bucket j < 2 ^ 32

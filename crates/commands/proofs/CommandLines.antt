@@ -9,7 +9,7 @@ use borrow.Author.Tests.{eq-eqb, eqb-true}
 use lib.Dec.{eqb}
 use lib.ListN.{length, drop, length-append}
 use Rattle.decimal.specs.Decimal.{digits, decimal}
-use Rattle.decimal.specs.Spelled.{is_digit_lem}
+use Rattle.decimal.specs.Spelled.{is_digit}
 use Rattle.fields.specs.Keys.{display_key, id_key}
 use Rattle.fields.specs.Line.{field, line_of}
 use Rattle.fields.specs.Field.{ends_line, with_number, later}
@@ -69,7 +69,7 @@ module _ (word : List ℕ) where
   line_complete :
       (text : List ℕ) (display id : ℕ) → IsLine (display_text word) text display id →
       display_line_of start text ≡ DisplayLine.Fields display id
-  unfolding display_line_of stretches with_number is_digit_lem
+  unfolding display_line_of stretches with_number is_digit
   line_complete text display id is =
       let line = display_text word display id in
       let p0 : drop 0 text ≡ stretches display id ++ [] = whole_spelled text line is.2 ∙ ap (λ (t : List ℕ). t ++ []) (text_stretches display id) in

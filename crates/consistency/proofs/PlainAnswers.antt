@@ -5,7 +5,7 @@ use mathlib.Core.Bool.{Bool, true, false, cond, not, ◌&&◌, ◌||◌, true≢
 use mathlib.Core.List.{List}
 use mathlib.Core.Logic.{◌↔◌}
 use native.Mathlib.Omega.{arith}
-use borrow.Author.Tests.{eqb-true, eqb-false, leb_true, ltb-true, ltb-false, lt-ltb, le-ltb, le-leb, eq-eqb, ne_eqb, not_false}
+use borrow.Author.Tests.{eqb-true, eqb-false, leb-true, ltb-true, ltb-false, lt-ltb, le-ltb, le-leb, eq-eqb, ne_eqb, not-false}
 use lib.Dec.{leb, ltb, eqb}
 use lib.ListN.{length}
 use Rattle.clock.specs.declared.ArrivalTick.{ArrivalTick}
@@ -53,7 +53,7 @@ module _ (s : Settings) (area : List ℕ) (display : ℕ) (fits : Type 0) (f : B
   refused_if false = refl
 
   unless : (Named s display) → (not f ≡ false) ↔ fits
-  unless d = (λ e. (is d).0 (not_false _ e), λ p. ap not ((is d).1 p))
+  unless d = (λ e. (is d).0 (not-false _ e), λ p. ap not ((is d).1 p))
 
   pub stated_answer : (answer : ℕ) → answer ≡ answer_if s area display f → Answers area (Named s display) fits answer
   unfolding answer_if
@@ -106,7 +106,7 @@ bare_is clock k = (
       let f = (four_iff k.id k.time.0 k.meter k.value).0 r.1 in
       record {
         kind = (step_is (kind_of k.kind)).0 q.0;
-        on_time = leb_true _ _ q.1;
+        on_time = leb-true _ _ q.1;
         no_line = eqb-true _ _ r.0;
         no_id = f.0;
         no_time = f.1.0;
@@ -184,4 +184,4 @@ module _ (answer : ℕ) (a b c : Bool) (A B C : Type 0) (is_a : (a ≡ true) ↔
   stated_15 t = (λ e. three_all (sym t ∙ eq-eqb _ _ e), λ p. eqb-true _ _ (t ∙ all_three p))
 
 pub whole_area : (area : List ℕ) → (leb 2080 (length area) ≡ true) ↔ (area_bytes ≤ length area)
-whole_area area = (λ e. leb_true _ _ e, λ l. le-leb _ _ l)
+whole_area area = (λ e. leb-true _ _ e, λ l. le-leb _ _ l)

@@ -6,7 +6,7 @@ use mathlib.Core.List.{List, [], ◌∷◌, ◌++◌, map}
 use mathlib.Core.Logic.{◌↔◌}
 use native.Mathlib.Omega.{arith}
 use native.Mathlib.Nat.{mod-lt}
-use borrow.Author.Tests.{leb_true, le-leb}
+use borrow.Author.Tests.{leb-true, le-leb}
 use lib.Dec.{leb}
 use lib.ListN.{length, take, drop, get_or, replicate, length-drop, length-take, length-map, length-replicate, get_or-replicate, get_or-append}
 use lib.Seq.{get_or-take, get_or-drop, get_or-append-add, length-take-le, ext_get_or}
@@ -93,7 +93,7 @@ module _ (h : Handed) (is : List Input) (s : Settings) (y : Run) (last : ℕ →
   held_is n = (
     λ e.
         let p = and_parts (wanted s.displays last n) (leb n (length (results_on s y))) e in
-        let high : n ≤ length (results_on s y) = leb_true _ _ p.1 in
+        let high : n ≤ length (results_on s y) = leb-true _ _ p.1 in
         ((v.wants n).0 p.0, omega (arith, newest_is)),
     λ p. rw ((v.wants n).1 p.0, le-leb n (length (results_on s y)) (omega (arith, p.1, newest_is))),
   )

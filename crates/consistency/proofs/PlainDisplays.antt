@@ -6,7 +6,7 @@ use mathlib.Core.Bool.{Bool, true, false, cond, ◌&&◌, ◌||◌, false≢true
 use mathlib.Core.List.{List, [], ◌∷◌}
 use mathlib.Core.Logic.{◌↔◌}
 use native.Mathlib.Omega.{arith}
-use borrow.Author.Tests.{eqb-true, eqb-false, leb_true, ltb-true, lt-ltb, leb-false}
+use borrow.Author.Tests.{eqb-true, eqb-false, leb-true, ltb-true, lt-ltb, leb-false}
 use lib.Dec.{leb, ltb, eqb}
 use lib.ListN.{length, get_or, set, length-set}
 use lib.Seq.{get_or-set_same, get_or-set_other}
@@ -97,9 +97,9 @@ count_is s a st x (Input.fetch other from area ∷ is) =
 
 -- ---- the least of the displays
 
-or_true : (b : Bool) → b || true ≡ true
-or_true true = refl
-or_true false = refl
+or-true : (b : Bool) → b || true ≡ true
+or-true true = refl
+or-true false = refl
 
 wanted_by : (d : ℕ) (last : ℕ → ℕ) (n j : ℕ) → 1 ≤ j → j ≤ d → last j < n → wanted d last n ≡ true
 unfolding wanted
@@ -109,7 +109,7 @@ wanted_by (suc d) last n j low high e =
       | true ↦ λ q. rw (lt-ltb (last (suc d)) n (subst (λ (i : ℕ). last i < n) (eqb-true _ _ q) e))
       | false ↦ λ q.
           let other : j ≡ suc d → ⊥ = eqb-false _ _ q in
-          rw (wanted_by d last n j low (omega (arith, other)) e) (or_true (ltb (last (suc d)) n))
+          rw (wanted_by d last n j low (omega (arith, other)) e) (or-true (ltb (last (suc d)) n))
     ])
     refl
 
@@ -130,7 +130,7 @@ least_there a (b ∷ ids) =
     let f = least_there b ids in
     (elim (leb a (least_of (b ∷ ids))) as
     (λ t. leb a (least_of (b ∷ ids)) ≡ t → (i : ℕ) × (i < length (a ∷ b ∷ ids)) × (get_or (a ∷ b ∷ ids) i 0 ≡ min a (least_of (b ∷ ids)))) [
-      | true ↦ λ q. let low : a ≤ least_of (b ∷ ids) = leb_true _ _ q in (0, omega arith, omega arith)
+      | true ↦ λ q. let low : a ≤ least_of (b ∷ ids) = leb-true _ _ q in (0, omega arith, omega arith)
       | false ↦ λ q.
           let high : least_of (b ∷ ids) < a = leb-false _ _ q in
           (suc f.0, omega (arith, f.1), (let h : get_or (b ∷ ids) f.0 0 ≡ min a (least_of (b ∷ ids)) = omega (arith, f.2) in h))

@@ -28,7 +28,7 @@ use Rattle.consistency.specs.Runs.{Box, Input, called, left, left_after}
 use Rattle.consistency.specs.Demand.{Handed, opening, is_opened, box_of, remaining, Steps}
 use Rattle.consistency.specs.Plain.{Run, settings_on, run_of, only_steps, accepted_of, left_on}
 use Rattle.consistency.specs.Exactly.{left_in, steps_from, Exactly}
-use Rattle.consistency.specs.PlainExactly.{steps_in, state_after, lowest_of, left_by_lem, PlainExactly}
+use Rattle.consistency.specs.PlainExactly.{steps_in, state_after, lowest_of, left_by, PlainExactly}
 use Rattle.consistency.proofs.Refused.{same_box}
 use Rattle.consistency.proofs.Displays.{acknowledgement_aside, fetched_same}
 use Rattle.consistency.proofs.Plain.{box_on, steps_are, handed_of, opened_left, opened_remaining}
@@ -129,8 +129,8 @@ least_view (suc zero) (h ∷ hs) rs = refl
 least_view (suc (suc n)) (h ∷ []) rs = refl
 least_view (suc (suc n)) (h ∷ g ∷ hs) rs = ap (min h.boundary.0) (least_view (suc n) (g ∷ hs) (drop readings_per_line rs))
 
-left_by_lem : (b : Box) → left_in b ≡ left_by_lem b.state
-unfolding left_in buckets_left left_by_lem view
+left_by_lem : (b : Box) → left_in b ≡ left_by b.state
+unfolding left_in buckets_left left_by view
 left_by_lem b = rw (least_view b.state.settings.lines b.state.heads _)
 
 state_after_lem : (b : Box) (is : List Input) → (left_after b is).state ≡ state_after b.state b.lent is
@@ -145,8 +145,8 @@ state_after_lem b (Input.fetch display from area ∷ is) = state_after_lem (left
 -- from any box on, in the table's words
 module _ (e : Exactly) (st : Held) (x : Lent) (heads : length st.heads ≡ 8) (js : List Input) (only : only_steps st x js ≡ true) where
   anywhere :
-      ((left_by_lem (state_after st x js) ≡ 0) × (is_correcting (state_after st x js).phase ≡ false)) ↔
-      (steps_in st.phase (left_by_lem st) ≤ accepted_of st x js)
+      ((left_by (state_after st x js) ≡ 0) × (is_correcting (state_after st x js).phase ≡ false)) ↔
+      (steps_in st.phase (left_by st) ≤ accepted_of st x js)
   anywhere =
       let b : Box = record { state = st; lent = x } in
       let steps = steps_are st x js only in
@@ -202,7 +202,7 @@ from_any_box_lem p b heads js n steps =
     both _ _ _ _ (p.too_few_anywhere b.state b.lent heads js count.0)
     (p.enough_anywhere b.state b.lent heads js count.0) in
     rw (left_by_lem (left_after b js), state_after_lem b js, left_by_lem b)
-    (Iff.trans (rw count.1 at exact) (Iff.symm (same_count steps (left_by_lem b.state))))
+    (Iff.trans (rw count.1 at exact) (Iff.symm (same_count steps (left_by b.state))))
 
 from_opening :
     PlainExactly → (h : Handed) → is_opened h → (is js : List Input) (n : ℕ) → Steps (left_after (box_of h) is) n js →
@@ -234,6 +234,6 @@ stated_exactly p =
       from_any_box = from_any_box_lem p;
       left_alike = λ h e is.
           left_by_lem (left_after (box_of h) is) ∙
-          ap (λ (b : Box). left_by_lem b.state) (opened_left h.state h.lent h.text is) ∙
+          ap (λ (b : Box). left_by b.state) (opened_left h.state h.lent h.text is) ∙
           p.either_count h.state h.lent h.text e is ∙ sym (opened_remaining h.state h.lent h.text is);
     }

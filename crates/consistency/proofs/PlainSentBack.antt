@@ -7,7 +7,7 @@ use mathlib.Core.Bool.{true, ◌&&◌}
 use mathlib.Core.List.{List, map}
 use mathlib.Core.Logic.{◌↔◌}
 use native.Mathlib.Omega.{arith}
-use borrow.Author.Tests.{leb_true, le-leb}
+use borrow.Author.Tests.{leb-true, le-leb}
 use lib.Dec.{leb}
 use lib.ListN.{length, length-replicate, get_or-replicate}
 use Rattle.settings.specs.declared.Settings.{Settings}
@@ -98,8 +98,8 @@ module _ (h : Handed) (e : is_opened h) (is : List Input) where
       let same : last_of ids display ≡ last display = same_last display d.0 d.1 in (
         λ q.
             let p = and_parts (leb (last display) id) _ q in
-            let low : last display ≤ id = leb_true _ _ p.0 in
-            let high : id ≤ length (results_on s y) = leb_true _ _ p.1 in
+            let low : last display ≤ id = leb-true _ _ p.0 in
+            let high : id ≤ length (results_on s y) = leb-true _ _ p.1 in
             (omega (arith, low, same), omega (arith, high, newest)),
         λ p.
             let low : last display ≤ id = omega (arith, p.0, same) in
@@ -114,7 +114,7 @@ module _ (h : Handed) (e : is_opened h) (is : List Input) where
   fetch_fits from = (
     λ q.
         let p = and_parts (wanted s.displays last from) _ q in
-        let high : from ≤ length (results_on s y) + 1 = leb_true _ _ p.1 in
+        let high : from ≤ length (results_on s y) + 1 = leb-true _ _ p.1 in
         ((wants from).0 p.0, omega (arith, high, newest)),
     λ p.
         let high : from ≤ length (results_on s y) + 1 = omega (arith, p.1, newest) in

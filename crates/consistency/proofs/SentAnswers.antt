@@ -6,7 +6,7 @@ use mathlib.Core.Bool.{Bool, true, false, cond, ◌||◌, true≢false}
 use mathlib.Core.List.{List}
 use mathlib.Core.Logic.{◌↔◌}
 use native.Mathlib.Omega.{arith}
-use borrow.Author.Tests.{ltb-true, ltb-false, leb_true, eqb-true, not_false, le-leb, le-ltb, lt-ltb, lt-leb, leb-false}
+use borrow.Author.Tests.{ltb-true, ltb-false, leb-true, eqb-true, not-false, le-leb, le-ltb, lt-ltb, lt-leb, leb-false}
 use lib.Dec.{leb, ltb, eqb}
 use lib.ListN.{length, length-append}
 use Rattle.clock.specs.declared.ArrivalTick.{ArrivalTick}
@@ -107,7 +107,7 @@ module _ (area : List ℕ) (named fits : Type 0) where
 display_fits : (s : Settings) (display : ℕ) → (wrong_display s display ≡ false) ↔ ((1 ≤ display) × (display ≤ s.displays))
 unfolding wrong_display
 display_fits s display = (
-  λ e. let p = and_parts (leb 1 display) (leb display s.displays) (not_false _ e) in (leb_true _ _ p.0, leb_true _ _ p.1),
+  λ e. let p = and_parts (leb 1 display) (leb display s.displays) (not-false _ e) in (leb-true _ _ p.0, leb-true _ _ p.1),
   λ p. rw (le-leb 1 display p.0, le-leb display s.displays p.1),
 )
 

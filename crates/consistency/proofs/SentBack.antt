@@ -6,7 +6,7 @@ use mathlib.Core.List.{List, [], ◌∷◌, ◌++◌, map}
 use mathlib.Core.Logic.{◌↔◌}
 use native.Mathlib.Omega.{arith}
 use native.Mathlib.Nat.{mod-lt}
-use borrow.Author.Tests.{eqb-true, eqb-false, leb_true, leb-false, ltb-true, ltb-false}
+use borrow.Author.Tests.{eqb-true, eqb-false, leb-true, leb-false, ltb-true, ltb-false}
 use lib.Dec.{leb, ltb, eqb}
 use lib.ListN.{length, take, drop, get_or, replicate, length-drop, get_or-replicate}
 use lib.Seq.{drop-drop, drop_at, take_all, length-take-le}
@@ -61,7 +61,7 @@ use Rattle.consistency.proofs.ShapedRuns.{host_if, host_answer, host_after}
 take_min : {A : Type 0} (m : ℕ) (xs : List A) → take (min m (length xs)) xs ≡ take m xs
 take_min m xs =
     (elim (leb m (length xs)) as (λ b. leb m (length xs) ≡ b → take (min m (length xs)) xs ≡ take m xs) [
-      | true ↦ λ q. ap (λ (n : ℕ). take n xs) (let low : m ≤ length xs = leb_true _ _ q in let z : min m (length xs) ≡ m = omega arith in z)
+      | true ↦ λ q. ap (λ (n : ℕ). take n xs) (let low : m ≤ length xs = leb-true _ _ q in let z : min m (length xs) ≡ m = omega arith in z)
       | false ↦ λ q.
           let high : length xs < m = leb-false _ _ q in
           take_all (min m (length xs)) xs (omega arith) ∙ sym (take_all m xs (omega arith))

@@ -6,7 +6,7 @@ use mathlib.Core.Logic.{◌⊎◌, inl, inr}
 use mathlib.Core.Bool.{Bool, not}
 use mathlib.Core.List.{List, [], ◌∷◌, ◌++◌, map}
 use native.Mathlib.Omega.{arith}
-use borrow.Author.Tests.{leb_true}
+use borrow.Author.Tests.{leb-true}
 use lib.Dec.{leb}
 use lib.ListN.{take, drop}
 use Rattle.settings.specs.declared.Settings.{Settings}
@@ -68,7 +68,7 @@ module _ (k : Call) (l : Line) (h : LineShaped l) (next : k.id ≡ l.last_id + 1
 -- what an undo keeps
 kept_low : (id : ℕ) (rs : List Reading) → Every (UpTo id) (keep (λ (r : Reading). leb r.id id) rs)
 kept_low id rs =
-    every_to (keep (λ (r : Reading). leb r.id id) rs) (λ r e. leb_true r.id id e) (keep_passes (λ (r : Reading). leb r.id id) rs)
+    every_to (keep (λ (r : Reading). leb r.id id) rs) (λ r e. leb-true r.id id e) (keep_passes (λ (r : Reading). leb r.id id) rs)
 
 module _ (s : Settings) (n : Node) (k : Call) (answered : answer_to s n k ≡ 0) (h : LineShaped (named_line n k)) where
   pub line_shaped : (kind : Kind) → kind_of k.kind ≡ kind → LineShaped (on_line k kind (named_line n k))

@@ -39,8 +39,8 @@ lowest_of (n ∷ []) = n
 lowest_of (n ∷ m ∷ ns) = min n (lowest_of (m ∷ ns))
 
 -- the stable buckets that a state has left to work: as many as fit below the boundary of each of its lines, but for c
-unfoldable pub left_by_lem : Held → ℕ
-left_by_lem st =
+unfoldable pub left_by : Held → ℕ
+left_by st =
     lowest_of (map (λ (h : LineHead). h.boundary.0) (take st.settings.lines st.heads)) / st.settings.bucket - st.c
 
 pub record PlainExactly : Type 0 where
@@ -63,14 +63,14 @@ pub record PlainExactly : Type 0 where
   pub too_few_anywhere :
       (st : Held) (x : Lent) → length st.heads ≡ 8 → (js : List Input) →
       only_steps st x js ≡ true →
-      accepted_of st x js < steps_in st.phase (left_by_lem st) →
-      left_by_lem (state_after st x js) ≡ 0 → (state_after st x js).phase ≡ Phase.Correcting
+      accepted_of st x js < steps_in st.phase (left_by st) →
+      left_by (state_after st x js) ≡ 0 → (state_after st x js).phase ≡ Phase.Correcting
   pub enough_anywhere :
       (st : Held) (x : Lent) → length st.heads ≡ 8 → (js : List Input) →
       only_steps st x js ≡ true →
-      steps_in st.phase (left_by_lem st) ≤ accepted_of st x js →
-      (left_by_lem (state_after st x js) ≡ 0) × ((state_after st x js).phase ≡ Phase.Correcting → ⊥)
+      steps_in st.phase (left_by st) ≤ accepted_of st x js →
+      (left_by (state_after st x js) ≡ 0) × ((state_after st x js).phase ≡ Phase.Correcting → ⊥)
   -- and from an opening on what is left is the same by either count
   pub either_count :
       (st : Held) (x : Lent) (text : List ℕ) → (opened_on st x text).answer ≡ 0 → (is : List Input) →
-      left_by_lem (run_of st x text is).state ≡ left_on (settings_on st x text) (run_of st x text is)
+      left_by (run_of st x text is).state ≡ left_on (settings_on st x text) (run_of st x text is)

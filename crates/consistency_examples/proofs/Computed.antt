@@ -10,7 +10,7 @@ use Rattle.signed.specs.Mean.{mean}
 use Rattle.signed.specs.Nearest.{nearest}
 use Rattle.signed.specs.Twos.{twos, signed_of}
 use Rattle.endian.specs.LittleEndian.{little_endian, number_of}
-use Rattle.decimal.specs.Spelled.{is_digit_lem, run_length, run_value, misspelled, number_at, negated, as_integer, integer_at}
+use Rattle.decimal.specs.Spelled.{is_digit, run_length, run_value, misspelled, number_at, negated, as_integer, integer_at}
 use Rattle.fields.specs.Field.{starts_with, ends_line, number_field, integer_field, with_number, with_integer}
 use Rattle.settings.specs.declared.Settings.{Settings}
 use Rattle.settings.specs.declared.SettingsRead.{SettingsRead}
@@ -67,11 +67,11 @@ use Rattle.consistency_examples.proofs.Surely.{itself, surely, noted, gives, Don
 
 -- texts
 unfoldable pub settings_read : List ℕ → SettingsRead
-unfolding settings_of judged limited settings_at within_limits starts_with ends_line number_field integer_field with_number with_integer is_digit_lem run_length run_value misspelled number_at negated integer_at as_integer
+unfolding settings_of judged limited settings_at within_limits starts_with ends_line number_field integer_field with_number with_integer is_digit run_length run_value misspelled number_at negated integer_at as_integer
 settings_read text = settings_of text
 
 unfoldable pub call_read : List ℕ → CallRead
-unfolding call_of whole call_at letter_at letter_field is_letter starts_with ends_line number_field integer_field with_number with_integer is_digit_lem run_length run_value misspelled number_at negated integer_at as_integer
+unfolding call_of whole call_at letter_at letter_field is_letter starts_with ends_line number_field integer_field with_number with_integer is_digit run_length run_value misspelled number_at negated integer_at as_integer
 call_read text = call_of text
 
 -- a call on the node

@@ -62,7 +62,7 @@ pub record Counted : Type 0 where
   pub needed_no_more : steps_from (listed (readings ++ step ∷ step ∷ step ∷ [])).state 0 ≡ 0
   pub correcting_no_more : is_correcting (listed (readings ++ step ∷ step ∷ step ∷ [])).state.phase ≡ false
   -- two steps, one short of enough, and three, a refused call and the display's calls among them
-  pub two_steps_lem : Steps (listed readings) 2 (step ∷ late ∷ step ∷ fetches ∷ acknowledges ∷ [])
+  pub two_steps : Steps (listed readings) 2 (step ∷ late ∷ step ∷ fetches ∷ acknowledges ∷ [])
   pub three_steps : Steps (listed readings) 3 (step ∷ late ∷ step ∷ fetches ∷ acknowledges ∷ step ∷ [])
   -- the host's box: nothing is left below c, and one step ends the correction
   pub made_heads : length made.state.heads ≡ 8

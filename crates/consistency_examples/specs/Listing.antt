@@ -48,9 +48,9 @@ pub record Listing : Type 0 where
   pub before : account_of handed readings ≡ account_before
   pub behind : account_of handed (readings ++ step ∷ step ∷ []) ≡ account_behind
   -- one bucket is left to work, and nothing is owed; two steps later none is, and the stable result is owed
-  pub one_left_lem : remaining handed readings ≡ 1
+  pub one_left : remaining handed readings ≡ 1
   pub none_owed : failure_free_bytes handed readings ≡ []
-  pub none_left_lem : remaining handed (readings ++ step ∷ step ∷ []) ≡ 0
+  pub none_left : remaining handed (readings ++ step ∷ step ∷ []) ≡ 0
   pub one_owed : failure_free_bytes handed (readings ++ step ∷ step ∷ []) ≡ stable ∷ []
   -- as a record it is read off its bytes; a count of 2^32 would be cut to 0
   pub owed_record : failure_free_records handed (readings ++ step ∷ step ∷ []) ≡ counting 2 ∷ []

@@ -10,7 +10,7 @@ use native.Mathlib.Omega.{arith}
 use lib.ListN.{length, get_or, drop, take, take-append-drop}
 use lib.Seq.{append_snoc, drop-drop, drop-append_seam, length-take-le}
 use Rattle.decimal.specs.Decimal.{digits_within, digits}
-use Rattle.decimal.specs.Spelled.{is_digit_lem, NoDigit, run_length, run_value, misspelled, number_at}
+use Rattle.decimal.specs.Spelled.{is_digit, NoDigit, run_length, run_value, misspelled, number_at}
 use Rattle.decimal.specs.declared.Number.TheVariants as Number
 use Rattle.decimal.proofs.Digits.{one_or_more, within_one, within_more, tenth_below, digits_one, digits_behind, digits_some, length_snoc}
 use Rattle.decimal.proofs.Runs.{is_digit_lem, digit_range, no_run, no_value, run_begins, run_digit, value_digit, run_short, value_grows}
@@ -24,7 +24,7 @@ run_behind :
 unfolding run_value run_length
 run_behind a [] z h = sym (append-nil (digits a))
 run_behind a (b ∷ t) z h =
-    (elim (is_digit_lem b) as (λ x. is_digit_lem b ≡ x → digits (run_value a (b ∷ t)) ≡ digits a ++ take (run_length (b ∷ t)) (b ∷ t)) [
+    (elim (is_digit b) as (λ x. is_digit b ≡ x → digits (run_value a (b ∷ t)) ≡ digits a ++ take (run_length (b ∷ t)) (b ∷ t)) [
       | true ↦ λ e.
           let d = b - 48 in
           let l : run_value (a * 10 + d) t < 10 ^ 20 = rw (value_digit a b t e) at h in
@@ -44,7 +44,7 @@ spelled_text : (t : List ℕ) → misspelled t ≡ false → run_value 0 t < 10 
 spelled_text [] m h = absurd (omega (arith, (spelled [] m).0, run_short []))
 spelled_text (b ∷ t) m h =
     let p = spelled (b ∷ t) m in
-    let e : is_digit_lem b ≡ true = run_begins (b ∷ t) p.0 in
+    let e : is_digit b ≡ true = run_begins (b ∷ t) p.0 in
     let r = digit_range b e in
     let k : 48 + (b - 48) ≡ b = omega arith in
     let v : run_value 0 (b ∷ t) ≡ run_value (b - 48) t = value_digit 0 b t e ∙ ap (λ (n : ℕ). run_value n t) (omega arith) in
@@ -79,7 +79,7 @@ ReadsAs v d =
 
 reads_one : (v : ℕ) → v < 10 → ReadsAs v ((48 + v) ∷ [])
 reads_one v h r =
-    let e : is_digit_lem (48 + v) ≡ true = is_digit_lem (48 + v) (omega arith) (omega arith) in (
+    let e : is_digit (48 + v) ≡ true = is_digit_lem (48 + v) (omega arith) (omega arith) in (
       omega (arith, run_digit (48 + v) r e),
       value_digit 0 (48 + v) r e ∙ ap (λ (n : ℕ). run_value n r) (omega arith),
       λ q. omega arith,
@@ -88,7 +88,7 @@ reads_one v h r =
 reads_more : (v : ℕ) (d : List ℕ) → 10 ≤ v → ReadsAs (v / 10) d → ReadsAs v (d ++ ((48 + v % 10) ∷ []))
 reads_more v d g i r =
     let b = 48 + v % 10 in
-    let e : is_digit_lem b ≡ true = is_digit_lem b (omega arith) (omega arith) in
+    let e : is_digit b ≡ true = is_digit_lem b (omega arith) (omega arith) in
     let p = i (b ∷ r) in
     rw (append_snoc d b r) (
       omega (arith, p.0, run_digit b r e, length_snoc d b),
@@ -109,7 +109,7 @@ unfolding digits
 digits_read v h = within_reads 19 v h
 
 -- the text of a number begins with a digit
-pub digits_begin : (v : ℕ) (r : List ℕ) → v < 10 ^ 20 → is_digit_lem (get_or (digits v ++ r) 0 0) ≡ true
+pub digits_begin : (v : ℕ) (r : List ℕ) → v < 10 ^ 20 → is_digit (get_or (digits v ++ r) 0 0) ≡ true
 digits_begin v r h = run_begins (digits v ++ r) (omega (arith, (digits_read v h r).0, digits_some v))
 
 -- a number that stands there, with no digit behind it, is read

@@ -1,6 +1,6 @@
 -- Laws on the number that a text spells from a place on, by the run of digits that stands there.
 use mathlib.Core.Path.{◌≡◌, refl}
-use mathlib.Core.Bool.{Bool, true, false, cond, ◌&&◌, ◌||◌, or_true}
+use mathlib.Core.Bool.{Bool, true, false, cond, ◌&&◌, ◌||◌, or-true}
 use mathlib.Core.List.{List}
 use Prim.Native.Nat.{ℕ, ◌+◌, ◌<◌, ◌≤◌}
 use native.Mathlib.Omega.{arith}
@@ -24,7 +24,7 @@ no_digits t e = rw (eq-eqb (run_length t) 0 e)
 
 pub leading_zero : (t : List ℕ) → get_or t 0 0 ≡ 48 → 1 < run_length t → misspelled t ≡ true
 unfolding misspelled
-leading_zero t e h = rw (eq-eqb (get_or t 0 0) 48 e, lt-ltb 1 (run_length t) h) (or_true (eqb (run_length t) 0))
+leading_zero t e h = rw (eq-eqb (get_or t 0 0) 48 e, lt-ltb 1 (run_length t) h) (or-true (eqb (run_length t) 0))
 
 pub well_spelled : (t : List ℕ) → 0 < run_length t → (get_or t 0 0 ≡ 48 → run_length t ≤ 1) → misspelled t ≡ false
 unfolding misspelled
@@ -49,7 +49,7 @@ module _ (most : ℕ) (s : List ℕ) (at : ℕ) where
 
   pub number_past : most < run_value 0 (drop at s) → number_at most s at ≡ Number.Malformed
   unfolding number_at
-  number_past h = rw (lt-ltb most (run_value 0 (drop at s)) h, or_true)
+  number_past h = rw (lt-ltb most (run_value 0 (drop at s)) h, or-true)
 
   pub number_value :
       misspelled (drop at s) ≡ false → run_value 0 (drop at s) ≤ most →

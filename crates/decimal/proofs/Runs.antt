@@ -8,24 +8,24 @@ use native.Mathlib.Omega.{arith}
 use lib.Dec.{leb}
 use lib.ListN.{length, get_or, drop}
 use lib.Seq.{get_or-drop}
-use borrow.Author.Tests.{le-leb, lt-leb, leb_true}
-use Rattle.decimal.specs.Spelled.{is_digit_lem, NoDigit, run_length, run_value}
+use borrow.Author.Tests.{le-leb, lt-leb, leb-true}
+use Rattle.decimal.specs.Spelled.{is_digit, NoDigit, run_length, run_value}
 
-pub is_digit_lem : (b : ℕ) → 48 ≤ b → b ≤ 57 → is_digit_lem b ≡ true
-unfolding is_digit_lem
+pub is_digit_lem : (b : ℕ) → 48 ≤ b → b ≤ 57 → is_digit b ≡ true
+unfolding is_digit
 is_digit_lem b h k = simp (le-leb 48 b h, le-leb b 57 k)
 
-pub below_digits : (b : ℕ) → b < 48 → is_digit_lem b ≡ false
-unfolding is_digit_lem
+pub below_digits : (b : ℕ) → b < 48 → is_digit b ≡ false
+unfolding is_digit
 below_digits b h = simp (lt-leb 48 b h)
 
-pub above_digits : (b : ℕ) → 57 < b → is_digit_lem b ≡ false
-unfolding is_digit_lem
+pub above_digits : (b : ℕ) → 57 < b → is_digit b ≡ false
+unfolding is_digit
 above_digits b h = simp (le-leb 48 b (omega arith), lt-leb b 57 h)
 
-pub digit_range : (b : ℕ) → is_digit_lem b ≡ true → (48 ≤ b) × (b ≤ 57)
-unfolding is_digit_lem
-digit_range b e = let p = (and-eq-true_iff (leb 48 b) (leb b 57)).0 e in (leb_true 48 b p.0, leb_true b 57 p.1)
+pub digit_range : (b : ℕ) → is_digit b ≡ true → (48 ≤ b) × (b ≤ 57)
+unfolding is_digit
+digit_range b e = let p = (and-eq-true_iff (leb 48 b) (leb b 57)).0 e in (leb-true 48 b p.0, leb-true b 57 p.1)
 
 -- the byte that a rest of a text begins with
 pub head_drop : (i : ℕ) (s : List ℕ) → get_or (drop i s) 0 0 ≡ get_or s i 0
@@ -43,25 +43,25 @@ no_value v [] e = refl
 no_value v (b ∷ t) e = rw e
 
 -- a digit first
-pub run_begins : (t : List ℕ) → 0 < run_length t → is_digit_lem (get_or t 0 0) ≡ true
+pub run_begins : (t : List ℕ) → 0 < run_length t → is_digit (get_or t 0 0) ≡ true
 unfolding run_length
 run_begins [] h = absurd (omega arith)
-run_begins (b ∷ t) h = by (is_digit_lem b) h
+run_begins (b ∷ t) h = by (is_digit b) h
   where
     by : (x : Bool) → 0 < cond x (suc (run_length t)) 0 → x ≡ true
     by true h = refl
     by false h = absurd (omega arith)
 
-pub run_some : (t : List ℕ) → is_digit_lem (get_or t 0 0) ≡ true → 0 < run_length t
+pub run_some : (t : List ℕ) → is_digit (get_or t 0 0) ≡ true → 0 < run_length t
 unfolding run_length
 run_some [] e = absurd (omega (arith, digit_range 0 e))
 run_some (b ∷ t) e = rw e (omega arith)
 
-pub run_digit : (b : ℕ) (t : List ℕ) → is_digit_lem b ≡ true → run_length (b ∷ t) ≡ suc (run_length t)
+pub run_digit : (b : ℕ) (t : List ℕ) → is_digit b ≡ true → run_length (b ∷ t) ≡ suc (run_length t)
 unfolding run_length
 run_digit b t e = rw e
 
-pub value_digit : (v b : ℕ) (t : List ℕ) → is_digit_lem b ≡ true → run_value v (b ∷ t) ≡ run_value (v * 10 + (b - 48)) t
+pub value_digit : (v b : ℕ) (t : List ℕ) → is_digit b ≡ true → run_value v (b ∷ t) ≡ run_value (v * 10 + (b - 48)) t
 unfolding run_value
 value_digit v b t e = rw e
 
@@ -73,7 +73,7 @@ cond_short false m n h = omega arith
 pub run_short : (t : List ℕ) → run_length t ≤ length t
 unfolding run_length
 run_short [] = omega arith
-run_short (b ∷ t) = cond_short (is_digit_lem b) (run_length t) (length t) (run_short t)
+run_short (b ∷ t) = cond_short (is_digit b) (run_length t) (length t) (run_short t)
 
 -- digits only add to the value before them
 cond_grows : (x : Bool) (v m : ℕ) → v ≤ m → v ≤ cond x m v
@@ -83,4 +83,4 @@ cond_grows false v m h = omega arith
 pub value_grows : (v : ℕ) (t : List ℕ) → v ≤ run_value v t
 unfolding run_value
 value_grows v [] = omega arith
-value_grows v (b ∷ t) = cond_grows (is_digit_lem b) v _ (omega (arith, value_grows (v * 10 + (b - 48)) t))
+value_grows v (b ∷ t) = cond_grows (is_digit b) v _ (omega (arith, value_grows (v * 10 + (b - 48)) t))

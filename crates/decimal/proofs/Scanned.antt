@@ -9,7 +9,7 @@ use borrow.Author.Tests.{lt-ltb, le-ltb, ltb-false}
 use lib.Dec.{ltb}
 use lib.ListN.{length, get_or, drop, get_or-eq_default}
 use lib.Seq.{drop-cons}
-use Rattle.decimal.specs.Spelled.{is_digit_lem, NoDigit, run_length, run_value, run_at}
+use Rattle.decimal.specs.Spelled.{is_digit, NoDigit, run_length, run_value, run_at}
 use Rattle.decimal.specs.declared.Run.TheVariants as Run
 use Rattle.decimal.proofs.Runs.{below_digits, head_drop, no_run, no_value, run_digit, value_digit, value_grows}
 
@@ -23,7 +23,7 @@ scanned_none s at = (refl, refl)
 module _ (s : List ℕ) (at i v : ℕ) (so : Scanned s at i v) where
   -- a digit taken in
   pub scanned_digit :
-      (next : ℕ) → i < length s → is_digit_lem (get_or s i 0) ≡ true → next ≡ v * 10 + (get_or s i 0 - 48) → Scanned s at (suc i) next
+      (next : ℕ) → i < length s → is_digit (get_or s i 0) ≡ true → next ≡ v * 10 + (get_or s i 0 - 48) → Scanned s at (suc i) next
   unfolding Scanned
   scanned_digit next h e q =
       let b = get_or s i 0 in
@@ -38,13 +38,13 @@ module _ (s : List ℕ) (at i v : ℕ) (so : Scanned s at i v) where
   scanned_most = omega (arith, so.1, value_grows v (drop i s))
 
   -- the run's end: another byte, or the end of the text
-  pub scanned_run : is_digit_lem (get_or s i 0) ≡ false → (v ≡ run_value 0 (drop at s)) × (i ≡ at + run_length (drop at s))
+  pub scanned_run : is_digit (get_or s i 0) ≡ false → (v ≡ run_value 0 (drop at s)) × (i ≡ at + run_length (drop at s))
   unfolding Scanned
   scanned_run e =
       let n : NoDigit (drop i s) = rw head_drop e in
       (sym (no_value v (drop i s) n) ∙ so.1, omega (arith, so.0, no_run (drop i s) n))
 
-  pub scanned_all : is_digit_lem (get_or s i 0) ≡ false → v < 2 ^ 64 → Run.Digits v i ≡ run_at s at
+  pub scanned_all : is_digit (get_or s i 0) ≡ false → v < 2 ^ 64 → Run.Digits v i ≡ run_at s at
   unfolding run_at
   scanned_all e h =
       let r = scanned_run e in
@@ -55,7 +55,7 @@ module _ (s : List ℕ) (at i v : ℕ) (so : Scanned s at i v) where
   unfolding run_at
   scanned_past l = rw (le-ltb (run_value 0 (drop at s)) (2 ^ 64) (omega (arith, scanned_most)))
 
-pub no_digit_past : (s : List ℕ) (i : ℕ) → length s ≤ i → is_digit_lem (get_or s i 0) ≡ false
+pub no_digit_past : (s : List ℕ) (i : ℕ) → length s ≤ i → is_digit (get_or s i 0) ≡ false
 no_digit_past s i h = rw (get_or-eq_default s 0 h) (below_digits 0 (omega arith))
 
 -- what a run that was scanned tells of the text

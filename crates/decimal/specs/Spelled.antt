@@ -11,26 +11,26 @@ use Rattle.decimal.specs.declared.Integer.{Integer}
 use Rattle.decimal.specs.declared.Integer.TheVariants as Integer
 
 -- an ASCII digit
-unfoldable pub is_digit_lem : ℕ → Bool
-is_digit_lem b = leb 48 b && leb b 57
+unfoldable pub is_digit : ℕ → Bool
+is_digit b = leb 48 b && leb b 57
 
 -- a text that does not begin with a digit: nothing, or another byte first
 abbrev pub NoDigit : List ℕ → Type 0
-NoDigit t = is_digit_lem (get_or t 0 0) ≡ false
+NoDigit t = is_digit (get_or t 0 0) ≡ false
 
 -- a text whose last byte is no digit: no run of digits reaches its end
 abbrev pub Ended : List ℕ → Type 0
-Ended s = is_digit_lem (get_or s (length s - 1) 0) ≡ false
+Ended s = is_digit (get_or s (length s - 1) 0) ≡ false
 
 -- how many digits stand at the start of a text
 unfoldable pub run_length : List ℕ → ℕ
 run_length [] = 0
-run_length (b ∷ s) = cond (is_digit_lem b) (suc (run_length s)) 0
+run_length (b ∷ s) = cond (is_digit b) (suc (run_length s)) 0
 
 -- the value of the digits at the start of a text, behind digits of value v
 unfoldable pub run_value : ℕ → List ℕ → ℕ
 run_value v [] = v
-run_value v (b ∷ s) = cond (is_digit_lem b) (run_value (v * 10 + (b - 48)) s) v
+run_value v (b ∷ s) = cond (is_digit b) (run_value (v * 10 + (b - 48)) s) v
 
 -- the digits that the text s has from `at` on
 unfoldable pub run_at : List ℕ → ℕ → Run

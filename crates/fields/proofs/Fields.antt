@@ -13,7 +13,7 @@ use borrow.Author.Tests.{eq-eqb, eqb-true}
 use mir.Syntax.{w32}
 use mir.Val.{SFits}
 use Rattle.decimal.specs.Decimal.{digits, decimal}
-use Rattle.decimal.specs.Spelled.{is_digit_lem, NoDigit, Ended, number_at, integer_at}
+use Rattle.decimal.specs.Spelled.{is_digit, NoDigit, Ended, number_at, integer_at}
 use Rattle.decimal.specs.declared.Number.{Number}
 use Rattle.decimal.specs.declared.Number.TheVariants as Number
 use Rattle.decimal.specs.declared.Integer.{Integer}
@@ -157,7 +157,7 @@ no_end_past s at h = rw (get_or-eq_default s 0 h)
 
 -- a text that ends with 0A ends with no digit
 pub line_ended : (s : List ℕ) → ends_line s (length s - 1) ≡ true → Ended s
-unfolding ends_line is_digit_lem
+unfolding ends_line is_digit
 line_ended s q = rw (eqb-true (get_or s (length s - 1) 0) 10 q)
 
 -- a line as it is written ends with 0A

@@ -1,6 +1,6 @@
 -- Laws on a text that begins with given bytes: exactly if those bytes stand in front.
 use mathlib.Core.Path.{◌≡◌, refl, sym, ap, ap₂, ◌∙◌}
-use mathlib.Core.Bool.{true, false, ◌&&◌, and-eq-true_iff, and_false}
+use mathlib.Core.Bool.{true, false, ◌&&◌, and-eq-true_iff, and-false}
 use mathlib.Core.List.{List, [], ◌∷◌, ◌++◌}
 use Prim.Native.Nat.{ℕ, suc, ◌+◌, ◌<◌, ◌≤◌}
 use native.Mathlib.Omega.{arith}
@@ -31,7 +31,7 @@ pub starts_short : (key t : List ℕ) → length t < length key → starts_with 
 unfolding starts_with
 starts_short [] t h = absurd (omega arith)
 starts_short (k ∷ key) [] h = refl
-starts_short (k ∷ key) (b ∷ t) h = rw (starts_short key t (omega arith)) (and_false (eqb k b))
+starts_short (k ∷ key) (b ∷ t) h = rw (starts_short key t (omega arith)) (and-false (eqb k b))
 
 -- bytes that both begin with decide nothing
 pub starts_behind : (a key t : List ℕ) → starts_with (a ++ key) (a ++ t) ≡ starts_with key t

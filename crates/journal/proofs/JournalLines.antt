@@ -8,7 +8,7 @@ use native.Mathlib.Omega.{arith}
 use lib.IntN.{pos}
 use lib.ListN.{length, drop, length-append}
 use Rattle.decimal.specs.Decimal.{digits, decimal}
-use Rattle.decimal.specs.Spelled.{is_digit_lem}
+use Rattle.decimal.specs.Spelled.{is_digit}
 use Rattle.fields.specs.Line.{field, line_of}
 use Rattle.fields.specs.Field.{ends_line, with_number, with_integer, first, later}
 use Rattle.fields.proofs.Spells.{Spells, spells_append}
@@ -92,7 +92,7 @@ call_sound s at f c q =
 -- what the text spells is read
 pub call_complete :
     (s r : List ℕ) (at : ℕ) (c : Call) → CallFits c → drop at s ≡ line_text c ++ r → call_at s at ≡ CallAt.Line c (at + length (line_text c))
-unfolding call_at call_head call_tail decimal with_number with_integer is_digit_lem
+unfolding call_at call_head call_tail decimal with_number with_integer is_digit
 call_complete s r at c fit p =
     let most : 2 ^ 32 - 1 < 2 ^ 64 = omega arith in
     let byte : 255 < 2 ^ 64 = omega arith in

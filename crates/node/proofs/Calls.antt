@@ -5,7 +5,7 @@ use mathlib.Core.Path.{◌≡◌, refl, ◌∙◌, ap}
 use mathlib.Core.Bool.{Bool, true, false, cond}
 use mathlib.Core.List.{List}
 use native.Mathlib.Omega.{arith}
-use borrow.Author.Tests.{ltb-false, eqb-true, eqb-false, not_false, le-ltb}
+use borrow.Author.Tests.{ltb-false, eqb-true, eqb-false, not-false, le-ltb}
 use lib.Dec.{eqb}
 use lib.ListN.{length}
 use Rattle.journal.specs.declared.Call.{Call}
@@ -63,7 +63,7 @@ module _ (st : Held) (x : Lent) (area : List ℕ) where
   host_passed e =
       let passes = passes_each (host_tests st x area) refl e in
       let long = not_short st.settings.lines x (passes 3) in
-      record { room = long.0; sent = long.1; shape = not_false _ (passes 4); bytes = ltb-false _ _ (passes 5) }
+      record { room = long.0; sent = long.1; shape = not-false _ (passes 4); bytes = ltb-false _ _ (passes 5) }
 
   pub host_passes : HostPassed st x area → first_failed (host_tests st x area) ≡ 0
   unfolding host_tests places first_failed

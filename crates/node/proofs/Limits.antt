@@ -2,7 +2,7 @@
 use Prim.Native.Nat.{◌≤◌}
 use mathlib.Core.Path.{◌≡◌}
 use mathlib.Core.Bool.{Bool, true, ◌&&◌}
-use borrow.Author.Tests.{leb_true}
+use borrow.Author.Tests.{leb-true}
 use lib.Dec.{leb}
 use lib.Signed.{le_z}
 use Rattle.settings.specs.declared.Settings.{Settings}
@@ -38,14 +38,14 @@ limits_hold s e =
     let ed : d ≡ true = (and_parts d f edf).0 in
     let ef : f ≡ true = (and_parts d f edf).1 in
     record {
-      some_lines = leb_true _ _ (and_parts (leb 1 s.lines) (leb s.lines max_lines) ea).0;
-      lines = leb_true _ _ (and_parts (leb 1 s.lines) (leb s.lines max_lines) ea).1;
-      least_bucket = leb_true _ _ (and_parts (leb min_bucket s.bucket) (leb s.bucket max_bucket) eb).0;
-      bucket = leb_true _ _ (and_parts (leb min_bucket s.bucket) (leb s.bucket max_bucket) eb).1;
-      some_window = leb_true _ _ (and_parts (leb 1 s.window) (leb s.window max_window) ec).0;
-      window = leb_true _ _ (and_parts (leb 1 s.window) (leb s.window max_window) ec).1;
-      hold = leb_true _ _ (and_parts (leb s.hold max_hold) (le_z s.low s.high) ed).0;
+      some_lines = leb-true _ _ (and_parts (leb 1 s.lines) (leb s.lines max_lines) ea).0;
+      lines = leb-true _ _ (and_parts (leb 1 s.lines) (leb s.lines max_lines) ea).1;
+      least_bucket = leb-true _ _ (and_parts (leb min_bucket s.bucket) (leb s.bucket max_bucket) eb).0;
+      bucket = leb-true _ _ (and_parts (leb min_bucket s.bucket) (leb s.bucket max_bucket) eb).1;
+      some_window = leb-true _ _ (and_parts (leb 1 s.window) (leb s.window max_window) ec).0;
+      window = leb-true _ _ (and_parts (leb 1 s.window) (leb s.window max_window) ec).1;
+      hold = leb-true _ _ (and_parts (leb s.hold max_hold) (le_z s.low s.high) ed).0;
       values = (and_parts (leb s.hold max_hold) (le_z s.low s.high) ed).1;
-      some_displays = leb_true _ _ (and_parts (leb 1 s.displays) (leb s.displays max_displays) ef).0;
-      displays = leb_true _ _ (and_parts (leb 1 s.displays) (leb s.displays max_displays) ef).1;
+      some_displays = leb-true _ _ (and_parts (leb 1 s.displays) (leb s.displays max_displays) ef).0;
+      displays = leb-true _ _ (and_parts (leb 1 s.displays) (leb s.displays max_displays) ef).1;
     }

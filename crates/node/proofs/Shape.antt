@@ -6,7 +6,7 @@ use mathlib.Core.Logic.{◌⊎◌, inl, inr, ⊎_elim}
 use mathlib.Core.Bool.{Bool, true, false, cond, ◌&&◌, ◌||◌}
 use mathlib.Core.List.{List, [], ◌∷◌}
 use native.Mathlib.Omega.{arith}
-use borrow.Author.Tests.{leb_true, ltb-true, eqb-true, eq-eqb}
+use borrow.Author.Tests.{leb-true, ltb-true, eqb-true, eq-eqb}
 use lib.Dec.{leb, ltb, eqb}
 use lib.ListN.{take}
 use Rattle.settings.specs.Limits.{within_limits}
@@ -48,7 +48,7 @@ unfolding head_ok
 head_shape h e =
     let a : Bool = leb h.kept readings_per_line in
     let b : Bool = leb h.last_stable_id h.last_id in
-    record { kept = leb_true _ _ (and_parts a b e).0; stable = leb_true _ _ (and_parts a b e).1 }
+    record { kept = leb-true _ _ (and_parts a b e).0; stable = leb-true _ _ (and_parts a b e).1 }
 
 -- a kept reading in shape
 pub record ReadingShape (r : Reading) : Type 0 where
@@ -121,8 +121,8 @@ buckets_shape st e =
     let d : Bool = phase_ok st.c st.p st.phase in
     let r : b && d ≡ true = (and_parts a (b && d) e).1 in
     record {
-      order = leb_true _ _ (and_parts a (b && d) e).0;
-      last = leb_true _ _ (and_parts b d r).0;
+      order = leb-true _ _ (and_parts a (b && d) e).0;
+      last = leb-true _ _ (and_parts b d r).0;
       phase = phase_shape st.c st.p st.phase (and_parts b d r).1;
     }
 
@@ -142,15 +142,15 @@ numbers_shape st e =
     let g : Bool = cond (eqb st.p st.c) (leb st.operator.number st.checkpoint.number) true in
     let r : b && (d && g) ≡ true = (and_parts a (b && (d && g)) e).1 in
     let q : d && g ≡ true = (and_parts b (d && g) r).1 in
-    let m : st.checkpoint.number ≤ st.operator.number = leb_true _ _ (and_parts d g q).0 in
+    let m : st.checkpoint.number ≤ st.operator.number = leb-true _ _ (and_parts d g q).0 in
     record {
-      stable = leb_true _ _ (and_parts a (b && (d && g)) e).0;
-      newest = leb_true _ _ (and_parts b (d && g) r).0;
+      stable = leb-true _ _ (and_parts a (b && (d && g)) e).0;
+      newest = leb-true _ _ (and_parts b (d && g) r).0;
       order = m;
       level =
           λ t.
           let w : leb st.operator.number st.checkpoint.number ≡ true = rw (eq-eqb st.p st.c t) at (and_parts d g q).1 in
-          let z : st.operator.number ≤ st.checkpoint.number = leb_true _ _ w in
+          let z : st.operator.number ≤ st.checkpoint.number = leb-true _ _ w in
           omega arith;
     }
 
@@ -166,7 +166,7 @@ unfolding display_ok
 display_shape newest id e =
     let a : Bool = leb id newest in
     let b : Bool = leb newest (id + held_results) in
-    record { known = leb_true _ _ (and_parts a b e).0; near = leb_true _ _ (and_parts a b e).1 }
+    record { known = leb-true _ _ (and_parts a b e).0; near = leb-true _ _ (and_parts a b e).1 }
 
 -- the state and the store of readings
 pub record StateShape (st : Held) (x : Columns) : Type 0 where

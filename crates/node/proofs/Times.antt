@@ -6,7 +6,7 @@ use mathlib.Core.Bool.{Bool, true, false, ◌||◌, true≢false}
 use mathlib.Core.List.{List, [], ◌∷◌}
 use native.Mathlib.Omega.{arith}
 use native.Mathlib.Nat.{mul-le-mul_right, le-div_iff_mul-le}
-use borrow.Author.Tests.{leb_true}
+use borrow.Author.Tests.{leb-true}
 use lib.Dec.{leb}
 use lib.ListN.{length}
 use Rattle.clock.specs.declared.ArrivalTick.{ArrivalTick}
@@ -69,7 +69,7 @@ overdue_within :
 unfolding is_overdue bucket_of
 overdue_within s p now some r h e =
     let q : p ≤ r.time.0 / s.bucket =
-    leb_true p (r.time.0 / s.bucket) (and_parts (leb p (r.time.0 / s.bucket)) (is_due s.hold r.arrival now) e).0 in
+    leb-true p (r.time.0 / s.bucket) (and_parts (leb p (r.time.0 / s.bucket)) (is_due s.hold r.arrival now) e).0 in
     let l : p * s.bucket ≤ r.time.0 = (le-div_iff_mul-le {k = s.bucket} {x = p} {y = r.time.0} some).0 q in
     omega arith
 

@@ -4,14 +4,14 @@
 -- older than those met before it.
 use Prim.Native.Nat.{ℕ, ◌+◌, ◌≤◌, ◌<◌}
 use mathlib.Core.Path.{◌≡◌, refl, sym, ◌∙◌, ap}
-use mathlib.Core.Bool.{Bool, true, false, cond, ◌&&◌, true≢false, and-true, and_false}
+use mathlib.Core.Bool.{Bool, true, false, cond, ◌&&◌, true≢false, and-true, and-false}
 use mathlib.Core.List.{List, [], ◌∷◌, map}
 use native.Mathlib.Omega.{arith}
 use lib.Dec.{eqb, leb, leb-zero}
 use lib.IntN.{ℤ, pos, ◌+ℤ◌, +ℤ_idr, +ℤ_assoc}
 use lib.ListN.{length, get_or, set, replicate, length-set, get_or-replicate}
 use lib.Seq.{ext_get_or}
-use borrow.Author.Tests.{leb_true, le-leb, lt-leb}
+use borrow.Author.Tests.{leb-true, le-leb, lt-leb}
 use Rattle.settings.specs.declared.Settings.{Settings}
 use Rattle.store.specs.declared.Reading.{Reading}
 use Rattle.store.specs.Lists.{Every}
@@ -268,7 +268,7 @@ insert_last s i n old r (x ∷ xs) c l d ties =
     (λ b.
     let tied : t ≡ u → ⊥ = λ q. true≢false (sym (ties.0 q) ∙ b) in
     let a : u < t = omega (arith, not_before_times r x b, tied) in
-    rw (lt-leb t u a, and_false (counts_for s i x))
+    rw (lt-leb t u a, and-false (counts_for s i x))
     (cond_either (λ (vs : List ℤ). last_or old vs ≡ last_or r.reading.value (values_from s i t xs)) (counts_for s i x && leb n u)
     (λ _. insert_last s i n x.reading.value r xs c l d.1 ties.1)
     (λ _. insert_last s i n old r xs c l d.1 ties.1)))
@@ -287,7 +287,7 @@ meter_pass_last s i n m (r ∷ rs) h =
           λ e.
           meter_pass_last s i t (with_value v m) rs h.1 ∙
           sym
-          (insert_last s i n m.last r (sort rs) c (leb_true n t e) (sort_sorted rs)
+          (insert_last s i n m.last r (sort rs) c (leb-true n t e) (sort_sorted rs)
           (every_permuted (λ (y : Placed). t ≡ y.reading.time.0 → before r y ≡ true) (sort_permutes rs) h.0))
       | false ↦
           λ e.

@@ -1,7 +1,7 @@
 -- The word for one meter, made of how many values are left to it, how far the sum is above the lowest and how far below the highest: its
 -- highest bit is clear exactly if the meter is within its bounds. By the sum's sign.
-use Rattle.std.proofs.Common.{◌≡◌, ℕ, suc, ◌+◌, ◌-◌, ◌*◌, ◌%◌, ◌^◌, ◌<◌, ◌≤◌, true, false, ◌&&◌, ltb, leb, ℤ, pos, negsuc, refl, ◌∙◌, ap₂, arith, le-ltb, lt-ltb, leb-false, leb_true}
-use mathlib.Core.Bool.{and_false}
+use Rattle.std.proofs.Common.{◌≡◌, ℕ, suc, ◌+◌, ◌-◌, ◌*◌, ◌%◌, ◌^◌, ◌<◌, ◌≤◌, true, false, ◌&&◌, ltb, leb, ℤ, pos, negsuc, refl, ◌∙◌, ap₂, arith, le-ltb, lt-ltb, leb-false, leb-true}
+use mathlib.Core.Bool.{and-false}
 use lib.Bits.{bit_or}
 use lib.Signed.{mag}
 use Rattle.signed.specs.Twos.{twos}
@@ -12,7 +12,7 @@ pub first_below : (a b k : ℕ) → k ≤ a → (ltb a k && ltb b k) ≡ false
 first_below a b k h = rw (le-ltb a k h) refl
 
 pub second_below : (a b k : ℕ) → k ≤ b → (ltb a k && ltb b k) ≡ false
-second_below a b k h = rw (le-ltb b k h) (and_false (ltb a k))
+second_below a b k h = rw (le-ltb b k h) (and-false (ltb a k))
 
 pub both_below : (a b k : ℕ) → a < k → b < k → (ltb a k && ltb b k) ≡ true
 both_below a b k h g = rw (lt-ltb a k h, lt-ltb b k g) refl
@@ -20,7 +20,7 @@ both_below a b k h g = rw (lt-ltb a k h, lt-ltb b k g) refl
 left_told : (n left : ℕ) → n < 2 ^ 32 → left < 2 ^ 64 → (left + n) % 2 ^ 64 ≡ count_limit → ltb left (2 ^ 63) ≡ leb n count_limit
 left_told n left f g few =
     (elim (leb n count_limit) as (λ p. leb n count_limit ≡ p → ltb left (2 ^ 63) ≡ p) [
-      | true ↦ λ e. let h : n ≤ count_limit = leb_true n count_limit e in lt-ltb left (2 ^ 63) (omega arith)
+      | true ↦ λ e. let h : n ≤ count_limit = leb-true n count_limit e in lt-ltb left (2 ^ 63) (omega arith)
       | false ↦ λ e. let h : count_limit < n = leb-false n count_limit e in le-ltb left (2 ^ 63) (omega arith)
     ]) refl
 
@@ -32,7 +32,7 @@ module _ (n word above below : ℕ) (few : n ≤ count_limit) (fits : below < 2 
   sum_told (pos a) f e low high =
       (elim (leb a ((2 ^ 31 - 1) * n)) as (λ p. leb a ((2 ^ 31 - 1) * n) ≡ p → (ltb above (2 ^ 63) && ltb below (2 ^ 63)) ≡ p) [
         | true ↦ λ t.
-            let h : a ≤ (2 ^ 31 - 1) * n = leb_true a ((2 ^ 31 - 1) * n) t in
+            let h : a ≤ (2 ^ 31 - 1) * n = leb-true a ((2 ^ 31 - 1) * n) t in
             both_below above below (2 ^ 63) (omega arith) (omega arith)
         | false ↦ λ t.
             let h : (2 ^ 31 - 1) * n < a = leb-false a ((2 ^ 31 - 1) * n) t in
@@ -41,7 +41,7 @@ module _ (n word above below : ℕ) (few : n ≤ count_limit) (fits : below < 2 
   sum_told (negsuc a) f e low high =
       (elim (leb (suc a) (2 ^ 31 * n)) as (λ p. leb (suc a) (2 ^ 31 * n) ≡ p → (ltb above (2 ^ 63) && ltb below (2 ^ 63)) ≡ p) [
         | true ↦ λ t.
-            let h : suc a ≤ 2 ^ 31 * n = leb_true (suc a) (2 ^ 31 * n) t in
+            let h : suc a ≤ 2 ^ 31 * n = leb-true (suc a) (2 ^ 31 * n) t in
             both_below above below (2 ^ 63) (omega arith) (omega arith)
         | false ↦ λ t.
             let h : 2 ^ 31 * n < suc a = leb-false (suc a) (2 ^ 31 * n) t in
@@ -57,6 +57,6 @@ module _ (n word left above below : ℕ) (x last : ℤ) where
   beyond_told n_fits x_Fits e left-fits few low below_fits high =
       below_over 63 left (bit_or above below) ∙ ap₂ ◌&&◌ (left_told n left n_fits left-fits few) (below_over 63 above below) ∙
       (elim (leb n count_limit) as (λ p. leb n count_limit ≡ p → (p && (ltb above (2 ^ 63) && ltb below (2 ^ 63))) ≡ (p && sum_ok x n)) [
-        | true ↦ λ t. sum_told n word above below (leb_true n count_limit t) below_fits x x_Fits e low high
+        | true ↦ λ t. sum_told n word above below (leb-true n count_limit t) below_fits x x_Fits e low high
         | false ↦ λ t. refl
       ]) refl

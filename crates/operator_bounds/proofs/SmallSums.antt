@@ -1,6 +1,6 @@
 -- Sums whose magnitude is at most 2^30 for each value: the word that tells one, one turn of the loop over a row, and that a row of them
 -- with counts below the limit is within its bounds.
-use Rattle.std.proofs.Common.{◌≡◌, ℕ, zero, suc, ◌+◌, ◌-◌, ◌*◌, ◌%◌, ◌^◌, ◌<◌, ◌≤◌, true, false, ◌&&◌, ltb, leb, List, ℤ, pos, negsuc, refl, ◌∙◌, ap₂, arith, ltb-true, le-leb, leb-false, leb_true}
+use Rattle.std.proofs.Common.{◌≡◌, ℕ, zero, suc, ◌+◌, ◌-◌, ◌*◌, ◌%◌, ◌^◌, ◌<◌, ◌≤◌, true, false, ◌&&◌, ltb, leb, List, ℤ, pos, negsuc, refl, ◌∙◌, ap₂, arith, ltb-true, le-leb, leb-false, leb-true}
 use lib.Bits.{bit_or}
 use lib.Signed.{mag}
 use Rattle.signed.specs.Twos.{twos}
@@ -27,7 +27,7 @@ module _ (n word above below : ℕ) (n_fits : n < 2 ^ 32) (below_fits : below < 
   parts_told (pos a) f e low high =
       (elim (leb a (2 ^ 30 * n)) as (λ p. leb a (2 ^ 30 * n) ≡ p → (ltb above (2 ^ 63) && ltb below (2 ^ 63)) ≡ p) [
         | true ↦ λ t.
-            let h : a ≤ 2 ^ 30 * n = leb_true a (2 ^ 30 * n) t in
+            let h : a ≤ 2 ^ 30 * n = leb-true a (2 ^ 30 * n) t in
             both_below above below (2 ^ 63) (omega arith) (omega arith)
         | false ↦ λ t.
             let h : 2 ^ 30 * n < a = leb-false a (2 ^ 30 * n) t in
@@ -36,7 +36,7 @@ module _ (n word above below : ℕ) (n_fits : n < 2 ^ 32) (below_fits : below < 
   parts_told (negsuc a) f e low high =
       (elim (leb (suc a) (2 ^ 30 * n)) as (λ p. leb (suc a) (2 ^ 30 * n) ≡ p → (ltb above (2 ^ 63) && ltb below (2 ^ 63)) ≡ p) [
         | true ↦ λ t.
-            let h : suc a ≤ 2 ^ 30 * n = leb_true (suc a) (2 ^ 30 * n) t in
+            let h : suc a ≤ 2 ^ 30 * n = leb-true (suc a) (2 ^ 30 * n) t in
             both_below above below (2 ^ 63) (omega arith) (omega arith)
         | false ↦ λ t.
             let h : 2 ^ 30 * n < suc a = leb-false (suc a) (2 ^ 30 * n) t in
@@ -50,8 +50,8 @@ module _ (n word above below : ℕ) (n_fits : n < 2 ^ 32) (below_fits : below < 
 
 small_sum_ok : (x : ℤ) (n : ℕ) → sum_small x n ≡ true → sum_ok x n ≡ true
 unfolding sum_small sum_ok
-small_sum_ok (pos a) n e = le-leb a ((2 ^ 31 - 1) * n) (omega (arith, leb_true a (2 ^ 30 * n) e))
-small_sum_ok (negsuc a) n e = le-leb (suc a) (2 ^ 31 * n) (omega (arith, leb_true (suc a) (2 ^ 30 * n) e))
+small_sum_ok (pos a) n e = le-leb a ((2 ^ 31 - 1) * n) (omega (arith, leb-true a (2 ^ 30 * n) e))
+small_sum_ok (negsuc a) n e = le-leb (suc a) (2 ^ 31 * n) (omega (arith, leb-true (suc a) (2 ^ 30 * n) e))
 
 small_ok : (m : Meter) → m.count < 2 ^ 15 → sum_small m.sum m.count ≡ true → meter_ok m ≡ true
 unfolding meter_ok

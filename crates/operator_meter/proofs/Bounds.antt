@@ -4,7 +4,7 @@ use mathlib.Core.Path.{◌≡◌}
 use mathlib.Core.Bool.{true}
 use mathlib.Core.List.{List}
 use native.Mathlib.Omega.{arith}
-use borrow.Author.Tests.{leb_true}
+use borrow.Author.Tests.{leb-true}
 use lib.Dec.{leb}
 use lib.IntN.{ℤ, pos, negsuc}
 use lib.Signed.{mag}
@@ -46,14 +46,14 @@ last_value v m f = f
 
 sum_ok_lem : (z : ℤ) (count : ℕ) → sum_ok z count ≡ true → InRange z count
 unfolding sum_ok
-sum_ok_lem (pos a) count e = leb_true _ _ e
-sum_ok_lem (negsuc a) count e = leb_true _ _ e
+sum_ok_lem (pos a) count e = leb-true _ _ e
+sum_ok_lem (negsuc a) count e = leb-true _ _ e
 
 pub meter_ok_lem : (m : Meter) → meter_ok m ≡ true → Counted count_limit m
 unfolding meter_ok
 meter_ok_lem m e =
     let h = and_parts (leb m.count count_limit) (sum_ok m.sum m.count) e in
-    record { count = leb_true _ _ h.0; range = sum_ok_lem m.sum m.count h.1 }
+    record { count = leb-true _ _ h.0; range = sum_ok_lem m.sum m.count h.1 }
 
 pub meters_ok : (ms : List Meter) → all_of meter_ok ms ≡ true → Every (Counted count_limit) ms
 meters_ok ms e = every_to ms meter_ok_lem (every_passes meter_ok ms e)

@@ -37,9 +37,9 @@ line_rest false u more e h = sym (behind_whole u more h)
 
 -- ---- its tests
 
-not_false : (f : Bool) → not f ≡ false → f ≡ true
-not_false true e = refl
-not_false false e = not_both refl e
+not-false : (f : Bool) → not f ≡ false → f ≡ true
+not-false true e = refl
+not-false false e = not_both refl e
 
 always : (f : Bool) → not f || f ≡ true
 always true = refl
@@ -124,7 +124,7 @@ module _ (c : Cursor) (buf : List ℕ) (stands : Stands buf c) where
                       ∙ line_rest c.passing (unread buf c) more p whole_held,
                 );
                 ended = λ q f. not_both q (ap not f);
-                unplayed = λ q. let f = not_false r.failed q in (f, failed (omega (arith, w.fails f, fits)));
+                unplayed = λ q. let f = not-false r.failed q in (f, failed (omega (arith, w.fails f, fits)));
                 written = ⊎_elim (λ z. inl z) (λ z. inr (z, refl, refl)) w.written;
                 held = λ _. (
                   refl,

@@ -1,6 +1,6 @@
 -- The ways out of a refill, where no line of the buffer is whole.
 use mathlib.Core.Path.{◌≡◌, refl, sym, ap, subst, ◌∙◌}
-use mathlib.Core.Bool.{Bool, true, false, cond, not, ◌&&◌, ◌||◌, or_true}
+use mathlib.Core.Bool.{Bool, true, false, cond, not, ◌&&◌, ◌||◌, or-true}
 use mathlib.Core.List.{List, [], ◌∷◌, ◌++◌}
 use mathlib.Core.Logic.{inl}
 use Prim.Native.Nat.{ℕ, ◌+◌, ◌-◌, ◌<◌, ◌≤◌}
@@ -190,7 +190,7 @@ module _ (opened : Bool) (c : Cursor) (buf : List ℕ) (room : ℕ) (ready : Rea
                   written = inl refl;
                   held = λ h. not_both h (past_part c.passing (unread buf c) none);
                 };
-            further = not_both (or_true (not c.passing && (ltb 0 left || not opened)));
+            further = not_both (or-true (not c.passing && (ltb 0 left || not opened)));
           })
 
       -- the read brought bytes

@@ -1,6 +1,6 @@
 -- A text's first line, where there is a 0A and where there is none: what it is once more follows, and what follows it.
 use mathlib.Core.Path.{◌≡◌, refl, sym, ap, ◌∙◌}
-use mathlib.Core.Bool.{Bool, true, false, cond, ◌||◌, or_true}
+use mathlib.Core.Bool.{Bool, true, false, cond, ◌||◌, or-true}
 use mathlib.Core.List.{List, [], ◌∷◌, ◌++◌}
 use Prim.Native.Nat.{ℕ, zero, suc, ◌-◌, ◌<◌, ◌≤◌}
 use native.Mathlib.Omega.{arith}
@@ -36,7 +36,7 @@ pub held_at : (s : List ℕ) (i : ℕ) → i < length s → ends_line s i ≡ tr
 unfolding holds_line ends_line
 held_at [] i h e = absurd (omega arith)
 held_at (b ∷ s) zero h e = ap (λ (t : Bool). t || holds_line s) e
-held_at (b ∷ s) (suc i) h e = ap (λ (t : Bool). eqb b 10 || t) (held_at s i (omega arith) e) ∙ or_true (eqb b 10)
+held_at (b ∷ s) (suc i) h e = ap (λ (t : Bool). eqb b 10 || t) (held_at s i (omega arith) e) ∙ or-true (eqb b 10)
 
 -- whatever follows
 pub held_append : (s t : List ℕ) → holds_line s ≡ true → holds_line (s ++ t) ≡ true

@@ -8,7 +8,7 @@ use native.Mathlib.Omega.{arith}
 use lib.Dec.{leb, ltb, eqb}
 use lib.IntN.{pos}
 use lib.ListN.{length, get_or}
-use borrow.Author.Tests.{ltb-true, ltb-false, leb-false, eqb-true, not_false}
+use borrow.Author.Tests.{ltb-true, ltb-false, leb-false, eqb-true, not-false}
 use borrow.Author.Tests.{lt-ltb, le-ltb, lt-leb, eq-eqb, ne_eqb}
 use Rattle.settings.specs.declared.Settings.{Settings}
 use Rattle.journal.specs.declared.Call.{Call}
@@ -98,7 +98,7 @@ module _ (s : Settings) (n : Node) (k : Call) where
         record {
           reaches = f.0;
           of_meter = leb-false 64 k.meter f.1;
-          next_id = eqb-true _ _ (not_false _ f.2);
+          next_id = eqb-true _ _ (not-false _ f.2);
           not_early = ltb-false _ _ f.3;
           has_place = leb-false 256 (length (named_line n k).kept) f.4;
         },
@@ -114,7 +114,7 @@ module _ (s : Settings) (n : Node) (k : Call) where
   bare_iff : (not (eqb k.id 0 && (eqb k.time.0 0 && (eqb k.meter 0 && is_zero k.value))) ≡ false) ↔ Bare k
   bare_iff = (
     λ f.
-        let g = (four_iff k.id k.time.0 k.meter k.value).0 (not_false _ f) in
+        let g = (four_iff k.id k.time.0 k.meter k.value).0 (not-false _ f) in
         record { no_id = g.0; no_time = g.1.0; no_meter = g.1.1.0; no_value = g.1.1.1 },
     λ r. ap not ((four_iff k.id k.time.0 k.meter k.value).1 (r.no_id, (r.no_time, (r.no_meter, r.no_value)))),
   )
@@ -146,7 +146,7 @@ module _ (s : Settings) (n : Node) (k : Call) where
   accepts_B e = (
     λ a.
         let f = passed_as s n k Kind.B e a in
-        let g = (three_iff k.id k.meter k.value).0 (not_false _ f.fields) in
+        let g = (three_iff k.id k.meter k.value).0 (not-false _ f.fields) in
         record {
           reaches = reaches_iff.0 (f.on_time, f.line);
           not_early = ltb-false _ _ f.time;
@@ -166,8 +166,8 @@ module _ (s : Settings) (n : Node) (k : Call) where
   accepts_U e = (
     λ a.
         let f = passed_as s n k Kind.U e a in
-        let g = (three_iff k.time.0 k.meter k.value).0 (not_false _ f.fields) in
-        let i = (between (named_line n k).last_stable_id k.id (named_line n k).last_id).0 (not_false _ f.id) in
+        let g = (three_iff k.time.0 k.meter k.value).0 (not-false _ f.fields) in
+        let i = (between (named_line n k).last_stable_id k.id (named_line n k).last_id).0 (not-false _ f.id) in
         record {
           reaches = reaches_iff.0 (f.on_time, f.line);
           not_stable = i.0;
@@ -204,7 +204,7 @@ module _ (s : Settings) (n : Node) (k : Call) where
       (not (eqb k.id 0 && (eqb k.time.0 0 && (eqb k.meter 0 && is_zero k.value))) ≡ false)) ↔
       StepFits
   step_iff = (
-    λ f. record { on_time = ltb-false _ _ f.0; no_line = eqb-true _ _ (not_false _ f.1); bare = bare_iff.0 f.2 },
+    λ f. record { on_time = ltb-false _ _ f.0; no_line = eqb-true _ _ (not-false _ f.1); bare = bare_iff.0 f.2 },
     λ r. (le-ltb _ _ r.on_time, ap not (eq-eqb k.line 0 r.no_line), bare_iff.1 r.bare),
   )
 

@@ -8,7 +8,7 @@ use native.Mathlib.Omega.{arith}
 use native.Mathlib.Nat.{le_refl}
 use lib.Dec.{leb, ltb, eqb}
 use lib.ListN.{length, get_or, set}
-use borrow.Author.Tests.{ltb-false, leb_true, leb-false, eqb-true, not_false, le-leb, lt-leb, le-ltb}
+use borrow.Author.Tests.{ltb-false, leb-true, leb-false, eqb-true, not-false, le-leb, lt-leb, le-ltb}
 use Rattle.clock.specs.declared.ArrivalTick.{ArrivalTick}
 use Rattle.settings.specs.declared.Settings.{Settings}
 use Rattle.journal.specs.declared.Call.{Call}
@@ -157,11 +157,11 @@ module _ (s : Settings) (n : Node) (display id : ℕ) where
   unfolding answer_to_acknowledgement wrong_display wrong_acknowledgement numbered fails_with all_of
   acknowledgement_fits e =
       let passes = passes_each _ refl e in
-      let is = and_parts (leb 1 display) (leb display s.displays) (not_false _ (passes 16)) in
+      let is = and_parts (leb 1 display) (leb display s.displays) (not-false _ (passes 16)) in
       let id_fits = neither (ltb id (last_of n.acknowledged display)) (ltb n.checkpoint.number id) (passes 17) in
       record {
-        first = leb_true _ _ is.0;
-        last = leb_true _ _ is.1;
+        first = leb-true _ _ is.0;
+        last = leb-true _ _ is.1;
         raises = ltb-false _ _ id_fits.0;
         known = ltb-false _ _ id_fits.1;
       }
@@ -217,11 +217,11 @@ module _ (s : Settings) (n : Node) (display from : ℕ) where
   unfolding answer_to_fetch wrong_display wrong_fetch numbered fails_with all_of
   fetch_fits e =
       let passes = passes_each _ refl e in
-      let is = and_parts (leb 1 display) (leb display s.displays) (not_false _ (passes 16)) in
+      let is = and_parts (leb 1 display) (leb display s.displays) (not-false _ (passes 16)) in
       let inside = neither (leb from (given_up_to n)) (ltb (suc n.checkpoint.number) from) (passes 17) in
       record {
-        first = leb_true _ _ is.0;
-        last = leb_true _ _ is.1;
+        first = leb-true _ _ is.0;
+        last = leb-true _ _ is.1;
         held = leb-false _ _ inside.0;
         near = ltb-false _ _ inside.1;
       }

@@ -8,7 +8,7 @@ use native.Mathlib.Omega.{arith}
 use native.Mathlib.Nat.{le_refl}
 use lib.Dec.{eqb}
 use lib.ListN.{get_or}
-use borrow.Author.Tests.{leb_true, ltb-false, eqb-false, ne_eqb}
+use borrow.Author.Tests.{leb-true, ltb-false, eqb-false, ne_eqb}
 use Rattle.clock.specs.Buckets.{bucket_of}
 use Rattle.settings.specs.declared.Settings.{Settings}
 use Rattle.journal.specs.declared.Call.{Call}
@@ -78,7 +78,7 @@ module _ (s : Settings) (room : 0 < s.bucket) (c : ℕ) (k : Call) (j : ℕ) (be
   unfolding too_early uses is_from is_in stable_reading
   not_in l past early =
       let g : c ≤ bucket_of s.bucket k.time =
-      leb_true _ _ (from_start s.bucket c (stable_reading k) room (omega (arith, ltb-false))) in
+      leb-true _ _ (from_start s.bucket c (stable_reading k) room (omega (arith, ltb-false))) in
       ne_eqb (bucket_of s.bucket k.time) j (omega arith)
 
   one_line :

@@ -8,7 +8,7 @@ use native.Mathlib.Omega.{arith}
 use lib.Dec.{leb, eqb}
 use lib.IntN.{ℤ, pos, negsuc, pos-ne-negsuc}
 use lib.ListN.{length, get_or}
-use borrow.Author.Tests.{leb_true, le-leb, eqb-true, eq-eqb, not_false}
+use borrow.Author.Tests.{leb-true, le-leb, eqb-true, eq-eqb, not-false}
 use Rattle.settings.specs.declared.Settings.{Settings}
 use Rattle.store.specs.Lists.{modify}
 use Rattle.protocol.specs.Kinds.{Kind, uses}
@@ -27,10 +27,10 @@ and_iff true b f g = (λ e. (f.0 refl, g.0 e), λ h. g.1 h.1)
 and_iff false b f g = (λ e. absurd (true≢false (sym e)), λ h. f.1 h.0)
 
 pub not_iff : {X : Type 0} (a : Bool) → (a ≡ true) ↔ X → (not a ≡ false) ↔ X
-not_iff a f = (λ e. f.0 (not_false a e), λ h. ap not (f.1 h))
+not_iff a f = (λ e. f.0 (not-false a e), λ h. ap not (f.1 h))
 
 pub leb_iff : (a b : ℕ) → (leb a b ≡ true) ↔ (a ≤ b)
-leb_iff a b = (leb_true a b, le-leb a b)
+leb_iff a b = (leb-true a b, le-leb a b)
 
 pub eqb_iff : (a b : ℕ) → (eqb a b ≡ true) ↔ (a ≡ b)
 eqb_iff a b = (eqb-true a b, eq-eqb a b)
@@ -61,8 +61,8 @@ four_iff a b c z = and_iff (eqb a 0) (eqb b 0 && (eqb c 0 && is_zero z)) (eqb_if
 
 pub full_256 : (l : Line) (kind : Kind) → is_full l kind ≡ true → 256 ≤ length l.kept
 unfolding is_full uses
-full_256 l Kind.S e = leb_true 256 (length l.kept) e
-full_256 l Kind.T e = leb_true 256 (length l.kept) e
+full_256 l Kind.S e = leb-true 256 (length l.kept) e
+full_256 l Kind.T e = leb-true 256 (length l.kept) e
 full_256 l Kind.B e = absurd (true≢false (sym e))
 full_256 l Kind.U e = absurd (true≢false (sym e))
 full_256 l Kind.R e = absurd (true≢false (sym e))

@@ -7,7 +7,7 @@ use mathlib.Core.List.{List}
 use native.Mathlib.Omega.{arith}
 use native.Mathlib.Nat.{div-lt_iff_lt-mul}
 use lib.Dec.{leb, eqb}
-use borrow.Author.Tests.{leb_true, eqb-true, eqb-false, not-true, le-leb, ne_eqb}
+use borrow.Author.Tests.{leb-true, eqb-true, eqb-false, not-true, le-leb, ne_eqb}
 use Rattle.clock.specs.Buckets.{bucket_of}
 use Rattle.settings.specs.declared.Settings.{Settings}
 use Rattle.store.specs.declared.Reading.{Reading}
@@ -28,10 +28,10 @@ pub later_bucket : (c n : ℕ) → leb c n && not (eqb n c) ≡ leb (suc c) n
 later_bucket c n =
     both_ways (leb c n && not (eqb n c)) (leb (suc c) n)
     (λ e.
-    let h : c ≤ n = leb_true _ _ (and_parts _ _ e).0 in
+    let h : c ≤ n = leb-true _ _ (and_parts _ _ e).0 in
     let g : n ≡ c → ⊥ = eqb-false _ _ (not-true _ (and_parts (leb c n) _ e).1) in
     le-leb (suc c) n (omega arith))
-    (λ e. let h : c < n = leb_true _ _ e in rw (le-leb c n (omega arith), ne_eqb n c (omega arith)))
+    (λ e. let h : c < n = leb-true _ _ e in rw (le-leb c n (omega arith), ne_eqb n c (omega arith)))
 
 later_readings :
     (length c : ℕ) (rs : List Reading) → Every (λ (r : Reading). is_from length c r && not (is_in length c r) ≡ is_from length (suc c) r) rs

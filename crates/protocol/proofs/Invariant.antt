@@ -8,7 +8,7 @@ use native.Mathlib.Omega.{arith}
 use native.Mathlib.Nat.{le_refl}
 use lib.Dec.{leb, eqb}
 use lib.ListN.{length, length-map}
-use borrow.Author.Tests.{leb_true, ltb-false, eqb-true}
+use borrow.Author.Tests.{leb-true, ltb-false, eqb-true}
 use Rattle.clock.specs.declared.ArrivalTick.{ArrivalTick}
 use Rattle.clock.specs.Buckets.{bucket_end, finishes}
 use Rattle.settings.specs.declared.Settings.{Settings}
@@ -62,7 +62,7 @@ module _ (s : Settings) (c : ℕ) where
   unfolding is_stable_bucket all_of finishes bucket_end Finished
   each_finished e done = done
   each_finished e (more {a = l} r rs) =
-      let h : c * s.bucket + s.bucket ≤ l.boundary.0 = leb_true _ _ (and_parts _ _ e).0 in
+      let h : c * s.bucket + s.bucket ≤ l.boundary.0 = leb-true _ _ (and_parts _ _ e).0 in
       more (r, omega arith) (each_finished (and_parts (leb (c * s.bucket + s.bucket) l.boundary.0) _ e).1 rs)
 
   module _ (room : 0 < s.bucket) where

@@ -8,7 +8,7 @@ use mathlib.Core.List.{List, [], ◌∷◌, ◌++◌, map, map-append}
 use native.Mathlib.Omega.{arith}
 use native.Mathlib.Nat.{le-div_iff_mul-le, le_refl}
 use lib.Dec.{leb, eqb}
-use borrow.Author.Tests.{ltb-false, leb_true, eqb-true, not-true, not_false, le-leb}
+use borrow.Author.Tests.{ltb-false, leb-true, eqb-true, not-true, not-false, le-leb}
 use Rattle.clock.specs.Buckets.{bucket_of}
 use Rattle.settings.specs.declared.Settings.{Settings}
 use Rattle.journal.specs.declared.Call.{Call}
@@ -112,7 +112,7 @@ module _ (s : Settings) (room : 0 < s.bucket) (c : ℕ) (k : Call) (l : Line) (g
       Agrees s c (on_line k Kind.S l) (observe_line k Kind.S g) (with_stable k Kind.S stables)
   unfolding on_line observe_line with_stable wrong_id too_early uses reading_of
   stable_call e wrong early =
-      let new : k.id ≡ l.last_id + 1 = eqb-true _ _ (not_false _ wrong) in
+      let new : k.id ≡ l.last_id + 1 = eqb-true _ _ (not-false _ wrong) in
       record {
         all = v.all ++ reading_of k ∷ [];
         boundary = v.boundary;
@@ -135,7 +135,7 @@ module _ (s : Settings) (room : 0 < s.bucket) (c : ℕ) (k : Call) (l : Line) (g
       Agrees s c (on_line k Kind.T l) (observe_line k Kind.T g) (with_stable k Kind.T stables)
   unfolding on_line observe_line with_stable wrong_id too_early uses reading_of
   tentative_call e wrong early =
-      let new : k.id ≡ l.last_id + 1 = eqb-true _ _ (not_false _ wrong) in
+      let new : k.id ≡ l.last_id + 1 = eqb-true _ _ (not-false _ wrong) in
       record {
         all = v.all ++ reading_of k ∷ [];
         boundary = v.boundary;
@@ -152,7 +152,7 @@ module _ (s : Settings) (room : 0 < s.bucket) (c : ℕ) (k : Call) (l : Line) (g
   undo_call : wrong_id l k.id Kind.U ≡ false → Agrees s c (on_line k Kind.U l) (observe_line k Kind.U g) (with_stable k Kind.U stables)
   unfolding on_line observe_line with_stable wrong_id entry_of_reading
   undo_call wrong =
-      let least : l.last_stable_id ≤ k.id = leb_true _ _ (and_parts _ _ (not_false _ wrong)).0 in
+      let least : l.last_stable_id ≤ k.id = leb-true _ _ (and_parts _ _ (not-false _ wrong)).0 in
       record {
         all = keep (λ (r : Reading). leb r.id k.id) v.all;
         boundary = v.boundary;

@@ -8,7 +8,7 @@ use native.Mathlib.Omega.{arith}
 use native.Mathlib.Nat.{le-div_iff_mul-le, not-suc-le-zero}
 use lib.Dec.{leb, ltb}
 use lib.ListN.{length}
-use borrow.Author.Tests.{leb_true, le-leb}
+use borrow.Author.Tests.{leb-true, le-leb}
 use Rattle.clock.specs.declared.ReadingTime.{ReadingTime}
 use Rattle.clock.specs.declared.ArrivalTick.{ArrivalTick}
 use Rattle.clock.specs.Buckets.{bucket_of, bucket_end, finishes}
@@ -86,11 +86,11 @@ stable_least s c ls room h =
     all_least (c * s.bucket + s.bucket) ls h ∙
     both_ways (leb (c * s.bucket + s.bucket) (least_boundary_of ls)) (ltb c (least_boundary_of ls / s.bucket))
     (λ e.
-    let h : c * s.bucket + s.bucket ≤ least_boundary_of ls = leb_true _ _ e in
+    let h : c * s.bucket + s.bucket ≤ least_boundary_of ls = leb-true _ _ e in
     let low : suc c * s.bucket ≤ least_boundary_of ls = omega arith in
     le-leb _ _ ((le-div_iff_mul-le room).1 low))
     (λ e.
-    let low : suc c * s.bucket ≤ least_boundary_of ls = (le-div_iff_mul-le room).0 (leb_true _ _ e) in
+    let low : suc c * s.bucket ≤ least_boundary_of ls = (le-div_iff_mul-le room).0 (leb-true _ _ e) in
     le-leb (c * s.bucket + s.bucket) (least_boundary_of ls) (omega arith))
 
 -- ---- the node and the monitor
@@ -112,7 +112,7 @@ module _ (s : Settings) (c : ℕ) where
   overdue_from p now h rs =
       every_any _ rs
       (λ r e.
-      let g : p ≤ bucket_of s.bucket r.time = leb_true _ _ (and_parts _ _ e).0 in
+      let g : p ≤ bucket_of s.bucket r.time = leb-true _ _ (and_parts _ _ e).0 in
       le-leb c (bucket_of s.bucket r.time) (omega arith))
 
   entries_due :

@@ -7,7 +7,7 @@ use native.Mathlib.Omega.{arith}
 use native.Mathlib.Nat.{le_refl}
 use lib.Dec.{ltb, eqb}
 use lib.ListN.{length, replicate, length-append}
-use borrow.Author.Tests.{ltb-false, ltb-true, leb_true}
+use borrow.Author.Tests.{ltb-false, ltb-true, leb-true}
 use Rattle.clock.specs.declared.ArrivalTick.{ArrivalTick}
 use Rattle.settings.specs.declared.Settings.{Settings}
 use Rattle.journal.specs.declared.Call.{Call}
@@ -142,7 +142,7 @@ module _ (s : Settings) (room : 0 < s.bucket) (t : Trace) (v : Kept s t) where
       let i = v.invariant in
       let level : t.node.p ≡ t.node.c = (let h : t.node.p ≤ t.node.c = ltb-false _ _ b in omega (arith, i.order)) in
       let free : ℕ = held_results - (t.node.checkpoint.number - least_of t.node.acknowledged) in
-      let few : free < length (worked s letter_s t.node.c t.node).records = omega (arith, ltb-true, leb_true) in
+      let few : free < length (worked s letter_s t.node.c t.node).records = omega (arith, ltb-true, leb-true) in
       let all : length (failure_free s t.stables (suc t.node.c)).records ≡ length (failure_free s t.stables t.node.c).records + length (worked s letter_s t.node.c t.node).records =
       ap length (worked_free s room t i a level) ∙ length-append (failure_free s t.stables t.node.c).records (worked s letter_s t.node.c t.node).records in
       let count : t.node.checkpoint.number ≡ length (failure_free s t.stables t.node.c).records =

@@ -4,7 +4,7 @@ use mathlib.Core.Path.{◌≡◌, refl, sym}
 use mathlib.Core.Bool.{Bool, true, false, ◌&&◌}
 use native.Mathlib.Omega.{arith}
 use lib.Dec.{leb}
-use borrow.Author.Tests.{leb_true, le-leb}
+use borrow.Author.Tests.{leb-true, le-leb}
 use Rattle.store.proofs.Choices.{and_parts}
 
 -- two tests that imply each other are the same
@@ -23,9 +23,9 @@ and_implied false false h = refl
 pub leb_min : (x a b : ℕ) → leb x (min a b) ≡ leb x a && leb x b
 leb_min x a b =
     both_ways (leb x (min a b)) (leb x a && leb x b)
-    (λ e. let h : x ≤ min a b = leb_true _ _ e in rw (le-leb x a (omega arith), le-leb x b (omega arith)))
+    (λ e. let h : x ≤ min a b = leb-true _ _ e in rw (le-leb x a (omega arith), le-leb x b (omega arith)))
     (λ e.
     let (h, g) = and_parts (leb x a) (leb x b) e in
-    let low : x ≤ a = leb_true _ _ h in
-    let high : x ≤ b = leb_true _ _ g in
+    let low : x ≤ a = leb-true _ _ h in
+    let high : x ≤ b = leb-true _ _ g in
     le-leb x (min a b) (omega arith))

@@ -7,7 +7,7 @@ use mathlib.Core.List.{List, [], ◌∷◌, ◌++◌, map}
 use native.Mathlib.Omega.{arith}
 use native.Mathlib.Nat.{le-div_iff_mul-le}
 use lib.Dec.{leb}
-use borrow.Author.Tests.{leb_true, le-leb}
+use borrow.Author.Tests.{leb-true, le-leb}
 use Rattle.clock.specs.declared.ReadingTime.{ReadingTime}
 use Rattle.settings.specs.declared.Settings.{Settings}
 use Rattle.journal.specs.Kinds.{letter_s, letter_t}
@@ -46,7 +46,7 @@ worked_stable : (s : Settings) → 0 < s.bucket → (t : Trace) → Invariant s 
 unfolding stable_buckets
 worked_stable s room t v =
     let low : t.node.c * s.bucket ≤ least_boundary_of t.node.lines =
-    leb_true _ _ (sym (all_least (t.node.c * s.bucket) t.node.lines v.some) ∙ all_past s t.node.c v.lines) in
+    leb-true _ _ (sym (all_least (t.node.c * s.bucket) t.node.lines v.some) ∙ all_past s t.node.c v.lines) in
     subst (λ n. n ≤ least_boundary t.monitor.lines / s.bucket) v.same_c
     ((le-div_iff_mul-le room).1 (subst (λ n. t.node.c * s.bucket ≤ n) (same_least s t.node.c v.lines) low))
 

@@ -3,7 +3,7 @@ use mathlib.Core.Path.{◌≡◌, refl, ap, ◌∙◌}
 use mathlib.Core.List.{List, [], ◌∷◌, ◌++◌}
 use Prim.Native.Nat.{ℕ, ◌+◌, ◌-◌, ◌≤◌}
 use native.Mathlib.Omega.{arith}
-use borrow.Author.Tests.{leb_true}
+use borrow.Author.Tests.{leb-true}
 use mathlib.Core.Bool.{true}
 use lib.Dec.{leb}
 use lib.ListN.{length, take, drop, take-append-drop}
@@ -21,7 +21,7 @@ use Rattle.record.proofs.BytesOf.{length_bytes_of}
 
 -- room for a record is room up to each place in it, also in an area that is as long
 pub room_within : {j k n : ℕ} → leb n record_bytes ≡ true → k ≡ j → record_bytes ≤ j → n ≤ k
-room_within {n = n} e same room = omega (arith, leb_true n record_bytes e)
+room_within {n = n} e same room = omega (arith, leb-true n record_bytes e)
 
 -- bytes laid down in two runs from the first place on are a new front
 pub halves_laid : (l b : List ℕ) (n : ℕ) → n ≤ length b → length b ≤ length l → laid (laid l 0 (take n b)) n (drop n b) ≡ in_front b l

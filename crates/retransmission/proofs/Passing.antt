@@ -5,7 +5,7 @@ use mathlib.Core.Bool.{Bool, true, false, not, ◌&&◌, and_assoc}
 use mathlib.Core.List.{List, [], ◌∷◌}
 use native.Mathlib.Omega.{arith}
 use native.Mathlib.Nat.{mod-lt}
-use borrow.Author.Tests.{ne_eqb, eq-eqb, not-true, not_false}
+use borrow.Author.Tests.{ne_eqb, eq-eqb, not-true, not-false}
 use lib.Dec.{eqb}
 use lib.ListN.{get_or, take, drop}
 use lib.Seq.{get_or-take, get_or-drop, take-take, take-nil, drop-drop}
@@ -120,7 +120,7 @@ module _ (sent : List ℕ) (before n : ℕ) (few : before % held_results + n ≤
 
         module _ (stable : not kind ≡ false) (word : ℕ) (read : word ≡ number_of (take 4 (drop (at + 4) sent))) where
           pub id_fails : (word ≡ id + 1 → ⊥) → false ≡ places_ok (places_of sent) before n
-          id_fails e = fails (rw (← is, not_false kind stable, ← read, ne_eqb word (suc id) (λ q. e (omega (arith, q)))))
+          id_fails e = fails (rw (← is, not-false kind stable, ← read, ne_eqb word (suc id) (λ q. e (omega (arith, q)))))
 
           pub passing_turn : word ≡ id + 1 → Passing sent before n (at + record_bytes) (id + 1)
           unfolding places_ok
@@ -132,5 +132,5 @@ module _ (sent : List ℕ) (before n : ℕ) (few : before % held_results + n ≤
                 place = omega (arith, v.place, v.from);
                 so_far =
                     ap (places_ok (places_of sent) before) (sym one) ∙ with_next 0 ∙
-                    rw (← is, not_false kind stable, ← read, eq-eqb word (suc id) (omega (arith, e)));
+                    rw (← is, not-false kind stable, ← read, eq-eqb word (suc id) (omega (arith, e)));
               }

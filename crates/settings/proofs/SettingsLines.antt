@@ -7,7 +7,7 @@ use Prim.Native.Nat.{ℕ, ◌+◌, ◌-◌, ◌<◌, ◌^◌}
 use native.Mathlib.Omega.{arith}
 use lib.ListN.{length, drop, length-append}
 use Rattle.decimal.specs.Decimal.{digits, decimal}
-use Rattle.decimal.specs.Spelled.{is_digit_lem}
+use Rattle.decimal.specs.Spelled.{is_digit}
 use Rattle.fields.specs.Line.{field, line_of}
 use Rattle.fields.specs.Field.{ends_line, with_number, with_integer, first, later}
 use Rattle.fields.proofs.Spells.{Spells, spells_append}
@@ -87,7 +87,7 @@ settings_sound s at f x q =
 pub settings_complete :
     (s r : List ℕ) (at : ℕ) (x : Settings) → SettingsFit x → drop at s ≡ settings_text x ++ r →
     settings_at s at ≡ SettingsAt.Line x (at + length (settings_text x))
-unfolding settings_at stretches with_number with_integer is_digit_lem
+unfolding settings_at stretches with_number with_integer is_digit
 settings_complete s r at x fit p =
     let most : 2 ^ 32 - 1 < 2 ^ 64 = omega arith in
     let p0 : drop at s ≡ stretches x ++ r = p ∙ ap (λ (t : List ℕ). t ++ r) (text_stretches x) in

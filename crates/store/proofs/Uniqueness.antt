@@ -5,7 +5,7 @@ use mathlib.Core.Bool.{true, false, true≢false}
 use mathlib.Core.Logic.{◌⊎◌, inl, inr}
 use mathlib.Core.List.Memᴰ
 use mathlib.Core.List.{List, [], ◌∷◌, Memᴰ}
-use borrow.Author.Tests.{not_false}
+use borrow.Author.Tests.{not-false}
 use Rattle.store.specs.Sorted.{Pairwise, Permutation, chain, is_level, Sorted, Distinct}
 use Rattle.store.specs.Order.{Placed, before, sort}
 use Rattle.store.proofs.Pairs.{every_of, pairwise_both}
@@ -19,7 +19,7 @@ Ascending = Pairwise (λ (a b : Placed). before a b ≡ true)
 ascending : (xs : List Placed) → Distinct xs → Sorted xs → Ascending xs
 ascending xs d s =
     pairwise_both (λ (a b : Placed). is_level a b ≡ false) (λ (a b : Placed). before b a ≡ false) (λ (a b : Placed). before a b ≡ true)
-    (λ a b l h. not_false (before a b) (sym (exactly_one_before a b l) ∙ h)) xs d s
+    (λ a b l h. not-false (before a b) (sym (exactly_one_before a b l) ∙ h)) xs d s
 
 abbrev Within : List Placed → List Placed → Type 0
 Within xs ys = (z : Placed) → Memᴰ z xs → Memᴰ z ys

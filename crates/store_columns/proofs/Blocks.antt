@@ -30,11 +30,11 @@ and_pairs true false false d = refl
 -- what is asked twice may be asked once
 reached_back : (ok all before between left : Bool) → ok && left ≡ all → all ≡ before && (between && left) → ok && (between && left) ≡ all
 reached_back ok all before true left e f = e
-reached_back ok all before false left e f = and_false ok ∙ sym (f ∙ and_false before)
+reached_back ok all before false left e f = and-false ok ∙ sym (f ∙ and-false before)
   where
-    and_false : (b : Bool) → b && false ≡ false
-    and_false true = refl
-    and_false false = refl
+    and-false : (b : Bool) → b && false ≡ false
+    and-false true = refl
+    and-false false = refl
 
 -- ---- places from one on
 

@@ -1,7 +1,7 @@
 -- The test whether some reading of bucket p or later has waited out the hold, as bounds on its time and its arrival: a time is of bucket p
 -- or later where it is not before that bucket's start, and an arrival is due where it is not behind the tick less the hold.
-use Rattle.std.proofs.Common.{◌≡◌, ℕ, zero, suc, ◌+◌, ◌-◌, ◌*◌, ◌<◌, ◌≤◌, Bool, true, false, ◌&&◌, leb, List, [], ◌∷◌, length, get_or, sym, refl, ◌∙◌, div-lt_iff_lt-mul, le-div_iff_mul-le, arith, le-leb, leb-false, leb_true}
-use mathlib.Core.Bool.{and_false}
+use Rattle.std.proofs.Common.{◌≡◌, ℕ, zero, suc, ◌+◌, ◌-◌, ◌*◌, ◌<◌, ◌≤◌, Bool, true, false, ◌&&◌, leb, List, [], ◌∷◌, length, get_or, sym, refl, ◌∙◌, div-lt_iff_lt-mul, le-div_iff_mul-le, arith, le-leb, leb-false, leb-true}
+use mathlib.Core.Bool.{and-false}
 use borrow.Author.Tests.{lt-leb}
 use Rattle.clock.specs.declared.ArrivalTick.{ArrivalTick}
 use Rattle.clock.specs.Buckets.{bucket_of}
@@ -37,7 +37,7 @@ every_pair p q (x ∷ xs) (y ∷ ys) same = rw (same x y, every_pair p q xs ys s
 same_order : (a b c d : ℕ) → (a ≤ b → c ≤ d) → (b < a → d < c) → leb a b ≡ leb c d
 same_order a b c d f g =
     (elim (leb a b) as (λ t. leb a b ≡ t → t ≡ leb c d) [
-      | true ↦ λ e. sym (le-leb c d (f (leb_true a b e)))
+      | true ↦ λ e. sym (le-leb c d (f (leb-true a b e)))
       | false ↦ λ e. sym (lt-leb c d (g (leb-false a b e)))
     ])
     refl
@@ -73,7 +73,7 @@ module _ (bucket p hold : ℕ) (now : ArrivalTick) (times arrivals : List ℕ) (
   none_due room h =
       no_pair (is_late_due bucket p hold now) (share base n times) (share base n arrivals)
       (every_share 0 (λ t. (a : ℕ) → is_late_due bucket p hold now t a ≡ false) base n times room
-      (λ i a. rw (lt-leb (a + hold) now.0 (omega arith)) (and_false (leb p (bucket_of bucket (record { 0 = get_or times i 0 }))))))
+      (λ i a. rw (lt-leb (a + hold) now.0 (omega arith)) (and-false (leb p (bucket_of bucket (record { 0 = get_or times i 0 }))))))
 
   -- otherwise the two bounds are the test
   pub some_late_due : (r : Bool) → 0 < bucket → hold ≤ now.0

@@ -4,7 +4,7 @@ use mathlib.Core.Bool.{Bool, true, false, ◌&&◌}
 use Prim.Native.Nat.{ℕ, suc, ◌-◌, ◌*◌, ◌<◌, ◌≤◌, ◌^◌, min}
 use native.Mathlib.Omega.{arith}
 use lib.Dec.{leb, ltb, eqb}
-use borrow.Author.Tests.{leb_true, ltb-true, le-leb, lt-ltb, eqb-true, eqb-false}
+use borrow.Author.Tests.{leb-true, ltb-true, le-leb, lt-ltb, eqb-true, eqb-false}
 use Rattle.clock.specs.declared.ReadingTime.{ReadingTime}
 use Rattle.clock.specs.Buckets.{bucket_of, bucket_end}
 use Rattle.clock.proofs.Buckets.{in_bucket_lem}
@@ -32,7 +32,7 @@ bucket_test length j end t h e =
     (λ above below. rw (le-leb (end - length) t.0 (omega arith), lt-ltb t.0 end (omega arith)))
     (λ p.
     let (low, high) = and_parts (leb (end - length) t.0) (ltb t.0 end) p in
-    (omega (arith, leb_true (end - length) t.0 low), omega (arith, ltb-true t.0 end high)))
+    (omega (arith, leb-true (end - length) t.0 low), omega (arith, ltb-true t.0 end high)))
 
 -- a time of 32 bits is one of bucket j where it lies from the bucket's start to its last time, or to the last time that there is
 pub range_test :
@@ -44,7 +44,7 @@ range_test length j first last t h e f g =
     (λ above below. rw (le-leb first.0 t (omega arith), le-leb t last.0 (omega arith)))
     (λ p.
     let (low, high) = and_parts (leb first.0 t) (leb t last.0) p in
-    (omega (arith, leb_true first.0 t low), omega (arith, leb_true t last.0 high)))
+    (omega (arith, leb-true first.0 t low), omega (arith, leb-true t last.0 high)))
 
 -- no time of 32 bits is one of a bucket that starts behind them
 pub late_bucket : (length j t : ℕ) → 0 < length → 2 ^ 32 ≤ j * length → t < 2 ^ 32 → is_time_of true length j t ≡ false

@@ -4,7 +4,7 @@ use mathlib.Core.Path.{◌≡◌, refl, sym, ◌∙◌, ap}
 use mathlib.Core.Bool.{true, false}
 use native.Mathlib.Omega.{arith}
 use borrow.Author.Rules.{rules}
-use borrow.Author.Tests.{not-true, not_false}
+use borrow.Author.Tests.{not-true, not-false}
 use lib.Dec.{ltb}
 use lib.ListN.{length, take}
 use lib.Seq.{length-take-le}
@@ -74,7 +74,7 @@ abbrev start : tie.After-is-step → tie.Start
 start a = a.before.before.before.before
 
 step : (e : tie.Else1) → is_step (kind_of (start e.before).args.k.kind) ≡ true
-step e = sym e.before.is_step_lem.ensures ∙ not_false _ e.if1.false
+step e = sym e.before.is_step_lem.ensures ∙ not-false _ e.if1.false
 
 -- the least id, once it is known
 abbrev seen : tie.After-struct-known → tie.Else1

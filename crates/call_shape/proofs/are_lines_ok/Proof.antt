@@ -4,7 +4,7 @@ use mathlib.Core.Bool.{true}
 use Prim.Native.Nat.{◌-◌, ◌≤◌}
 use native.Mathlib.Omega.{arith}
 use borrow.Author.Rules.{rules}
-use borrow.Author.Tests.{not-true, not_false}
+use borrow.Author.Tests.{not-true, not-false}
 use Rattle.node.specs.Held.{heads_of}
 use Rattle.node.specs.Shape.{head_ok}
 use Rattle.call_shape.proofs.LinesInShape.{LinesSoFar, small_head}
@@ -30,7 +30,7 @@ turn h = h.before.before
 
 -- and once it is tested
 right : (e : tie.Else1 invariant-loop decreases-loop) → head_ok e.before.before.head_at.result ≡ true
-right e = sym e.before.is-head-ok.ensures ∙ not_false _ e.if1.false
+right e = sym e.before.is-head-ok.ensures ∙ not-false _ e.if1.false
 
 -- the share, once it is tested
 abbrev past : tie.After-is-share-ok invariant-loop decreases-loop → tie.Else1 invariant-loop decreases-loop
@@ -95,7 +95,7 @@ loop-again c =
       λ x lent.
           lines_turn a.lines a.heads.now a.ids.now a.kinds.now a.meters.now (start l).pre.0 l.loop.i
           l.loop.inv.1 x lent (omega arith) _ h.head_at.ensures (right e) _ c.before.is-share-ok.ensures
-          (not_false _ c.if2.false),
+          (not-false _ c.if2.false),
     )
 
 returns-3 : tie.Need-returns-3 invariant-loop decreases-loop

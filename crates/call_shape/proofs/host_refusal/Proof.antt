@@ -5,7 +5,7 @@ use mathlib.Core.Bool.{◌&&◌}
 use mathlib.Core.List.{List, []}
 use native.Mathlib.Omega.{arith}
 use borrow.Author.Rules.{rules}
-use borrow.Author.Tests.{not_false}
+use borrow.Author.Tests.{not-false}
 use lib.IntN.{ℤ}
 use lib.ListN.{length}
 use Rattle.store.specs.Sizes.{readings_per_line}
@@ -104,7 +104,7 @@ are-displays-ok-requires c κs =
     let s = start (long e.before.before) in
     let limits : Limits s.args.state.settings =
     limits_hold s.args.state.settings
-    (shape_limits (seen s []) (columns s) (sym (shaped e.before []) ∙ not_false _ e.if3.false)) in
+    (shape_limits (seen s []) (columns s) (sym (shaped e.before []) ∙ not-false _ e.if3.false)) in
     (limits.some_displays, limits.displays, enough e.before.before)
 
 returns-4 : tie.Need-returns-4

@@ -3,7 +3,7 @@ use mathlib.Core.Path.{◌≡◌, refl, sym, subst, ◌∙◌}
 use mathlib.Core.List.{List}
 use Prim.Native.Nat.{ℕ}
 use native.Mathlib.Omega.{arith}
-use borrow.Author.Tests.{not-true, not_false}
+use borrow.Author.Tests.{not-true, not-false}
 use Rattle.decimal.specs.Spelled.{Ended}
 use Rattle.fields.proofs.Fields.{line_ended}
 use Rattle.commands.specs.CommandLine.{ExactCommand}
@@ -43,7 +43,7 @@ returns c =
 
 -- the text is a line
 ended : (c : tie.Else1) → Ended (asked c.before)
-ended c = line_ended (asked c.before) (sym c.before.is-line.ensures ∙ not_false _ c.if1.false)
+ended c = line_ended (asked c.before) (sym c.before.is-line.ensures ∙ not-false _ c.if1.false)
 
 slice-aggregate-display-line : tie.Need-slice-aggregate-display-line
 slice-aggregate-display-line c = refl

@@ -1,11 +1,11 @@
 -- `decimal::is_digit_lem` meets its contract: its test is that of the definition.
 use mathlib.Core.Path.{refl}
-use Rattle.decimal.specs.Spelled.{is_digit_lem}
+use Rattle.decimal.specs.Spelled.{is_digit}
 use Rattle.decimal.proofs.is_digit.Statement.{statement}
 use Rattle.decimal.proofs.is_digit.Tie as tie
 
 returns : tie.Need-returns
-unfolding is_digit_lem
+unfolding is_digit
 returns c = refl
 
 pub is-digit-spec : {M : Type 1} → statement M

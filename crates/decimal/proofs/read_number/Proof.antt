@@ -4,9 +4,9 @@ use mathlib.Core.Bool.{true}
 use Prim.Native.Nat.{◌+◌, ◌-◌, ◌*◌, ◌<◌, ◌≤◌}
 use native.Mathlib.Numerals.{add-one}
 use native.Mathlib.Omega.{arith}
-use borrow.Author.Tests.{not-true, not_false}
+use borrow.Author.Tests.{not-true, not-false}
 use lib.ListN.{length, get_or}
-use Rattle.decimal.specs.Spelled.{is_digit_lem}
+use Rattle.decimal.specs.Spelled.{is_digit}
 use Rattle.decimal.proofs.Runs.{digit_range}
 use Rattle.decimal.proofs.Scanned.{Scanned, scanned_digit, no_digit_past}
 use Rattle.decimal.proofs.FirstDigits.{
@@ -51,8 +51,8 @@ start c = c.before.before.before.before.before
 inside : (c : tie.Else2 invariant-loop decreases-loop) → (start c).args.at < length (start c).args.s.now
 inside c = c.before.before.before.if1.false
 
-digit : (c : tie.Else2 invariant-loop decreases-loop) → is_digit_lem (get_or (start c).args.s.now (start c).args.at 0) ≡ true
-digit c = sym c.before.is_digit.ensures ∙ not_false c.before.is_digit.result c.if2.false
+digit : (c : tie.Else2 invariant-loop decreases-loop) → is_digit (get_or (start c).args.s.now (start c).args.at 0) ≡ true
+digit c = sym c.before.is_digit.ensures ∙ not-false c.before.is_digit.result c.if2.false
 
 next_inside : (c : tie.Else2 invariant-loop decreases-loop) → (start c).args.at + 1 < length (start c).args.s.now
 next_inside c = digit_inside (start c).args.s.now (start c).args.at (start c).requires (inside c) (digit c)
@@ -127,7 +127,7 @@ entry c = start (nonzero c).before
 -- a digit taken in
 digit_here : (c : tie.Then6 invariant-loop decreases-loop) →
     let l = turn c.before in
-    is_digit_lem (get_or (entry l).args.s.now l.loop.i 0) ≡ true
+    is_digit (get_or (entry l).args.s.now l.loop.i 0) ≡ true
 digit_here c = sym c.before.is-digit3.ensures ∙ c.if6.true
 
 taken_in : (c : tie.Then6 invariant-loop decreases-loop) →

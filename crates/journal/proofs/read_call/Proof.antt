@@ -3,7 +3,7 @@ use mathlib.Core.Path.{◌≡◌, sym, subst, ◌∙◌}
 use mathlib.Core.List.{List}
 use Prim.Native.Nat.{ℕ}
 use native.Mathlib.Omega.{arith}
-use borrow.Author.Tests.{eq-eqb, ne_eqb, not-true, not_false}
+use borrow.Author.Tests.{eq-eqb, ne_eqb, not-true, not-false}
 use lib.ListN.{length}
 use Rattle.fields.proofs.Fields.{line_ended}
 use Rattle.journal.specs.JournalLine.{ExactCall}
@@ -38,7 +38,7 @@ returns c =
 call-at-requires : tie.Need-call-at-requires
 call-at-requires c κs =
     let l = c.before in
-    let ends = sym l.is-line.ensures ∙ not_false _ c.if1.false in
+    let ends = sym l.is-line.ensures ∙ not-false _ c.if1.false in
     (omega arith, line_ended (asked l) ends)
 
 enum-known-c : tie.Need-enum-known-c

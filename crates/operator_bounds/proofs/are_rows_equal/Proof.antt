@@ -1,6 +1,6 @@
 -- `operator_bounds::are_rows_equal` meets its contract: the counts' test and then the sums'.
 use Rattle.std.proofs.Common.{sym, refl, ◌∙◌}
-use borrow.Author.Tests.{not-true, not_false}
+use borrow.Author.Tests.{not-true, not-false}
 use Rattle.operator_bounds.specs.Places.{rows_equal}
 use Rattle.operator_bounds.proofs.are_rows_equal.Statement.{statement}
 use Rattle.operator_bounds.proofs.are_rows_equal.Tie as tie
@@ -21,7 +21,7 @@ returns-2 : tie.Need-returns-2
 unfolding rows_equal
 returns-2 c =
     let counted = c.before.before.are-counts-equal in
-    rw (sym counted.ensures ∙ not_false counted.result c.before.if1.false) c.are-sums-equal.ensures
+    rw (sym counted.ensures ∙ not-false counted.result c.before.if1.false) c.are-sums-equal.ensures
 
 pub are-rows-equal-spec : {M : Type 1} → statement M
 are-rows-equal-spec =

@@ -1,6 +1,6 @@
 -- `operator_bounds::are_rows_ok` meets its contract: the operator's row is tested, and the checkpoint's unless it is the same.
 use Rattle.std.proofs.Common.{◌≡◌, true, ◌&&◌, List, ℤ, sym, refl, ◌∙◌, ap₂, arith}
-use borrow.Author.Tests.{not-true, not_false}
+use borrow.Author.Tests.{not-true, not-false}
 use Rattle.store.specs.Lists.{all_of}
 use Rattle.operator_meter.specs.Bounds.{meter_ok}
 use Rattle.operator_rows.specs.Rows.{Rows, rows_of, operator_row, meters_in}
@@ -19,7 +19,7 @@ entry c = c.before
 operator_ok : (e : tie.Else1) (lasts : List (List ℤ)) → all_of meter_ok (meters_in operator_row (rows (entry e.before) lasts)) ≡ true
 operator_ok e lasts =
     let tested = e.before.is-row-ok in
-    sym (tested.ensures lasts) ∙ not_false tested.result e.if1.false
+    sym (tested.ensures lasts) ∙ not-false tested.result e.if1.false
 
 is-row-ok-requires : tie.Need-is-row-ok-requires
 is-row-ok-requires c κs = (omega arith, c.requires)

@@ -2,7 +2,7 @@
 -- else it does by that of `fetch`.
 use native.Mathlib.Omega.{arith}
 use borrow.Author.Rules.{rules}
-use borrow.Author.Tests.{ltb-true, leb_true}
+use borrow.Author.Tests.{ltb-true, leb-true}
 use mathlib.Core.Path.{◌≡◌, refl, sym, ap, subst}
 use mathlib.Core.Bool.{Bool, true, false, not}
 use lib.ListN.{length}
@@ -50,7 +50,7 @@ returns c =
     let last : a.cursor.last ≡ false = unless_not _ t.if1.taken in
     let f =
     line_here (replied a.cursor a.text a.reply) a.buf.now s.pre.0 (ltb-true _ _ told.0) (length a.out.now)
-    (unless_not _ rest.0) last (leb_true _ _ rest.1) in
+    (unless_not _ rest.0) last (leb-true _ _ rest.1) in
     record { lies = f.lies; next = λ _. f; none = λ e. not_both e last }
 
 fetch-requires : tie.Need-fetch-requires

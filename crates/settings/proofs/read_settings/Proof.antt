@@ -3,7 +3,7 @@ use mathlib.Core.Path.{◌≡◌, sym, subst, ◌∙◌}
 use mathlib.Core.List.{List}
 use Prim.Native.Nat.{ℕ}
 use native.Mathlib.Omega.{arith}
-use borrow.Author.Tests.{eq-eqb, ne_eqb, not-true, not_false}
+use borrow.Author.Tests.{eq-eqb, ne_eqb, not-true, not-false}
 use lib.ListN.{length}
 use Rattle.fields.proofs.Fields.{end_inside, line_ended}
 use Rattle.settings.specs.SettingsLine.{limited, ExactSettings}
@@ -38,7 +38,7 @@ returns c =
 settings-at-requires : tie.Need-settings-at-requires
 settings-at-requires c κs =
     let l = c.before in
-    let ends = sym l.is-line.ensures ∙ not_false _ c.if1.false in
+    let ends = sym l.is-line.ensures ∙ not-false _ c.if1.false in
     (omega (arith, end_inside (asked l) _ ends), line_ended (asked l) ends)
 
 enum-known-s : tie.Need-enum-known-s

@@ -4,7 +4,7 @@ use mathlib.Core.Path.{◌≡◌, sym, ◌∙◌, ap}
 use mathlib.Core.Bool.{true, false}
 use native.Mathlib.Omega.{arith}
 use borrow.Author.Rules.{rules}
-use borrow.Author.Tests.{not-true, not_false}
+use borrow.Author.Tests.{not-true, not-false}
 use mathlib.Core.List.{List}
 use lib.ListN.{length, length-take, length-drop}
 use Rattle.clock.specs.Buckets.{bucket_end}
@@ -96,7 +96,7 @@ goes_on : (t : tie.Then1) → let s = begin (asked t.before) in closes_window s.
 goes_on t = sym t.before.closes-window.ensures ∙ not-true _ t.if1.true
 
 closes : (e : tie.Else1) → let s = begin (asked e.before) in closes_window s.args.state.settings.window s.args.state.c ≡ true
-closes e = sym e.before.closes-window.ensures ∙ not_false _ e.if1.false
+closes e = sym e.before.closes-window.ensures ∙ not-false _ e.if1.false
 
 -- ---- the boundary made, and laid down behind the results
 

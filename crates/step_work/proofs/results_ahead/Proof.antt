@@ -4,7 +4,7 @@ use mathlib.Core.Path.{◌≡◌, sym, ◌∙◌, ap}
 use mathlib.Core.Bool.{true, false}
 use native.Mathlib.Omega.{arith}
 use borrow.Author.Rules.{rules}
-use borrow.Author.Tests.{not-true, not_false}
+use borrow.Author.Tests.{not-true, not-false}
 use lib.ListN.{length}
 use Rattle.clock.specs.Windows.{closes_window}
 use Rattle.operator.specs.Loaded.{operator_of}
@@ -31,7 +31,7 @@ goes_on : (t : tie.Then1) → let s = begin t.before in closes_window s.args.sta
 goes_on t = sym t.before.closes-window.ensures ∙ not-true _ t.if1.true
 
 closes : (e : tie.Else1) → let s = begin e.before in closes_window s.args.state.settings.window s.args.j ≡ true
-closes e = sym e.before.closes-window.ensures ∙ not_false _ e.if1.false
+closes e = sym e.before.closes-window.ensures ∙ not-false _ e.if1.false
 
 -- the readings added
 abbrev closing : tie.After-added → tie.Else1

@@ -1,5 +1,5 @@
 -- `store_columns::ids_rise` meets its contract: by the law on small steps, and where they do not decide, by the exact loop.
-use Rattle.std.proofs.Common.{sym, arith, ltb-true, leb_true}
+use Rattle.std.proofs.Common.{sym, arith, ltb-true, leb-true}
 use Rattle.store.specs.Parts.{share}
 use Rattle.store.proofs.Choices.{and_parts}
 use Rattle.store.proofs.Shares.{length_share_le}
@@ -40,7 +40,7 @@ returns-2 c =
     let start = told.before.before.before in
     let a = start.args in
     let (small, above) = and_parts _ _ c.if2.true in
-    small_steps_rise a.ids.now a.base a.n start.requires.1 (told.steps_back.ensures (leb_true _ _ small)) (omega arith)
+    small_steps_rise a.ids.now a.base a.n start.requires.1 (told.steps_back.ensures (leb-true _ _ small)) (omega arith)
     start.requires.0 _ (ltb-true _ _ above) (omega arith)
 
 ids-rise-exactly-requires : tie.Need-ids-rise-exactly-requires
