@@ -1,4 +1,5 @@
 // The numbers that calls answer with: document 01's 0 to 14, and document 02's 15 to 17 (W2).
+#![tactic(auto)]
 
 // Accepted.
 pub const ACCEPTED: u32 = 0;

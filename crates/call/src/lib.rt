@@ -1,4 +1,6 @@
 // The box's entry point for a journal line. Whatever state, arrays, stores, text and area come, it answers.
+#![tactic(auto)]
+
 ghost use Rattle.std.specs.Prelude.{◌≡◌};
 ghost use Rattle.store.specs.Columns.{columns_of};
 ghost use Rattle.node.specs.Held.{Arrays, arrays_of, held};

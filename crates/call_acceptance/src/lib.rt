@@ -1,4 +1,6 @@
 // What an accepted call does: a step, or an input on the line that it names.
+#![tactic(auto)]
+
 ghost use Rattle.std.specs.Prelude.{◌≡◌};
 ghost use Rattle.journal.specs.declared.CallRead.TheVariants as Read;
 ghost use Rattle.store.specs.Columns.{columns_of};

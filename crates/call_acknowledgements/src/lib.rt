@@ -1,4 +1,6 @@
 // What the displays have acknowledged.
+#![tactic(auto)]
+
 ghost use Rattle.std.specs.Prelude.{◌≡◌, ◌≤◌, take};
 ghost use Rattle.settings.specs.Limits.{max_displays};
 ghost use Rattle.protocol.specs.Displays.{least_of};

@@ -1,4 +1,6 @@
 // What is decided of a call before anything changes: all its refusals, in their order.
+#![tactic(auto)]
+
 ghost use Rattle.std.specs.Prelude.{◌≡◌, true, ◌&&◌, List, ℕ, length};
 ghost use Rattle.store.specs.Columns.{Columns, columns_of};
 ghost use Rattle.protocol.specs.Kinds.{kind_of, is_step};

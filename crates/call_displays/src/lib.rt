@@ -1,5 +1,7 @@
 // The box's entry points for a display: it acknowledges results, or fetches those that are held. Whatever state, arrays, stores and area
 // come, they answer.
+#![tactic(auto)]
+
 ghost use Rattle.std.specs.Prelude.{◌≡◌, List, ◌+◌, ◌^◌, ◌≤◌, ◌<◌, ℤ, take};
 ghost use Rattle.settings.specs.declared.Settings.{Settings};
 ghost use Rattle.settings.specs.Limits.{max_displays};

@@ -1,4 +1,6 @@
 // Refusals 3 to 5 of a journal call, by the tests that a display's calls make too.
+#![tactic(auto)]
+
 ghost use Rattle.std.specs.Prelude.{◌≡◌, ◌&&◌, List, ℕ, ℤ, length};
 ghost use Rattle.store.specs.Lists.{all_of};
 ghost use Rattle.store.specs.Columns.{columns_of};

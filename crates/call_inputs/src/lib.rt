@@ -1,4 +1,6 @@
 // What an accepted input does: to its line's head, and to the line's share of the store.
+#![tactic(auto)]
+
 ghost use Rattle.std.specs.Prelude.{◌≡◌, true, false, cond, ◌+◌, ◌≤◌, ◌<◌, eqb};
 ghost use Rattle.journal.specs.Kinds.{letter_s, letter_b};
 ghost use Rattle.store.specs.Sizes.{readings_per_line};

@@ -1,4 +1,6 @@
 // The opening, and the state before it. Whatever state, arrays, stores and text come, it answers.
+#![tactic(auto)]
+
 ghost use Rattle.std.specs.Prelude.{◌≡◌};
 ghost use Rattle.store.specs.Columns.{columns_of};
 ghost use Rattle.node.specs.Held.{Arrays, arrays_of, held};

@@ -1,4 +1,6 @@
 // Refusals 7 to 14: what is wrong with a call that was read, whatever rule applies.
+#![tactic(auto)]
+
 ghost use Rattle.std.specs.Prelude.{◌≡◌, ◌++◌, ◌+◌, ◌-◌, ◌*◌, ◌≤◌, eqb, length, take};
 ghost use Rattle.settings.specs.Limits.{max_lines};
 ghost use Rattle.journal.specs.Kinds.{letter_t};

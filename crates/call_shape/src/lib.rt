@@ -1,4 +1,6 @@
 // Refusals 3 to 5: what the host lends must be long enough and in shape, whatever it asks.
+#![tactic(auto)]
+
 ghost use Rattle.std.specs.Prelude.{◌≡◌, true, cond, ◌&&◌, List, ℕ, ◌+◌, ◌*◌, ◌-◌, ◌≤◌, leb, eqb, ℤ, length, take};
 ghost use Rattle.settings.specs.Limits.{max_lines, max_displays, within_limits};
 ghost use Rattle.store.specs.Sizes.{readings_per_line};

@@ -1,4 +1,6 @@
 // What the front end in C calls: two functions on bytes.
+#![tactic(auto)]
+
 ghost use Rattle.std.specs.Prelude.{◌≡◌, length};
 ghost use Rattle.area.specs.Laid.{in_front};
 ghost use Rattle.journal.specs.JournalLine.{has_form};

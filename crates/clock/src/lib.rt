@@ -1,4 +1,6 @@
 // The box's two clocks, and reading time cut into buckets and windows.
+#![tactic(auto)]
+
 ghost use Rattle.std.specs.Prelude.{◌≡◌, ◌<◌};
 ghost use Rattle.clock.specs.Buckets.{bucket_of, bucket_end, finishes};
 ghost use Rattle.clock.specs.Windows.{closes_window, window_start};

@@ -1,4 +1,6 @@
 // The lines of the calls that a display makes.
+#![tactic(auto)]
+
 ghost use Rattle.std.specs.Prelude.{◌≡◌, ◌≤◌, length};
 ghost use Rattle.decimal.specs.Spelled.{Ended};
 ghost use Rattle.commands.specs.CommandLine.{ExactCommand};

@@ -1,3 +1,5 @@
+#![tactic(auto)]
+
 // The program console: as merge, and it takes the lines of the displays' calls too.
 fn main() {
     if 1 < os::arg_count() {

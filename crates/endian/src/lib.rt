@@ -1,4 +1,6 @@
 // Words as little-endian bytes: laid over a lent area, and read from a place on.
+#![tactic(auto)]
+
 ghost use Rattle.std.specs.Prelude.{◌≡◌, ◌+◌, ◌≤◌, length, take, drop};
 ghost use Rattle.area.specs.Laid.{laid};
 ghost use Rattle.endian.specs.LittleEndian.{little_endian, number_of};

@@ -1,4 +1,6 @@
 // The journal line: one call, and the reader of its text.
+#![tactic(auto)]
+
 ghost use Rattle.std.specs.Prelude.{◌≡◌, ◌≤◌, length};
 ghost use Rattle.decimal.specs.Spelled.{Ended};
 ghost use Rattle.journal.specs.Kinds.{is_letter};

@@ -1,4 +1,6 @@
 // The text of a journal line: its writer.
+#![tactic(auto)]
+
 ghost use Rattle.std.specs.Prelude.{◌≡◌, ◌+◌, ◌≤◌, length};
 ghost use Rattle.area.specs.Laid.{laid, in_front};
 ghost use Rattle.fields.specs.Written.{written_answer, written_length};

@@ -1,4 +1,6 @@
 // Marks by the word: a bit for each place, 64 places to a word. A place is a meter's number.
+#![tactic(auto)]
+
 ghost use Rattle.std.specs.Prelude.{◌≡◌, map, ◌+◌, ◌*◌, ◌≤◌, ltb, take, drop};
 ghost use Rattle.marks.specs.Words.{word_bits, word_count, word_of, words_of};
 ghost use Rattle.marks.specs.Marks.{next_marked, marked_count};

@@ -1,5 +1,7 @@
 // The node as its caller holds it: a small state by value, lent arrays with the meters and the lines' heads, and two lent stores: readings
 // in columns, and results to be sent back.
+#![tactic(auto)]
+
 ghost use Rattle.std.specs.Prelude.{◌≡◌};
 
 use clock::{ArrivalTick, ReadingTime};

@@ -1,4 +1,6 @@
 // The lines' heads as they are lent, four numbers a line: a head read, a head laid back, how many readings each line keeps, all cleared.
+#![tactic(auto)]
+
 ghost use Rattle.std.specs.Prelude.{◌≡◌, map, ◌<◌, set, replicate};
 ghost use Rattle.settings.specs.Limits.{max_lines};
 ghost use Rattle.protocol.specs.Node.{no_line};

@@ -1,4 +1,6 @@
 // The operator: its meters, with the numbering of results. It goes by value: loaded, worked and laid back.
+#![tactic(auto)]
+
 ghost use Rattle.std.specs.Prelude.{◌≡◌, ℕ, ◌+◌, ◌*◌, ◌<◌, ◌≤◌, ◌^◌, length, take};
 ghost use Rattle.area.specs.Laid.{in_front};
 ghost use Rattle.clock.specs.Windows.{window_start};

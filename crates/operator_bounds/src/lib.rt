@@ -1,4 +1,6 @@
 // Refusal 4's bounds over the meters of operator and checkpoint.
+#![tactic(auto)]
+
 ghost use Rattle.std.specs.Prelude.{◌≡◌, ◌^◌, ◌<◌, ◌&&◌, List, ℤ, ◌==◌, nat_lt};
 ghost use Rattle.store.specs.Lists.{all_of};
 ghost use Rattle.operator_meter.specs.Bounds.{meter_ok};

@@ -1,4 +1,6 @@
 // A meter: count, sum and last value; its bounds, and the values that count.
+#![tactic(auto)]
+
 ghost use Rattle.std.specs.Prelude.{◌≡◌};
 ghost use Rattle.operator_meter.specs.Values.{is_counted};
 

@@ -1,5 +1,7 @@
 // The meters of operator and checkpoint as they are lent: the operator loaded from its row and laid back, one row copied over the other,
 // both cleared.
+#![tactic(auto)]
+
 ghost use Rattle.std.specs.Prelude.{◌≡◌, replicate};
 ghost use Rattle.operator_meter.specs.Values.{no_meter};
 ghost use Rattle.operator.specs.Meters.{meter_count};

@@ -1,4 +1,6 @@
 // An input played: settings line, journal lines and, in a mixed input, displays' lines in, answer lines and records out.
+#![tactic(auto)]
+
 ghost use Rattle.std.specs.Prelude.{◌≡◌, cond, ◌-◌, ◌<◌, length};
 ghost use Rattle.store.specs.Columns.{columns_of};
 ghost use Rattle.node.specs.Held.{Arrays, arrays_of, held};

@@ -1,4 +1,6 @@
 // Where a playback stands in its input and its output: the next text to play, and room for its reply.
+#![tactic(auto)]
+
 ghost use Rattle.std.specs.Prelude.{◌≡◌, true, false, cond, not, ◌⊎◌, ◌+◌, ◌-◌, ◌<◌, ◌≤◌, length, take, drop};
 ghost use Rattle.playback_reply.specs.Reply.{longest_reply};
 ghost use Rattle.fields.specs.Line.{holds_line};

@@ -1,4 +1,6 @@
 // The call that a text makes.
+#![tactic(auto)]
+
 ghost use Rattle.std.specs.Prelude.{◌≡◌, List, ℤ};
 ghost use Rattle.settings.specs.Limits.{max_displays};
 ghost use Rattle.store.specs.Columns.{columns_of};

@@ -1,4 +1,6 @@
 // What is printed for a line: the answer line, then the records as text.
+#![tactic(auto)]
+
 ghost use Rattle.std.specs.Prelude.{◌+◌, ◌*◌, ◌≤◌, length};
 ghost use Rattle.record.specs.Sizes.{record_bytes};
 ghost use Rattle.record_text.specs.Sizes.{longest_record_text};

@@ -1,4 +1,6 @@
 // The beginning of a playback: the input's first text is the settings line, which opens the network.
+#![tactic(auto)]
+
 ghost use Rattle.std.specs.Prelude.{◌≤◌, length};
 ghost use Rattle.store.specs.Columns.{columns_of};
 ghost use Rattle.node.specs.Held.{Arrays, arrays_of, held};

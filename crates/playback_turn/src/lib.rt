@@ -1,4 +1,6 @@
 // One turn of a playback: a text's call is made and its reply laid down.
+#![tactic(auto)]
+
 ghost use Rattle.std.specs.Prelude.{List, ℕ, ◌≤◌, length};
 ghost use Rattle.store.specs.Columns.{columns_of};
 ghost use Rattle.node.specs.Held.{Arrays, arrays_of, held};

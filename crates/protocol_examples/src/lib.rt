@@ -1,1 +1,2 @@
 // The customer's worked examples, proved: definitions and proofs only.
+#![tactic(auto)]

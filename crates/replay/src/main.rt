@@ -1,3 +1,5 @@
+#![tactic(auto)]
+
 // The program replay: as merge, but every display acknowledges the stable results of a line before the next one is read.
 fn main() {
     if 1 < os::arg_count() {

@@ -1,4 +1,6 @@
 // The send-back store: stable results that some display has not acknowledged.
+#![tactic(auto)]
+
 ghost use Rattle.std.specs.Prelude.{◌≡◌, ◌+◌, ◌-◌, ◌*◌, ◌%◌, ◌^◌, ◌≤◌, ◌<◌, length, take, drop};
 ghost use Rattle.area.specs.Laid.{laid, in_front};
 ghost use Rattle.record.specs.Sizes.{record_bytes};

@@ -1,4 +1,6 @@
 // The settings line: what the installer sets.
+#![tactic(auto)]
+
 ghost use Rattle.std.specs.Prelude.{◌≡◌, ◌≤◌, length};
 ghost use Rattle.decimal.specs.Spelled.{Ended};
 ghost use Rattle.settings.specs.Limits.{within_limits};

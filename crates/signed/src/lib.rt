@@ -1,4 +1,6 @@
 // Signed numbers: magnitude, mean, two's complement.
+#![tactic(auto)]
+
 ghost use Rattle.std.specs.Prelude.{◌≡◌, ◌*◌, ◌<◌, ◌≤◌, ◌^◌, nat_abs};
 ghost use Rattle.signed.specs.Nearest.{nearest};
 ghost use Rattle.signed.specs.Mean.{mean};

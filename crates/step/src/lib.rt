@@ -1,4 +1,6 @@
 // One step, done by its rule; state and store of readings are in shape.
+#![tactic(auto)]
+
 ghost use Rattle.std.specs.Prelude.{◌≡◌, true, ◌≤◌, length};
 ghost use Rattle.store.specs.Columns.{Columns, columns_of, store_length};
 ghost use Rattle.protocol.specs.declared.Rule.{Rule as Rules};

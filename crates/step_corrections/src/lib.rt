@@ -1,4 +1,6 @@
 // Rules 1 and 3, which give one record and look at no line: what they leave is said for every state, in shape or not.
+#![tactic(auto)]
+
 ghost use Rattle.std.specs.Prelude.{List, ℕ, ◌≤◌, ◌<◌, ◌^◌, length};
 ghost use Rattle.record.specs.Sizes.{record_bytes};
 ghost use Rattle.protocol.specs.declared.Rule.TheVariants as Rules;

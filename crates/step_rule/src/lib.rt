@@ -1,4 +1,6 @@
 // Which of the five rules of a step applies.
+#![tactic(auto)]
+
 ghost use Rattle.std.specs.Prelude.{◌≡◌, true, ◌*◌, ◌≤◌, ◌<◌, ◌^◌, length, take};
 ghost use Rattle.clock.specs.Buckets.{bucket_end};
 ghost use Rattle.settings.specs.Limits.{max_lines, within_limits};

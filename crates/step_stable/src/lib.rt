@@ -1,4 +1,6 @@
 // Rule 2: what it does to state, arrays, store and area. The host's tests have passed.
+#![tactic(auto)]
+
 ghost use Rattle.std.specs.Prelude.{◌≡◌, true, ◌*◌, ◌≤◌, ◌<◌, ◌^◌, length, take};
 ghost use Rattle.clock.specs.Buckets.{bucket_end};
 ghost use Rattle.settings.specs.Limits.{max_lines};

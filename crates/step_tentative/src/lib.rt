@@ -1,4 +1,6 @@
 // Rule 4, which works a bucket tentatively and leaves the store as it is. The host's tests have passed.
+#![tactic(auto)]
+
 ghost use Rattle.std.specs.Prelude.{◌≤◌, ◌<◌, ◌^◌, length};
 ghost use Rattle.clock.specs.Windows.{window_start};
 ghost use Rattle.store.specs.Columns.{Columns};

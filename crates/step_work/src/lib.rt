@@ -1,4 +1,6 @@
 // A bucket's work: the operator is loaded, the bucket's readings are added, a window that it ends is closed, and the operator is laid back.
+#![tactic(auto)]
+
 ghost use Rattle.std.specs.Prelude.{◌≡◌, ℕ, ◌≤◌, ◌<◌, ◌^◌, length};
 ghost use Rattle.area.specs.Laid.{in_front};
 ghost use Rattle.clock.specs.Windows.{window_start};

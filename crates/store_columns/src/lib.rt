@@ -1,5 +1,7 @@
 // The store in columns: places of one column zeroed, and tests over a share; then all six columns, a reading put into a place, and places
 // zeroed.
+#![tactic(auto)]
+
 ghost use Rattle.std.specs.Prelude.{◌≡◌, ℕ, ◌+◌, ◌-◌, ◌<◌, ◌≤◌, ◌&&◌, ltb, List, [], ◌∷◌, length, replicate, pos, ◌==◌, nat_eq, nat_le, nat_lt};
 ghost use Rattle.std.proofs.lemmas.List.Edits.{sets};
 ghost use Rattle.journal.specs.Kinds.{letter_t};

@@ -1,4 +1,6 @@
 // Whether a time is one of a bucket, and the next place whose time is, or is not.
+#![tactic(auto)]
+
 ghost use Rattle.std.specs.Prelude.{◌≡◌, true, false, ◌+◌, ◌-◌, ◌<◌, ◌≤◌, eqb, length};
 ghost use Rattle.clock.specs.Buckets.{bucket_of};
 ghost use Rattle.store.specs.Lists.{some_of};

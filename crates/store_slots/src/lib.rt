@@ -1,4 +1,6 @@
 // The store as one lent slice of readings: a reading put into a place, places zeroed, a share closed up.
+#![tactic(auto)]
+
 ghost use Rattle.std.specs.Prelude.{◌≡◌};
 ghost use Rattle.store_slots.specs.Slots.{has_place, placed_at, has_places, zeroed_from, closing_up, closed_slots};
 

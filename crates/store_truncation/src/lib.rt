@@ -1,4 +1,6 @@
 // A share cut above an id, in all six columns.
+#![tactic(auto)]
+
 ghost use Rattle.std.specs.Prelude.{◌≡◌, true, List, ◌+◌, ◌≤◌, leb, length};
 ghost use Rattle.store.specs.declared.Reading.{Reading};
 ghost use Rattle.store.specs.Lists.{keep};

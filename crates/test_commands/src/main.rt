@@ -1,4 +1,6 @@
 // Reads each of these texts as a command and prints what it is read as: both forms at their ends, and texts that are neither.
+#![tactic(auto)]
+
 use commands::Command;
 use libc::STDOUT_FILENO;
 

@@ -20,6 +20,8 @@
 // 13. 285-318, 315-348: settings with any number of displays: inside the limits, outside, past the width, not of the form.
 // 14. 319, 349: a journal line that the end of the input cuts off before its 0A.
 // 15. the texts of `judge_other_texts`, 350-359.
+#![tactic(auto)]
+
 use fields::Written;
 use journal::{Call, CallRead};
 use libc::{STDIN_FILENO, STDOUT_FILENO};

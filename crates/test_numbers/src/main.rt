@@ -8,6 +8,8 @@
 // 1. `clocks`: bucket_of, bucket_end, is_finished, is_due, closes_window, window_start.
 // 2. `signs`: mean_of, magnitude, bits32, bits64, signed32, signed64.
 // 3. `words`: put4 and put8 over an area of bytes aa, and what get4 and get8 read there.
+#![tactic(auto)]
+
 mod clocks;
 mod signs;
 mod text;

@@ -12,6 +12,8 @@
 // 5. The T with a byte changed or with another number of bytes: other kinds, zero bytes that are not zero, lengths 31, 33, 34 and 0, and 6
 //    before 5; then changes that leave a record.
 // 6. Which kinds are stable, tentative, a result.
+#![tactic(auto)]
+
 ghost use Rattle.std.specs.Prelude.{◌≤◌, ◌<◌};
 
 mod records;

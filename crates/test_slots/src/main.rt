@@ -4,6 +4,8 @@
 //
 // The expected output was worked out by hand from the definitions of the crate store_slots (specs/Slots.antt); it was not recorded from
 // this program.
+#![tactic(auto)]
+
 ghost use Rattle.std.specs.Prelude.{◌≡◌, ◌+◌, ◌<◌, ◌≤◌};
 ghost use Rattle.store_slots.specs.Slots.{placed_at, zeroed_from, closing_up, closed_slots};
 
