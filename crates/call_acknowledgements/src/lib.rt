@@ -7,7 +7,7 @@ ghost use Rattle.protocol.specs.Displays.{least_of};
 ghost use Rattle.call_acknowledgements.specs.SpanOf.{span_of};
 
 // The least and the greatest of some ids.
-#[derive(Drop)]
+#[derive(Clone, Copy)]
 pub struct Span {
     pub least: u64,
     pub greatest: u64,

@@ -20,7 +20,7 @@ use operator_rows::ROWS;
 use protocol::Rule;
 
 // What is decided of a call before anything changes.
-#[derive(Drop)]
+#[derive(Clone, Copy)]
 pub enum Decision {
     Refused(u32),
     Accepted(Call),

@@ -15,7 +15,7 @@ use protocol::Phase;
 use settings::{Settings, SettingsRead};
 
 // What an opening answers.
-#[derive(Drop)]
+#[derive(Clone, Copy)]
 pub struct OpeningReply {
     pub state: State,
     pub answer: u32,

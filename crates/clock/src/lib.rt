@@ -7,11 +7,11 @@ ghost use Rattle.clock.specs.Windows.{closes_window, window_start};
 ghost use Rattle.clock.specs.Hold.{is_due};
 
 // A tick of the arrival clock, which a call carries as `now`.
-#[derive(Drop)]
+#[derive(Clone, Copy)]
 pub struct ArrivalTick(pub u32);
 
 // A tick of reading time: a reading's own time, or a boundary.
-#[derive(Drop)]
+#[derive(Clone, Copy)]
 pub struct ReadingTime(pub u32);
 
 // The bucket of a time.

@@ -14,7 +14,7 @@ const WORD: u32 = u32::MAX;
 const LONG: u64 = u64::MAX;
 
 // A command with its display and its id; `None` for a text that is no command's.
-#[derive(Drop)]
+#[derive(Clone, Copy)]
 pub enum Command {
     Acknowledge(u32, u64),
     Fetch(u32, u64),
@@ -22,7 +22,7 @@ pub enum Command {
 }
 
 // The display and the id of a line that has these two fields behind a word.
-#[derive(Drop)]
+#[derive(Clone, Copy)]
 enum DisplayLine {
     Fields(u32, u64),
     Malformed,

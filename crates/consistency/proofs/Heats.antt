@@ -12,7 +12,7 @@ use Rattle.store.specs.declared.Reading.{Reading}
 use Rattle.store.specs.Lists.{keep}
 use Rattle.store.proofs.Amounts.{CommutativeMonoid}
 use Rattle.operator_meter.specs.Values.{no_meter, with_value}
-use Rattle.operator.specs.Results.{result}
+use Rattle.operator.specs.Results.{result_of}
 use Rattle.operator.proofs.Measures.{Measure, brought, reported_of}
 use Rattle.consistency.specs.Runs.{Input, record_in}
 use Rattle.consistency.specs.Demand.{Handed, is_opened, settings_in, output_of}
@@ -35,7 +35,7 @@ heat_monoid =
     }
 
 unfoldable pub heat_measure : Measure Heat
-unfolding heat_monoid no_heat plus of_reading of_meter of_result no_meter with_value result
+unfolding heat_monoid no_heat plus of_reading of_meter of_result no_meter with_value result_of
 heat_measure =
     record {
       amounts = heat_monoid;

@@ -36,7 +36,7 @@ use Rattle.operator_meter.specs.Values.{no_meter, with_value, is_counted, has_re
 use Rattle.operator.specs.Meters.{clear, fresh, add, add_all}
 use Rattle.operator_meter.specs.Bounds.{sum_ok, meter_ok}
 use Rattle.record.specs.Markers.{marker}
-use Rattle.operator.specs.Results.{result, results}
+use Rattle.operator.specs.Results.{result_of, results}
 use Rattle.operator.specs.Work.{window_results, close, work}
 use Rattle.protocol.specs.Kinds.{kind_of, uses, is_step}
 use Rattle.protocol.specs.Node.{Node, no_line, opened, is_stable_bucket, keeps_tentative, kept_of, reading_of, on_line}
@@ -76,7 +76,7 @@ call_read text = call_of text
 
 -- a call on the node
 unfoldable pub outcome_on : Settings → Node → Call → Outcome
-unfolding outcome_of answer_to first_failed named_line wrong_line is_zero unused_field wrong_meter wrong_id too_early is_held_back is_full call_tests line_tests step_tests least_of given_up_to free_places lacks_places tests_of no_line opened is_stable_bucket keeps_tentative kept_of reading_of on_line kind_of uses is_step input done accepted first_rule is_correcting is_overdue some_overdue rule_of without boundary_at worked act no_meter with_value clear fresh is_counted add add_all has_result result results marker window_results close work keep some_of all_of modify before insert sort is_in gather in_bucket bucket_of bucket_end finishes closes_window window_start is_due nearest mean
+unfolding outcome_of answer_to first_failed named_line wrong_line is_zero unused_field wrong_meter wrong_id too_early is_held_back is_full call_tests line_tests step_tests least_of given_up_to free_places lacks_places tests_of no_line opened is_stable_bucket keeps_tentative kept_of reading_of on_line kind_of uses is_step input done accepted first_rule is_correcting is_overdue some_overdue rule_of without boundary_at worked act no_meter with_value clear fresh is_counted add add_all has_result result_of results marker window_results close work keep some_of all_of modify before insert sort is_in gather in_bucket bucket_of bucket_end finishes closes_window window_start is_due nearest mean
 outcome_on s n k = outcome_of s n k
 
 -- an opening and the three calls on state, stores and area

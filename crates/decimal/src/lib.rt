@@ -7,28 +7,28 @@ ghost use Rattle.decimal.specs.Decimal.{digits, decimal};
 ghost use Rattle.decimal.specs.Spelled.{Ended, is_digit, run_at, number_at, widened, negated, as_integer, integer_at};
 
 // An unsigned number that a text spells from a place on, with the place behind it.
-#[derive(Drop)]
+#[derive(Clone, Copy)]
 pub enum Number {
     Value(u32, usize),
     Malformed,
 }
 
 // One of 64 bits.
-#[derive(Drop)]
+#[derive(Clone, Copy)]
 pub enum WideNumber {
     Value(u64, usize),
     Malformed,
 }
 
 // A signed number likewise.
-#[derive(Drop)]
+#[derive(Clone, Copy)]
 pub enum Integer {
     Value(i32, usize),
     Malformed,
 }
 
 // The digits that stand in a text from a place on: their value and the place behind them, or that 64 bits do not hold the value.
-#[derive(Drop)]
+#[derive(Clone, Copy)]
 enum Run {
     Digits(u64, usize),
     Past,

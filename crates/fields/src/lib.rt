@@ -11,7 +11,7 @@ ghost use Rattle.fields.specs.Field.{starts_with, ends_line, number_field, integ
 use decimal::{Integer, Number, WideNumber};
 
 // What a writer of text into a lent area answers: the text's length, or why nothing was written.
-#[derive(Drop)]
+#[derive(Clone, Copy)]
 pub enum Written {
     Text(usize),
     ShortArea,

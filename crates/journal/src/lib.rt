@@ -30,7 +30,7 @@ const WORD: u32 = u32::MAX;
 const BYTE: u32 = u8::MAX as u32;
 
 // The fields of one journal line; the kind is its letter's byte.
-#[derive(Drop)]
+#[derive(Clone, Copy)]
 pub struct Call {
     pub now: ArrivalTick,
     pub id: u32,
@@ -42,14 +42,14 @@ pub struct Call {
 }
 
 // The journal line that a text has from a place on, with the place behind it.
-#[derive(Drop)]
+#[derive(Clone, Copy)]
 pub enum CallAt {
     Line(Call, usize),
     Malformed,
 }
 
 // What a call's text is read as.
-#[derive(Drop)]
+#[derive(Clone, Copy)]
 pub enum CallRead {
     Accepted(Call),
     Malformed,

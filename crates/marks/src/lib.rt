@@ -16,7 +16,7 @@ const WORD_BITS: usize = 64;
 pub const PLACES: usize = WORDS * WORD_BITS;
 
 // The next marked place.
-#[derive(Drop)]
+#[derive(Clone, Copy)]
 pub enum NextMark {
     At(usize),
     Nothing,

@@ -20,7 +20,7 @@ use Rattle.operator_meter.specs.declared.Meter.{Meter}
 use Rattle.operator.specs.Meters.{Operator, meter_count, add_all}
 use Rattle.record.specs.Markers.{marker}
 use Rattle.operator_meter.specs.Values.{has_result}
-use Rattle.operator.specs.Results.{result, results}
+use Rattle.operator.specs.Results.{result_of, results}
 use Rattle.operator.specs.Work.{window_results, close, work}
 use Rattle.store.proofs.Pairs.{every_both}
 use Rattle.operator.proofs.Adding.{add_all_number, add_all_length}
@@ -57,8 +57,8 @@ module _ (kind : ℕ) (byte : kind < 2 ^ 8) (known : is_record kind ≡ true) wh
 
   result_readable :
       (most : ℕ) → most < 2 ^ 32 → (start : ReadingTime) → start.0 < 2 ^ 32 → (i number : ℕ) → i < 2 ^ 8 → number < 2 ^ 32 →
-      (m : Meter) → GoodMeter most m → Readable (result kind start i number m)
-  unfolding result
+      (m : Meter) → GoodMeter most m → Readable (result_of kind start i number m)
+  unfolding result_of
   result_readable most few start f i number h g m v = (
     record {
       kind = byte;
@@ -83,7 +83,7 @@ module _ (kind : ℕ) (byte : kind < 2 ^ 8) (known : is_record kind ≡ true) wh
       (λ b.
       Every Readable
       (cond b
-      (result kind start i (suc number) m ∷ results kind start (suc i) (suc number) ms)
+      (result_of kind start i (suc number) m ∷ results kind start (suc i) (suc number) ms)
       (results kind start (suc i) number ms))) [
         | true ↦ (
           result_readable most few start f i (suc number) (omega arith) (omega arith) m v.0,

@@ -26,7 +26,7 @@ pub const DISPLAYS: usize = settings::MAX_DISPLAYS as usize;
 pub const RECORDS_PER_CALL: usize = operator::METERS + 1;
 
 // What is known of a line; its kept readings stand in the store.
-#[derive(Drop)]
+#[derive(Clone, Copy)]
 pub struct LineHead {
     pub boundary: ReadingTime,
     pub last_id: u32,
@@ -36,7 +36,7 @@ pub struct LineHead {
 
 // A state with lines 0 is closed: no network is open, and every call on it is refused. The two numberings are the operator's, the id of the
 // newest result, and the checkpoint's, that of the last stable one; 0 if there is none.
-#[derive(Drop)]
+#[derive(Clone, Copy)]
 pub struct State {
     pub settings: Settings,
     pub clock: ArrivalTick,
@@ -49,7 +49,7 @@ pub struct State {
 }
 
 // What a call answers; the records stand in the output area.
-#[derive(Drop)]
+#[derive(Clone, Copy)]
 pub struct CallReply {
     pub state: State,
     pub records: u32,

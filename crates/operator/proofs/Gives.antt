@@ -15,7 +15,7 @@ use Rattle.store.specs.Lists.{Every, some_of}
 use Rattle.store.proofs.Pairs.{every_to}
 use Rattle.operator_meter.specs.declared.Meter.{Meter}
 use Rattle.operator_meter.specs.Values.{no_meter, has_result}
-use Rattle.operator.specs.Results.{result, results}
+use Rattle.operator.specs.Results.{result_of, results}
 use Rattle.operator.proofs.Results.{has_result_count}
 
 -- the record is the result of one of these meters, numbered from i on, and that meter has values
@@ -23,7 +23,7 @@ pub record Given (kind : ℕ) (start : ReadingTime) (i : ℕ) (ms : List Meter) 
   pub place : ℕ
   pub within : place < length ms
   pub counted : 0 < (get_or ms place no_meter).count
-  pub its : r ≡ result kind start (i + place) r.id (get_or ms place no_meter)
+  pub its : r ≡ result_of kind start (i + place) r.id (get_or ms place no_meter)
 
 -- a record names meter number j
 unfoldable pub is_of : ℕ → Record → Bool
@@ -38,18 +38,18 @@ module _ (kind : ℕ) (start : ReadingTime) where
         counted = g.counted;
         its =
             g.its ∙
-            ap (λ (j : ℕ). result kind start j r.id (get_or ms g.place no_meter))
+            ap (λ (j : ℕ). result_of kind start j r.id (get_or ms g.place no_meter))
             (let e : suc i + g.place ≡ i + suc g.place = omega arith in e);
       }
 
-  given_first : (i n : ℕ) (m : Meter) (ms : List Meter) → has_result m ≡ true → Given kind start i (m ∷ ms) (result kind start i (suc n) m)
-  unfolding result
+  given_first : (i n : ℕ) (m : Meter) (ms : List Meter) → has_result m ≡ true → Given kind start i (m ∷ ms) (result_of kind start i (suc n) m)
+  unfolding result_of
   given_first i n m ms e =
       record {
         place = 0;
         within = omega arith;
         counted = (has_result_count m).0 e;
-        its = ap (λ (j : ℕ). result kind start j (suc n) m) (let q : i ≡ i + 0 = omega arith in q);
+        its = ap (λ (j : ℕ). result_of kind start j (suc n) m) (let q : i ≡ i + 0 = omega arith in q);
       }
 
   pub results_given : (i n : ℕ) (ms : List Meter) → Every (Given kind start i ms) (results kind start i n ms)
@@ -60,7 +60,7 @@ module _ (kind : ℕ) (start : ReadingTime) where
       (λ b.
       has_result m ≡ b →
       Every (Given kind start i (m ∷ ms))
-      (cond b (result kind start i (suc n) m ∷ results kind start (suc i) (suc n) ms) (results kind start (suc i) n ms))) [
+      (cond b (result_of kind start i (suc n) m ∷ results kind start (suc i) (suc n) ms) (results kind start (suc i) n ms))) [
         | true ↦
             λ e. (
               given_first i n m ms e,
@@ -72,24 +72,24 @@ module _ (kind : ℕ) (start : ReadingTime) where
 
   -- no result of the meters from i on names an earlier one
   none_earlier : (i n : ℕ) (ms : List Meter) (j : ℕ) → j < i → some_of (is_of j) (results kind start i n ms) ≡ false
-  unfolding results result some_of is_of
+  unfolding results result_of some_of is_of
   none_earlier i n [] j h = refl
   none_earlier i n (m ∷ ms) j h =
       elim (has_result m) as
       (λ b.
-      some_of (is_of j) (cond b (result kind start i (suc n) m ∷ results kind start (suc i) (suc n) ms) (results kind start (suc i) n ms)) ≡ false) [
+      some_of (is_of j) (cond b (result_of kind start i (suc n) m ∷ results kind start (suc i) (suc n) ms) (results kind start (suc i) n ms)) ≡ false) [
         | true ↦
             rw (ne_eqb i j (λ q. omega arith)) (none_earlier (suc i) (suc n) ms j (omega arith))
         | false ↦ none_earlier (suc i) n ms j (omega arith)
       ]
 
   named_later : (i n : ℕ) (ms : List Meter) (j : ℕ) → j < length ms → some_of (is_of (i + j)) (results kind start i n ms) ≡ has_result (get_or ms j no_meter)
-  unfolding results result some_of is_of
+  unfolding results result_of some_of is_of
   named_later i n [] j h = absurd (omega arith)
   named_later i n (m ∷ ms) zero h =
       elim (has_result m) as
       (λ b.
-      some_of (is_of (i + zero)) (cond b (result kind start i (suc n) m ∷ results kind start (suc i) (suc n) ms) (results kind start (suc i) n ms)) ≡ b) [
+      some_of (is_of (i + zero)) (cond b (result_of kind start i (suc n) m ∷ results kind start (suc i) (suc n) ms) (results kind start (suc i) n ms)) ≡ b) [
         | true ↦ rw (eq-eqb i (i + zero) (omega arith))
         | false ↦ none_earlier (suc i) n ms (i + zero) (omega arith)
       ]
@@ -97,10 +97,12 @@ module _ (kind : ℕ) (start : ReadingTime) where
       let e : i + suc j ≡ suc i + j = omega arith in
       elim (has_result m) as
       (λ b.
-      some_of (is_of (i + suc j)) (cond b (result kind start i (suc n) m ∷ results kind start (suc i) (suc n) ms) (results kind start (suc i) n ms)) ≡
+      some_of (is_of (i + suc j)) (cond b (result_of kind start i (suc n) m ∷ results kind start (suc i) (suc n) ms) (results kind start (suc i) n ms)) ≡
       has_result (get_or ms j no_meter)) [
-        | true ↦ rw (ne_eqb i (i + suc j) (λ q. omega arith), e) (named_later (suc i) (suc n) ms j (omega arith))
-        | false ↦ rw e (named_later (suc i) n ms j (omega arith))
+        | true ↦
+            rw (ne_eqb i (i + suc j) (λ q. omega arith))
+            (ap (λ (k : ℕ). some_of (is_of k) (results kind start (suc i) (suc n) ms)) e ∙ named_later (suc i) (suc n) ms j (omega arith))
+        | false ↦ ap (λ (k : ℕ). some_of (is_of k) (results kind start (suc i) n ms)) e ∙ named_later (suc i) n ms j (omega arith)
       ]
 
   -- meter j has a result exactly if its count is above 0

@@ -22,7 +22,7 @@ use Rattle.marks.specs.declared.NextMark.TheVariants as NextMark
 use Rattle.marks.specs.Marks.{next_marked}
 use Rattle.operator.specs.Meters.{Operator, meter_count, clear}
 use Rattle.operator_meter.specs.Values.{no_meter}
-use Rattle.operator.specs.Results.{result, results}
+use Rattle.operator.specs.Results.{result_of, results}
 use Rattle.operator.specs.Parts.{marks_of}
 use Rattle.operator.specs.Work.{window_results, close}
 use Rattle.operator.proofs.Results.{givers, givers_most, results_length}
@@ -58,7 +58,7 @@ module _ (kind : ℕ) (start : ReadingTime) (ms : List Meter) where
         sym (results_length kind start from n (drop from ms)) ∙ ap length (results_nothing kind start ms sized from n e)
 
     rest_next : (from n i : ℕ) → next_marked (marks_of ms) from ≡ NextMark.At i
-        → rest from n ≡ bytes_of (result kind start i (suc n) (get_or ms i no_meter)) ++ rest (suc i) (suc n)
+        → rest from n ≡ bytes_of (result_of kind start i (suc n) (get_or ms i no_meter)) ++ rest (suc i) (suc n)
     unfolding rest all_bytes
     rest_next from n i e = ap all_bytes (results_next kind start ms sized from n i e)
 
@@ -108,7 +108,7 @@ module _ (kind : ℕ) (start : ReadingTime) (ms : List Meter) (area₀ : List �
         }
 
     pub laying_next : (i : ℕ) → next_marked (marks_of ms) from ≡ NextMark.At i
-        → (r : Record) → r ≡ result kind start i (number + 1) (get_or ms i no_meter)
+        → (r : Record) → r ≡ result_of kind start i (number + 1) (get_or ms i no_meter)
         → (next : List ℕ) → next ≡ take at area ++ bytes_of r ++ drop (at + record_bytes) area
         → Laying kind start ms area₀ number₀ next (number + 1) (at + record_bytes) (i + 1)
     laying_next i e r q next p =
@@ -119,7 +119,7 @@ module _ (kind : ℕ) (start : ReadingTime) (ms : List Meter) (area₀ : List �
         p ∙
         ap (λ (n : ℕ). take at area ++ bytes_of r ++ drop (at + n) area) (sym size) ∙
         written area (bytes_of r) at (omega (arith, room.bytes)) in
-        let its : r ≡ result kind start i (suc number) (get_or ms i no_meter) = rw add-one at q in
+        let its : r ≡ result_of kind start i (suc number) (get_or ms i no_meter) = rw add-one at q in
         let more : rest kind start ms from number ≡ bytes_of r ++ rest kind start ms (suc i) (suc number) =
         rest_next kind start ms v.whole from number i e ∙
         ap (λ (x : Record). bytes_of x ++ rest kind start ms (suc i) (suc number)) (sym its) in

@@ -25,7 +25,7 @@ use Rattle.store.proofs.Amounts.{CommutativeMonoid, none_plus, total_of, kept_ap
 use Rattle.operator_meter.specs.declared.Meter.{Meter}
 use Rattle.operator.specs.Meters.{Operator, meter_count, add, add_all, clear}
 use Rattle.operator_meter.specs.Values.{no_meter, with_value, has_result}
-use Rattle.operator.specs.Results.{result, results}
+use Rattle.operator.specs.Results.{result_of, results}
 use Rattle.operator.specs.Work.{Worked, window_results, close, work}
 use Rattle.operator.proofs.Values.{counts, counts_for}
 use Rattle.operator.proofs.Adding.{meter_of, add_meter, add_length, add_all_length}
@@ -39,7 +39,7 @@ pub record Measure (M : Type 0) : Type 0 where
   pub of_result : Record → M
   pub blank : of_meter no_meter ≡ amounts.none
   pub added : (r : Reading) (m : Meter) → of_meter (with_value r.value m) ≡ amounts.plus (of_meter m) (of_reading r)
-  pub reported : (kind : ℕ) (start : ReadingTime) (i number : ℕ) (m : Meter) → of_result (result kind start i number m) ≡ of_meter m
+  pub reported : (kind : ℕ) (start : ReadingTime) (i number : ℕ) (m : Meter) → of_result (result_of kind start i number m) ≡ of_meter m
 
 -- a result of meter i of this kind
 abbrev pub reports : ℕ → ℕ → Record → Bool
@@ -123,13 +123,13 @@ module _ {M : Type 0} (m : Measure M) where
   module _ (kind : ℕ) (start : ReadingTime) (i : ℕ) where
     -- meters above i report nothing of it
     reported_above : (k number : ℕ) (ms : List Meter) → i < k → reported_of kind i (results kind start k number ms) ≡ none
-    unfolding results keep result
+    unfolding results keep result_of
     reported_above k number [] h = refl
     reported_above k number (meter ∷ ms) h =
         elim (has_result meter) as
         (λ b.
         reported_of kind i
-        (cond b (result kind start k (suc number) meter ∷ results kind start (suc k) (suc number) ms)
+        (cond b (result_of kind start k (suc number) meter ∷ results kind start (suc k) (suc number) ms)
         (results kind start (suc k) number ms)) ≡
         none) [
           | true ↦ rw (eq-eqb kind kind refl, ne_eqb k i (omega arith)) (reported_above (suc k) (suc number) ms (omega arith))
@@ -140,14 +140,14 @@ module _ {M : Type 0} (m : Measure M) where
     reported_results :
         (d k number : ℕ) (ms : List Meter) → k + d ≡ i → d < length ms → Reportable (get_or ms d no_meter) →
         reported_of kind i (results kind start k number ms) ≡ m.of_meter (get_or ms d no_meter)
-    unfolding results keep result
+    unfolding results keep result_of
     reported_results d k number [] e h q = absurd (omega arith)
     reported_results zero k number (meter ∷ ms) e h q =
         (elim (has_result meter) as
         (λ b.
         has_result meter ≡ b →
         reported_of kind i
-        (cond b (result kind start k (suc number) meter ∷ results kind start (suc k) (suc number) ms)
+        (cond b (result_of kind start k (suc number) meter ∷ results kind start (suc k) (suc number) ms)
         (results kind start (suc k) number ms)) ≡
         m.of_meter meter) [
           | true ↦
@@ -161,7 +161,7 @@ module _ {M : Type 0} (m : Measure M) where
         elim (has_result meter) as
         (λ b.
         reported_of kind i
-        (cond b (result kind start k (suc number) meter ∷ results kind start (suc k) (suc number) ms)
+        (cond b (result_of kind start k (suc number) meter ∷ results kind start (suc k) (suc number) ms)
         (results kind start (suc k) number ms)) ≡
         m.of_meter (get_or ms d no_meter)) [
           | true ↦

@@ -20,7 +20,7 @@ use Rattle.store.proofs.Choices.{not_both}
 use Rattle.operator_meter.specs.declared.Meter.{Meter}
 use Rattle.operator_meter.specs.Values.{no_meter, has_result}
 use Rattle.operator.specs.Meters.{meter_count}
-use Rattle.operator.specs.Results.{result, results}
+use Rattle.operator.specs.Results.{result_of, results}
 use Rattle.operator.specs.Parts.{marks_of}
 use Rattle.operator.proofs.Results.{givers}
 use Rattle.operator.proofs.FromPlace.{results_from_giver, results_from_other, results_from_end}
@@ -101,7 +101,7 @@ module _ (kind : ℕ) (start : ReadingTime) (ms : List Meter) where
   module _ (sized : length ms ≡ meter_count) where
     pub results_next : (from n i : ℕ) → next_marked (marks_of ms) from ≡ NextMark.At i
         → results kind start from n (drop from ms) ≡
-        result kind start i (suc n) (get_or ms i no_meter) ∷ results kind start (suc i) (suc n) (drop (suc i) ms)
+        result_of kind start i (suc n) (get_or ms i no_meter) ∷ results kind start (suc i) (suc n) (drop (suc i) ms)
     results_next from n i e =
         let g = next_gives ms sized from i e in
         let there : from + (i - from) ≡ i = omega (arith, g.above) in

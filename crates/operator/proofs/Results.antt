@@ -11,7 +11,7 @@ use Rattle.store.specs.Lists.{keep}
 use Rattle.store.proofs.Keeping.{length_keep}
 use Rattle.operator_meter.specs.declared.Meter.{Meter}
 use Rattle.operator_meter.specs.Values.{has_result}
-use Rattle.operator.specs.Results.{result, results}
+use Rattle.operator.specs.Results.{result_of, results}
 
 -- a meter gives a result exactly if its count is above 0
 pub has_result_count : (m : Meter) → (has_result m ≡ true) ↔ (0 < m.count)
@@ -33,7 +33,7 @@ module _ (kind : ℕ) (start : ReadingTime) where
   results_length i n (m ∷ ms) =
       elim (has_result m) as
       (λ b.
-      length (cond b (result kind start i (suc n) m ∷ results kind start (suc i) (suc n) ms) (results kind start (suc i) n ms)) ≡
+      length (cond b (result_of kind start i (suc n) m ∷ results kind start (suc i) (suc n) ms) (results kind start (suc i) n ms)) ≡
       length (cond b (m ∷ keep has_result ms) (keep has_result ms))) [
         | true ↦ ap suc (results_length (suc i) (suc n) ms)
         | false ↦ results_length (suc i) n ms

@@ -7,8 +7,8 @@ use Rattle.operator_meter.specs.declared.Meter.{Meter}
 use Rattle.operator_meter.specs.Values.{has_result}
 
 -- the result of meter number i, of this kind, at the window's start, with this number
-unfoldable pub result : ℕ → ReadingTime → ℕ → ℕ → Meter → Record
-result kind start i number m =
+unfoldable pub result_of : ℕ → ReadingTime → ℕ → ℕ → Meter → Record
+result_of kind start i number m =
     record {
       sum = m.sum;
       id = number;
@@ -25,5 +25,5 @@ unfoldable pub results : ℕ → ReadingTime → ℕ → ℕ → List Meter → 
 results kind start i number [] = []
 results kind start i number (m ∷ ms) =
     cond (has_result m)
-    (result kind start i (suc number) m ∷ results kind start (suc i) (suc number) ms)
+    (result_of kind start i (suc number) m ∷ results kind start (suc i) (suc number) ms)
     (results kind start (suc i) number ms)

@@ -12,7 +12,7 @@ ghost use Rattle.record.specs.Layout.{all_bytes};
 ghost use Rattle.store.specs.Lists.{Every};
 ghost use Rattle.operator.specs.Meters.{meter_count, clear};
 ghost use Rattle.operator.specs.Parts.{marks_of};
-ghost use Rattle.operator.specs.Results.{result};
+ghost use Rattle.operator.specs.Results.{result_of};
 ghost use Rattle.operator.specs.Work.{Worked, close};
 ghost use Rattle.operator.specs.Loaded.{operator_of};
 ghost use Rattle.operator.specs.Bucket.{Addable, BucketAdded};
@@ -30,7 +30,7 @@ pub const METERS: usize = marks::PLACES;
 pub const METER_LIMIT: u8 = METERS as u8;
 
 // The meters in columns, one for each of a meter's numbers; `number` is the id of the newest result, 0 if there is none.
-#[derive(Drop)]
+#[derive(Clone, Copy)]
 pub struct Operator {
     pub sums: [i64; METERS],
     pub counts: [u32; METERS],
@@ -41,7 +41,7 @@ pub struct Operator {
 // The result of a meter.
 fn result(kind: u8, start: ReadingTime, meter: usize, number: u32, m: Meter) -> Record
     requires { (meter < meter_count) × InRange m.sum m.count }
-    ensures* { λ r. ⌜ r ≡ result kind start meter number m ⌝ }
+    ensures { result ≡ result_of kind start meter number m }
 {
     Record {
         sum: m.sum,
@@ -58,7 +58,7 @@ fn result(kind: u8, start: ReadingTime, meter: usize, number: u32, m: Meter) -> 
 impl Operator {
     // Clears the meters; the numbering goes on.
     pub fn clear(mut self) -> Operator
-        ensures* { λ r. ⌜ operator_of r ≡ clear (operator_of self) ⌝ }
+        ensures { operator_of result ≡ clear (operator_of self) }
     {
         self.sums = [0i64; METERS];
         self.counts = [0u32; METERS];
@@ -80,9 +80,9 @@ impl Operator {
     ) -> Operator
         requires { (s.lines ≤ max_lines) ×
             Addable s (take s.lines kept) times.now values.now meters.now (operator_of self) }
-        ensures* { λ r. ⌜ Every (λ m. InRange m.sum m.count) (operator_of r).meters ×
+        ensures { Every (λ m. InRange m.sum m.count) (operator_of result).meters ×
             BucketAdded s j (take s.lines kept) times.now values.now meters.now (operator_of self)
-            (operator_of r) ⌝ }
+            (operator_of result) }
     {
         // of each meter the newest reading's time, as it stands in a column
         let mut newest = [0u32; METERS];
@@ -116,7 +116,7 @@ impl Operator {
 
     // A mark for each meter with a result.
     pub fn marks(self) -> [u64; marks::WORDS]
-        ensures* { λ r. ⌜ r ≡ marks_of (operator_of self).meters ⌝ }
+        ensures { result ≡ marks_of (operator_of self).meters }
     {
         let counts = self.counts;
         marks::marks_of(counts)
@@ -124,7 +124,7 @@ impl Operator {
 
     // How many results a window closed now would give.
     pub fn results_ahead(self) -> u32
-        ensures* { λ r. ⌜ ((s : Limits) → (kind : ℕ) → (j : ℕ) → r ≡ length (close s kind j (operator_of self)).records) ⌝ }
+        ensures { (s : Limits) → (kind : ℕ) → (j : ℕ) → result ≡ length (close s kind j (operator_of self)).records }
     {
         let marked = self.marks();
         marks::marked_count(marked)
@@ -143,9 +143,8 @@ impl Operator {
         requires { (marked ≡ marks_of (operator_of self).meters) × (meter_count * record_bytes ≤ length area.old) ×
             (window_start s.bucket s.window j < 2 ^ 32) × (self.number + meter_count < 2 ^ 32) ×
             Every (λ m. InRange m.sum m.count) (operator_of self).meters }
-        ensures* { λ r.
-            let done : Worked = close s kind j (operator_of self) in
-            ⌜ (operator_of r ≡ done.operator) × (area.new ≡ in_front (all_bytes done.records) area.old) ⌝ }
+        ensures { let done : Worked = close s kind j (operator_of self) in
+            (operator_of result ≡ done.operator) × (area.new ≡ in_front (all_bytes done.records) area.old) }
     {
         let start = ReadingTime(clock::window_start(s.bucket, s.window, j) as u32);
         let mut number = self.number;

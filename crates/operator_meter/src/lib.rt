@@ -9,7 +9,7 @@ use settings::Settings;
 // The largest count of a meter.
 pub const COUNT_LIMIT: u32 = 32_768;
 
-#[derive(Drop)]
+#[derive(Clone, Copy)]
 pub struct Meter {
     pub sum: i64,
     pub count: u32,

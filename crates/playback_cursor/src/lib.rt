@@ -88,7 +88,7 @@ fn shift(buf: &mut [u8], at: usize, n: usize)
 }
 
 // How much of the output is used, and whether writing it out failed.
-#[derive(Drop)]
+#[derive(Clone, Copy)]
 struct Room {
     used: usize,
     failed: bool,
@@ -130,7 +130,7 @@ fn lines_end(s: &[u8], n: usize) -> usize
 // Where a playback stands. What is unread is the buffer from `at` to `have`; the text to play next is its next line, cut from what stands
 // before `whole`, the place behind the last 0A, or the end of a text that has none. How much of the output is used; whether the text is to
 // be played; whether the rest of a line that filled the buffer is to be passed over next; whether nothing follows.
-#[derive(Drop)]
+#[derive(Clone, Copy)]
 pub struct Cursor {
     pub at: usize,
     pub whole: usize,

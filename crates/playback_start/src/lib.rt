@@ -16,14 +16,14 @@ use operator_rows::ROWS;
 use playback_cursor::Cursor;
 
 // A state, and how many bytes of the output are used.
-#[derive(Drop)]
+#[derive(Clone, Copy)]
 pub struct Played {
     pub state: State,
     pub used: usize,
 }
 
 // A state, and where a playback stands behind the text that left it.
-#[derive(Drop)]
+#[derive(Clone, Copy)]
 pub struct Started {
     pub state: State,
     pub cursor: Cursor,

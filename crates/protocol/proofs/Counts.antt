@@ -16,7 +16,7 @@ use Rattle.store.specs.Order.{Placed, in_bucket}
 use Rattle.operator_meter.specs.declared.Meter.{Meter}
 use Rattle.operator.specs.Meters.{Operator, add_all, fresh}
 use Rattle.operator_meter.specs.Values.{has_result}
-use Rattle.operator.specs.Results.{result, results}
+use Rattle.operator.specs.Results.{result_of, results}
 use Rattle.operator.specs.Work.{Worked, window_results, close, work}
 use Rattle.operator.proofs.Adding.{add_all_number}
 use Rattle.operator.proofs.Closing.{work_number}
@@ -29,13 +29,13 @@ consecutive_append n m (x ∷ xs) ys e h k = (h.0, consecutive_append (suc n) m 
 
 results_consecutive :
     (kind : ℕ) (start : ReadingTime) (i number : ℕ) (ms : List Meter) → Consecutive number (results kind start i number ms)
-unfolding results result
+unfolding results result_of
 results_consecutive kind start i number [] = tt
 results_consecutive kind start i number (m ∷ ms) =
     elim (has_result m) as
     (λ b.
     Consecutive number
-    (cond b (result kind start i (suc number) m ∷ results kind start (suc i) (suc number) ms)
+    (cond b (result_of kind start i (suc number) m ∷ results kind start (suc i) (suc number) ms)
     (results kind start (suc i) number ms))) [
       | true ↦ (refl, results_consecutive kind start (suc i) (suc number) ms)
       | false ↦ results_consecutive kind start (suc i) number ms

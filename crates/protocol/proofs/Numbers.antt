@@ -19,7 +19,7 @@ use Rattle.store.proofs.Pairs.{every_to, every_append}
 use Rattle.operator_meter.specs.declared.Meter.{Meter}
 use Rattle.operator.specs.Meters.{Operator, add_all}
 use Rattle.operator_meter.specs.Values.{has_result}
-use Rattle.operator.specs.Results.{result, results}
+use Rattle.operator.specs.Results.{result_of, results}
 use Rattle.operator.specs.Work.{Worked, window_results, close, work}
 use Rattle.operator.proofs.Adding.{add_all_number}
 use Rattle.protocol.specs.FailureFree.{failure_free}
@@ -37,7 +37,7 @@ wider from₁ to₁ h g r b = record { kind = b.kind; above = omega (arith, b.ab
 pub results_numbered :
     (kind : ℕ) (start : ReadingTime) (i number : ℕ) (ms : List Meter) →
     Every (Numbered kind number (number + length (results kind start i number ms))) (results kind start i number ms)
-unfolding results result
+unfolding results result_of
 results_numbered kind start i number [] = tt
 results_numbered kind start i number (m ∷ ms) =
     elim (has_result m) as
@@ -46,9 +46,9 @@ results_numbered kind start i number (m ∷ ms) =
     (Numbered kind number
     (number +
     length
-    (cond b (result kind start i (suc number) m ∷ results kind start (suc i) (suc number) ms)
+    (cond b (result_of kind start i (suc number) m ∷ results kind start (suc i) (suc number) ms)
     (results kind start (suc i) number ms))))
-    (cond b (result kind start i (suc number) m ∷ results kind start (suc i) (suc number) ms)
+    (cond b (result_of kind start i (suc number) m ∷ results kind start (suc i) (suc number) ms)
     (results kind start (suc i) number ms))) [
       | true ↦ (
         record { kind = refl; above = le_refl _; up = omega arith },

@@ -27,7 +27,7 @@ pub const BOUNDARY: u8 = b'B';
 pub const DONE: u8 = b'R';
 
 // The fields of one record; the kind is its letter's byte.
-#[derive(Drop)]
+#[derive(Clone, Copy)]
 pub struct Record {
     pub sum: i64,
     pub id: u32,
@@ -40,7 +40,7 @@ pub struct Record {
 }
 
 // What bytes are read as.
-#[derive(Drop)]
+#[derive(Clone, Copy)]
 pub enum Decoded {
     Is(Record),
     Malformed,

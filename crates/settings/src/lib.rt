@@ -26,7 +26,7 @@ pub const MAX_DISPLAYS: u32 = 4;
 const WIDTH: u32 = u32::MAX;
 
 // The settings, each as wide as its text may spell it.
-#[derive(Drop)]
+#[derive(Clone, Copy)]
 pub struct Settings {
     pub lines: u32,
     pub bucket: u32,
@@ -38,14 +38,14 @@ pub struct Settings {
 }
 
 // The settings line that a text has from a place on, with the place behind it.
-#[derive(Drop)]
+#[derive(Clone, Copy)]
 pub enum SettingsAt {
     Line(Settings, usize),
     Malformed,
 }
 
 // What a settings text is read as.
-#[derive(Drop)]
+#[derive(Clone, Copy)]
 pub enum SettingsRead {
     Accepted(Settings),
     Malformed,

@@ -4,7 +4,7 @@
 use node::State;
 
 // The state that a rule leaves, and how many records it gave; they stand in the output area.
-#[derive(Drop)]
+#[derive(Clone, Copy)]
 pub struct StepOutcome {
     pub state: State,
     pub records: u32,

@@ -62,7 +62,7 @@ fn remove(
 }
 
 // What bucket c's stable work gives: the numbering, and how many records.
-#[derive(Drop)]
+#[derive(Clone, Copy)]
 struct StableWork {
     number: u64,
     records: u32,

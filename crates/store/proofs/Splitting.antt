@@ -19,6 +19,10 @@ module _ {A : Type 0} (p q r : A → Bool) (either : (x : A) → EitherOf (p x) 
   split_one x true true false xs ys zs one h = behind x h
   split_one x true false true xs ys zs other h = chain (behind x h) (permutation_between x ys zs)
   split_one x false false false xs ys zs neither h = h
+  split_one x false false true xs ys zs e h = elim e [ ]
+  split_one x false true c xs ys zs e h = elim e [ ]
+  split_one x true false false xs ys zs e h = elim e [ ]
+  split_one x true true true xs ys zs e h = elim e [ ]
 
   pub keep_split : (xs : List A) → Permutation (keep p xs) (keep q xs ++ keep r xs)
   unfolding keep

@@ -8,7 +8,7 @@ use clock::{ArrivalTick, ReadingTime};
 use store::Reading;
 
 // What becomes of a share that is closed up: how many readings stay, or that there is no such share.
-#[derive(Drop)]
+#[derive(Clone, Copy)]
 pub enum ClosedUp {
     Stay(usize),
     NoShare,

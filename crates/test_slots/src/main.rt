@@ -15,7 +15,7 @@ use store::Reading;
 use store_slots::ClosedUp;
 
 // The store in six columns.
-#[derive(Drop)]
+#[derive(Clone, Copy)]
 struct Columns {
     ids: [u32; 8],
     times: [u32; 8],
@@ -26,14 +26,14 @@ struct Columns {
 }
 
 // The two stores.
-#[derive(Drop)]
+#[derive(Clone, Copy)]
 struct Stores {
     slots: [Reading; 8],
     columns: Columns,
 }
 
 // The slots where a share was closed up, and what became of it.
-#[derive(Drop)]
+#[derive(Clone, Copy)]
 struct AfterClosing {
     slots: [Reading; 8],
     outcome: ClosedUp,

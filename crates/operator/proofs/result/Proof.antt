@@ -6,7 +6,7 @@ use mir.Val.{SFits}
 use mir.Facts.{to_z-of_z}
 use Rattle.signed.specs.Mean.{mean}
 use Rattle.signed.proofs.Mean.{mean_fits}
-use Rattle.operator.specs.Results.{result}
+use Rattle.operator.specs.Results.{result_of}
 use Rattle.operator.proofs.result.Statement.{statement}
 use Rattle.operator.proofs.result.Tie as tie
 
@@ -17,7 +17,7 @@ cast-t7 : tie.Need-overflow-cast-t7
 cast-t7 c = search rules
 
 returns : tie.Need-returns
-unfolding result
+unfolding result_of
 returns c =
     let b = c.before.before.before in
     let m = b.args.m in
