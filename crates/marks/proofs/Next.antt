@@ -10,7 +10,6 @@ use lib.Count.{count_trailing_zeros}
 use lib.ListN.{length, get_or}
 use Rattle.signed.proofs.Comparing.{lt_or_le}
 use Rattle.marks.specs.declared.NextMark.{NextMark}
-use Rattle.marks.specs.declared.NextMark.TheVariants as NextMark
 use Rattle.marks.specs.Words.{word_bits}
 use Rattle.marks.specs.Marks.{is_marked, first_marked, next_marked}
 use Rattle.marks.specs.Next.{SmallestMarked, NoneMarked, IsNext}

@@ -6,10 +6,10 @@ use mathlib.Core.Bool.{Bool, true, false, cond}
 use mathlib.Core.List.{List, [], ◌∷◌, ◌++◌, map}
 use mathlib.Core.Logic.{⊎_elim}
 use native.Mathlib.Omega.{arith}
-use native.Mathlib.Nat.{pow-suc, div-one, add-zero, lt_of_lt_of_le}
-use lib.Dec.{eqb, ltb}
+use native.Mathlib.Nat.{pow-suc, add-zero, lt_of_lt_of_le}
+use lib.Dec.{ltb}
 use lib.ListN.{length, get_or, take, drop, set, length-take, length-drop, length-map, drop_of_length-le, get_or-eq_default, get_or-map}
-use lib.Pow.{shr-shr, pow_mono}
+use lib.Pow.{pow_mono}
 use lib.Seq.{drop-cons, drop-drop, get_or-take, get_or-drop, take-suc, take-suc-set, take_all}
 use Rattle.signed.proofs.Comparing.{lt_or_le}
 use Rattle.marks.specs.Words.{word_bits, word_of, words_of}

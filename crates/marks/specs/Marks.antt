@@ -1,7 +1,6 @@
 -- Marks by the word (document 02, W3): a bit for each place, the lowest for the first.
 use Rattle.std.specs.Prelude.{ℕ, zero, suc, ◌+◌, ◌*◌, ◌-◌, ◌/◌, ◌%◌, ◌^◌, Bool, cond, List, eqb, length, get_or}
 use Rattle.marks.specs.declared.NextMark.{NextMark}
-use Rattle.marks.specs.declared.NextMark.TheVariants as NextMark
 use Rattle.marks.specs.Words.{word_bits}
 
 -- place i is marked: its bit is set; behind the last word nothing is

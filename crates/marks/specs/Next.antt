@@ -2,7 +2,6 @@
 -- none.' A place is a meter's number.
 use Rattle.std.specs.Prelude.{ℕ, ◌≤◌, ◌<◌, ◌≡◌, true, false, List, ◌↔◌}
 use Rattle.marks.specs.declared.NextMark.{NextMark}
-use Rattle.marks.specs.declared.NextMark.TheVariants as NextMark
 use Rattle.marks.specs.Marks.{is_marked}
 
 -- place i is the smallest marked one at or above `from`

@@ -13,67 +13,67 @@ use Rattle.marks.proofs.Places.{marked_most, counted_more, counted_all}
 use Rattle.marks.proofs.marked_count.Statement.{statement}
 use Rattle.marks.proofs.marked_count.Tie as tie
 
-abbrev invariant-loop : tie.invariant-loop
-invariant-loop words n₀ i₀ n i = (n ≡ marked_from words 0 (word_bits * i)) × (i ≤ word_count)
+abbrev invariant-loop-i : tie.invariant-loop-i
+invariant-loop-i words n₀ i₀ n i = (n ≡ marked_from words 0 (word_bits * i)) × (i ≤ word_count)
 
-abbrev decreases-loop : tie.decreases-loop
-decreases-loop words n₀ i₀ n i = word_count - i
+abbrev decreases-loop-i : tie.decreases-loop-i
+decreases-loop-i words n₀ i₀ n i = word_count - i
 
 -- the words are as many as they should be, and each has 64 bits
-owned : (s : tie.Start invariant-loop decreases-loop) → length s.args.t1 ≡ word_count
+owned : (s : tie.Start invariant-loop-i decreases-loop-i) → length s.args.words ≡ word_count
 owned s = search rules
 
-below : (s : tie.Start invariant-loop decreases-loop) (i : ℕ) → get_or s.args.t1 i 0 < 2 ^ word_bits
-below s i = let fits : Fits w64 (get_or s.args.t1 i 0) = search rules in fits.fits
+below : (s : tie.Start invariant-loop-i decreases-loop-i) (i : ℕ) → get_or s.args.words i 0 < 2 ^ word_bits
+below s i = let fits : Fits w64 (get_or s.args.words i 0) = search rules in fits.fits
 
-loop-holds : tie.Need-loop-init invariant-loop decreases-loop
+loop-i-init : tie.Need-loop-i-init invariant-loop-i decreases-loop-i
 unfolding marked_from
-loop-holds c = (refl, omega arith)
+loop-i-init c = (refl, omega arith)
 
-mul-n : tie.Need-overflow-mul-n invariant-loop decreases-loop
-mul-n c = omega arith
+offset_bounds-words-i : tie.Need-offset_bounds-words-i invariant-loop-i decreases-loop-i
+offset_bounds-words-i c = omega arith
 
-array-read-n : tie.Need-array-read-n invariant-loop decreases-loop
-array-read-n c = omega arith
+bounds-words-i : tie.Need-bounds-words-i invariant-loop-i decreases-loop-i
+bounds-words-i c = omega arith
 
-add-n : tie.Need-overflow-add-n invariant-loop decreases-loop
-add-n c =
+overflow_add-n : tie.Need-overflow_add-n invariant-loop-i decreases-loop-i
+overflow_add-n c =
     let s = c.before.before in
-    let l = c.before.loop in
-    let most = marked_most s.args.t1 (word_bits * l.i) 0 in
-    let few = ones-le word_bits (get_or s.args.t1 l.i 0) (below s l.i) in
+    let l = c.before.loop-i in
+    let most = marked_most s.args.words (word_bits * l.i) 0 in
+    let few = ones-le word_bits (get_or s.args.words l.i 0) (below s l.i) in
     omega arith
 
-add-i : tie.Need-overflow-add-i invariant-loop decreases-loop
-add-i c = omega arith
+overflow_add-i : tie.Need-overflow_add-i invariant-loop-i decreases-loop-i
+overflow_add-i c = omega arith
 
-loop-less : tie.Need-loop-smaller invariant-loop decreases-loop
-loop-less c = omega arith
+loop-i-smaller : tie.Need-loop-i-smaller invariant-loop-i decreases-loop-i
+loop-i-smaller c = omega arith
 
-loop-again : tie.Need-loop-preserved invariant-loop decreases-loop
-loop-again c =
+loop-i-preserved : tie.Need-loop-i-preserved invariant-loop-i decreases-loop-i
+loop-i-preserved c =
     let s = c.before.before in
-    let l = c.before.loop in
-    let more = counted_more s.args.t1 l.i (below s l.i) in
-    (ap (λ (n : ℕ). n + ones (get_or s.args.t1 l.i 0)) l.invariant.0 ∙ sym more, omega arith)
+    let l = c.before.loop-i in
+    let more = counted_more s.args.words l.i (below s l.i) in
+    (ap (λ (n : ℕ). n + ones (get_or s.args.words l.i 0)) l.invariant.0 ∙ sym more, omega arith)
 
-returns : tie.Need-returns invariant-loop decreases-loop
+returns : tie.Need-returns invariant-loop-i decreases-loop-i
 returns c =
     let s = c.before.before in
-    let l = c.before.loop in
-    l.invariant.0 ∙ counted_all s.args.t1 l.i word_count (owned s) (omega arith)
+    let l = c.before.loop-i in
+    l.invariant.0 ∙ counted_all s.args.words l.i word_count (owned s) (omega arith)
 
-pub marked-count-spec : {M : Type 1} → statement M
-marked-count-spec =
+pub marked_count_spec : {M : Type 1} → statement M
+marked_count_spec =
     tie.close
     (tie.spec
-    invariant-loop
-    decreases-loop
-    loop-holds
-    mul-n
-    array-read-n
-    add-n
-    add-i
-    loop-less
-    loop-again
+    invariant-loop-i
+    decreases-loop-i
+    loop-i-init
+    offset_bounds-words-i
+    bounds-words-i
+    overflow_add-n
+    overflow_add-i
+    loop-i-smaller
+    loop-i-preserved
     returns)

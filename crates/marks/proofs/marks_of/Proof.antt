@@ -11,37 +11,37 @@ use Rattle.marks.proofs.Words.{written_more, written_all}
 use Rattle.marks.proofs.marks_of.Statement.{statement}
 use Rattle.marks.proofs.marks_of.Tie as tie
 
-abbrev invariant-loop : tie.invariant-loop
-invariant-loop counts words₀ i₀ words i =
+abbrev invariant-loop-i : tie.invariant-loop-i
+invariant-loop-i counts words₀ i₀ words i =
     (length words ≡ word_count) × (i ≤ word_count) × (take i words ≡ take i (words_of word_count (map (ltb 0) counts)))
 
-abbrev decreases-loop : tie.decreases-loop
-decreases-loop counts words₀ i₀ words i = word_count - i
+abbrev decreases-loop-i : tie.decreases-loop-i
+decreases-loop-i counts words₀ i₀ words i = word_count - i
 
-loop-holds : tie.Need-loop-init invariant-loop decreases-loop
-loop-holds c = (refl, omega arith, refl)
+loop-i-init : tie.Need-loop-i-init invariant-loop-i decreases-loop-i
+loop-i-init c = (refl, omega arith, refl)
 
-mul-word-of : tie.Need-overflow-mul-word-of invariant-loop decreases-loop
-mul-word-of c = omega arith
+overflow_mul-i : tie.Need-overflow_mul-i invariant-loop-i decreases-loop-i
+overflow_mul-i c = omega arith
 
-word-of-requires : tie.Need-word-of-requires invariant-loop decreases-loop
-word-of-requires c κs = omega arith
+word_of-requires : tie.Need-word_of-requires invariant-loop-i decreases-loop-i
+word_of-requires c κs = omega arith
 
-mul_words : tie.Need-overflow-mul-words invariant-loop decreases-loop
-mul_words c = omega arith
+offset_bounds-words-i : tie.Need-offset_bounds-words-i invariant-loop-i decreases-loop-i
+offset_bounds-words-i c = omega arith
 
-array-write-words : tie.Need-array-write-words invariant-loop decreases-loop
-array-write-words c = omega arith
+bounds-words-i : tie.Need-bounds-words-i invariant-loop-i decreases-loop-i
+bounds-words-i c = omega arith
 
-add-i : tie.Need-overflow-add-i invariant-loop decreases-loop
-add-i c = omega arith
+overflow_add-i : tie.Need-overflow_add-i invariant-loop-i decreases-loop-i
+overflow_add-i c = omega arith
 
-loop-less : tie.Need-loop-smaller invariant-loop decreases-loop
-loop-less c = omega arith
+loop-i-smaller : tie.Need-loop-i-smaller invariant-loop-i decreases-loop-i
+loop-i-smaller c = omega arith
 
-loop-again : tie.Need-loop-preserved invariant-loop decreases-loop
-loop-again c =
-    let l = c.before.before.loop in
+loop-i-preserved : tie.Need-loop-i-preserved invariant-loop-i decreases-loop-i
+loop-i-preserved c =
+    let l = c.before.before.loop-i in
     let bs = map (ltb 0) c.before.before.before.args.counts in
     let w = c.word_of.result in
     let there : l.i * word_bits ≡ word_bits * l.i = omega arith in (
@@ -52,23 +52,23 @@ loop-again c =
           (c.word_of.ensures ∙ ap (λ (k : ℕ). word_of (take word_bits (drop k bs))) there)),
     )
 
-returns : tie.Need-returns invariant-loop decreases-loop
+returns : tie.Need-returns invariant-loop-i decreases-loop-i
 returns c =
-    let l = c.before.loop in
+    let l = c.before.loop-i in
     written_all word_count (map (ltb 0) c.before.before.args.counts) l.words l.i l.invariant.0 (omega arith) l.invariant.2
 
-pub marks-of-spec : {M : Type 1} → statement M
-marks-of-spec =
+pub marks_of_spec : {M : Type 1} → statement M
+marks_of_spec =
     tie.close
     (tie.spec
-    invariant-loop
-    decreases-loop
-    loop-holds
-    mul-word-of
-    word-of-requires
-    mul_words
-    array-write-words
-    add-i
-    loop-less
-    loop-again
+    invariant-loop-i
+    decreases-loop-i
+    loop-i-init
+    overflow_mul-i
+    word_of-requires
+    offset_bounds-words-i
+    bounds-words-i
+    overflow_add-i
+    loop-i-smaller
+    loop-i-preserved
     returns)

@@ -14,91 +14,91 @@ use Rattle.marks.proofs.Next.{next_behind, word_passed, next_in_word, next_answe
 use Rattle.marks.proofs.next_marked.Statement.{statement}
 use Rattle.marks.proofs.next_marked.Tie as tie
 
-abbrev invariant-loop : tie.invariant-loop
-invariant-loop from₀ words from = next_marked words from ≡ next_marked words from₀
+abbrev invariant-loop-from : tie.invariant-loop-from
+invariant-loop-from from₀ words from = next_marked words from ≡ next_marked words from₀
 
-abbrev decreases-loop : tie.decreases-loop
-decreases-loop from₀ words from = word_bits * word_count - from
+abbrev decreases-loop-from : tie.decreases-loop-from
+decreases-loop-from from₀ words from = word_bits * word_count - from
 
 -- the words are as many as they should be, and each has 64 bits
-owned : (s : tie.Start invariant-loop decreases-loop) → length s.args.t1 ≡ word_count
+owned : (s : tie.Start invariant-loop-from decreases-loop-from) → length s.args.words ≡ word_count
 owned s = search rules
 
-below : (s : tie.Start invariant-loop decreases-loop) (i : ℕ) → get_or s.args.t1 i 0 < 2 ^ word_bits
-below s i = let fits : Fits w64 (get_or s.args.t1 i 0) = search rules in fits.fits
+below : (s : tie.Start invariant-loop-from decreases-loop-from) (i : ℕ) → get_or s.args.words i 0 < 2 ^ word_bits
+below s i = let fits : Fits w64 (get_or s.args.words i 0) = search rules in fits.fits
 
-loop-holds : tie.Need-loop-init invariant-loop decreases-loop
-loop-holds c = refl
+loop-from-init : tie.Need-loop-from-init invariant-loop-from decreases-loop-from
+loop-from-init c = refl
 
-mul-rest : tie.Need-overflow-mul-rest invariant-loop decreases-loop
-mul-rest c = omega arith
+offset_bounds-words-word : tie.Need-offset_bounds-words-word invariant-loop-from decreases-loop-from
+offset_bounds-words-word c = omega arith
 
-array-read-rest : tie.Need-array-read-rest invariant-loop decreases-loop
-array-read-rest c = omega arith
+bounds-words-word : tie.Need-bounds-words-word invariant-loop-from decreases-loop-from
+bounds-words-word c = omega arith
 
-shr-rest : tie.Need-overflow-shr-rest invariant-loop decreases-loop
-shr-rest c = omega arith
+overflow_shr-rest : tie.Need-overflow_shr-rest invariant-loop-from decreases-loop-from
+overflow_shr-rest c = omega arith
 
 -- the place is one of the word
-within : (c : tie.Then1 invariant-loop decreases-loop) →
+within : (c : tie.Then-rest-ne0 invariant-loop-from decreases-loop-from) →
     (let s = c.before.before.before in
-    let from = c.before.before.loop.from in
-    from % word_bits + count_trailing_zeros word_bits (rest s.args.t1 from) < word_bits)
+    let from = c.before.before.loop-from.from in
+    from % word_bits + count_trailing_zeros word_bits (rest s.args.words from) < word_bits)
 within c =
     let s = c.before.before.before in
-    let from = c.before.before.loop.from in
-    zeros_within s.args.t1 from (below s (from / word_bits)) (omega arith)
+    let from = c.before.before.loop-from.from in
+    zeros_within s.args.words from (below s (from / word_bits)) (omega arith)
 
-cast-t14 : tie.Need-overflow-cast-t14 invariant-loop decreases-loop
-cast-t14 c = let t = within c in omega arith
+overflow_cast-result : tie.Need-overflow_cast-result invariant-loop-from decreases-loop-from
+overflow_cast-result c = let t = within c in omega arith
 
-add-t15 : tie.Need-overflow-add-t15 invariant-loop decreases-loop
-add-t15 c = let t = within c in omega arith
+overflow_add-result : tie.Need-overflow_add-result invariant-loop-from decreases-loop-from
+overflow_add-result c = let t = within c in omega arith
 
-returns : tie.Need-returns invariant-loop decreases-loop
+returns-then-rest-ne0 : tie.Need-returns-then-rest-ne0 invariant-loop-from decreases-loop-from
+returns-then-rest-ne0 c =
+    let s = c.before.before.before in
+    let l = c.before.before.loop-from in
+    next_answered s.args.words s.args.from
+    (sym (next_in_word s.args.words l.from (below s (l.from / word_bits)) (omega arith)) ∙ l.invariant)
+
+overflow_add-from : tie.Need-overflow_add-from invariant-loop-from decreases-loop-from
+overflow_add-from c = omega arith
+
+overflow_mul-from : tie.Need-overflow_mul-from invariant-loop-from decreases-loop-from
+overflow_mul-from c = omega arith
+
+loop-from-smaller : tie.Need-loop-from-smaller invariant-loop-from decreases-loop-from
+loop-from-smaller c = omega arith
+
+loop-from-preserved : tie.Need-loop-from-preserved invariant-loop-from decreases-loop-from
+loop-from-preserved c =
+    let s = c.before.before.before in
+    let l = c.before.before.loop-from in
+    sym (word_passed s.args.words l.from c.if-rest-ne0.false) ∙ l.invariant
+
+returns : tie.Need-returns invariant-loop-from decreases-loop-from
 returns c =
-    let s = c.before.before.before in
-    let l = c.before.before.loop in
-    next_answered s.args.t1 s.args.from
-    (sym (next_in_word s.args.t1 l.from (below s (l.from / word_bits)) (omega arith)) ∙ l.invariant)
-
-add-from : tie.Need-overflow-add-from invariant-loop decreases-loop
-add-from c = omega arith
-
-mul-from : tie.Need-overflow-mul-from invariant-loop decreases-loop
-mul-from c = omega arith
-
-loop-less : tie.Need-loop-smaller invariant-loop decreases-loop
-loop-less c = omega arith
-
-loop-again : tie.Need-loop-preserved invariant-loop decreases-loop
-loop-again c =
-    let s = c.before.before.before in
-    let l = c.before.before.loop in
-    sym (word_passed s.args.t1 l.from c.if1.false) ∙ l.invariant
-
-returns-2 : tie.Need-returns-2 invariant-loop decreases-loop
-returns-2 c =
     let s = c.before.before in
-    let l = c.before.loop in
+    let l = c.before.loop-from in
     let sized = owned s in
-    next_answered s.args.t1 s.args.from (sym (next_behind s.args.t1 l.from (omega arith)) ∙ l.invariant)
+    next_answered s.args.words s.args.from (sym (next_behind s.args.words l.from (omega arith)) ∙ l.invariant)
 
-pub next-marked-spec : {M : Type 1} → statement M
-next-marked-spec =
+pub next_marked_spec : {M : Type 1} → statement M
+next_marked_spec =
     tie.close
     (tie.spec
-    invariant-loop
-    decreases-loop
-    loop-holds
-    mul-rest
-    array-read-rest
-    shr-rest
-    cast-t14
-    add-t15
-    returns
-    add-from
-    mul-from
-    loop-less
-    loop-again
-    returns-2)
+    invariant-loop-from
+    decreases-loop-from
+    loop-from-init
+    offset_bounds-words-word
+    bounds-words-word
+    overflow_shr-rest
+    overflow_cast-result
+    overflow_add-result
+    returns-then-rest-ne0
+    overflow_add-from
+    overflow_mul-from
+    loop-from-smaller
+    loop-from-preserved
+    returns)

@@ -12,89 +12,89 @@ use Rattle.marks.proofs.Words.{tests, packed_room, packed_more, packed_all}
 use Rattle.marks.proofs.word_of.Statement.{statement}
 use Rattle.marks.proofs.word_of.Tie as tie
 
-abbrev invariant-loop : tie.invariant-loop
-invariant-loop from counts word₀ i₀ word i = (word ≡ word_of (tests counts from i)) × (i ≤ word_bits)
+abbrev invariant-loop-i : tie.invariant-loop-i
+invariant-loop-i from counts word₀ i₀ word i = (word ≡ word_of (tests counts from i)) × (i ≤ word_bits)
 
-abbrev decreases-loop : tie.decreases-loop
-decreases-loop from counts word₀ i₀ word i = i
+abbrev decreases-loop-i : tie.decreases-loop-i
+decreases-loop-i from counts word₀ i₀ word i = i
 
 -- the counts are as many as they should be
-owned : (s : tie.Start invariant-loop decreases-loop) → length s.args.t1 ≡ word_bits * word_count
+owned : (s : tie.Start invariant-loop-i decreases-loop-i) → length s.args.counts ≡ word_bits * word_count
 owned s = search rules
 
-packed : (c : tie.In-loop invariant-loop decreases-loop) → c.before.loop.word < 2 ^ 63
-packed c =
-    let l = c.before.loop in
-    packed_room c.before.before.args.t1 c.before.before.args.from l.i l.word l.invariant.0 (omega arith)
+packed : (c : tie.At-loop-i invariant-loop-i decreases-loop-i) → 0 < c.loop-i.i → c.loop-i.word < 2 ^ 63
+packed c more =
+    let l = c.loop-i in
+    packed_room c.args.counts c.args.from l.i l.word l.invariant.0 (omega arith)
 
-loop-holds : tie.Need-loop-init invariant-loop decreases-loop
+loop-i-init : tie.Need-loop-i-init invariant-loop-i decreases-loop-i
 unfolding word_of
-loop-holds c = (refl, omega arith)
+loop-i-init c = (refl, omega arith)
 
-sub-i : tie.Need-overflow-sub-i invariant-loop decreases-loop
-sub-i c = omega arith
+overflow_sub-i : tie.Need-overflow_sub-i invariant-loop-i decreases-loop-i
+overflow_sub-i c = omega arith
 
-mul-word : tie.Need-overflow-mul-word invariant-loop decreases-loop
-mul-word c = let room = packed c in omega arith
+overflow_mul-word : tie.Need-overflow_mul-word invariant-loop-i decreases-loop-i
+overflow_mul-word c = let room = packed c.before (omega arith) in omega arith
 
-add-if1 : tie.Need-overflow-add-if1 invariant-loop decreases-loop
-add-if1 c = omega arith
+overflow_add-from : tie.Need-overflow_add-from invariant-loop-i decreases-loop-i
+overflow_add-from c = omega arith
 
-mul-if1 : tie.Need-overflow-mul-if1 invariant-loop decreases-loop
-mul-if1 c = omega arith
+offset_bounds-counts-from : tie.Need-offset_bounds-counts-from invariant-loop-i decreases-loop-i
+offset_bounds-counts-from c = omega arith
 
-array-read-if1 : tie.Need-array-read-if1 invariant-loop decreases-loop
-array-read-if1 c = omega arith
+bounds-counts-from : tie.Need-bounds-counts-from invariant-loop-i decreases-loop-i
+bounds-counts-from c = omega arith
 
-add-word : tie.Need-overflow-add-word invariant-loop decreases-loop
-add-word c = let room = packed c.before in omega arith
+overflow_add-word : tie.Need-overflow_add-word invariant-loop-i decreases-loop-i
+overflow_add-word c = let room = packed c.before.before (omega arith) in omega arith
 
-loop-less : tie.Need-loop-smaller invariant-loop decreases-loop
-loop-less c = omega arith
+loop-i-smaller-then-counts-from-gt0 : tie.Need-loop-i-smaller-then-counts-from-gt0 invariant-loop-i decreases-loop-i
+loop-i-smaller-then-counts-from-gt0 c = omega arith
 
-loop-again : tie.Need-loop-preserved invariant-loop decreases-loop
-loop-again c =
+loop-i-preserved-then-counts-from-gt0 : tie.Need-loop-i-preserved-then-counts-from-gt0 invariant-loop-i decreases-loop-i
+loop-i-preserved-then-counts-from-gt0 c =
     let s = c.before.before.before in
-    let l = c.before.before.loop in
+    let l = c.before.before.loop-i in
     let sized = owned s in
-    let test = lt-ltb 0 (get_or s.args.t1 (s.args.from + (l.i - 1)) 0) (omega arith) in
-    let more = packed_more s.args.t1 s.args.from l.i l.word l.invariant.0 (omega arith) true l.invariant.1 (omega arith) test in
+    let test = lt-ltb 0 (get_or s.args.counts (s.args.from + (l.i - 1)) 0) (omega arith) in
+    let more = packed_more s.args.counts s.args.from l.i l.word l.invariant.0 (omega arith) true l.invariant.1 (omega arith) test in
     (add_comm (2 * l.word) 1 ∙ more, omega arith)
 
-loop-less-2 : tie.Need-loop-smaller-2 invariant-loop decreases-loop
-loop-less-2 c = omega arith
+loop-i-smaller : tie.Need-loop-i-smaller invariant-loop-i decreases-loop-i
+loop-i-smaller c = omega arith
 
-loop-again-2 : tie.Need-loop-preserved-2 invariant-loop decreases-loop
-loop-again-2 c =
+loop-i-preserved : tie.Need-loop-i-preserved invariant-loop-i decreases-loop-i
+loop-i-preserved c =
     let s = c.before.before.before in
-    let l = c.before.before.loop in
+    let l = c.before.before.loop-i in
     let sized = owned s in
-    let test = le-ltb 0 (get_or s.args.t1 (s.args.from + (l.i - 1)) 0) (omega arith) in
-    let more = packed_more s.args.t1 s.args.from l.i l.word l.invariant.0 (omega arith) false l.invariant.1 (omega arith) test in
+    let test = le-ltb 0 (get_or s.args.counts (s.args.from + (l.i - 1)) 0) (omega arith) in
+    let more = packed_more s.args.counts s.args.from l.i l.word l.invariant.0 (omega arith) false l.invariant.1 (omega arith) test in
     (sym (zero-add (2 * l.word)) ∙ more, omega arith)
 
-returns : tie.Need-returns invariant-loop decreases-loop
+returns : tie.Need-returns invariant-loop-i decreases-loop-i
 returns c =
     let s = c.before.before in
-    let l = c.before.loop in
+    let l = c.before.loop-i in
     let none : l.i ≡ 0 = omega arith in
-    l.invariant.0 ∙ packed_all s.args.t1 s.args.from l.i none
+    l.invariant.0 ∙ packed_all s.args.counts s.args.from l.i none
 
-pub word-of-spec : {M : Type 1} → statement M
-word-of-spec =
+pub word_of_spec : {M : Type 1} → statement M
+word_of_spec =
     tie.close
     (tie.spec
-    invariant-loop
-    decreases-loop
-    loop-holds
-    sub-i
-    mul-word
-    add-if1
-    mul-if1
-    array-read-if1
-    add-word
-    loop-less
-    loop-again
-    loop-less-2
-    loop-again-2
+    invariant-loop-i
+    decreases-loop-i
+    loop-i-init
+    overflow_sub-i
+    overflow_mul-word
+    overflow_add-from
+    offset_bounds-counts-from
+    bounds-counts-from
+    overflow_add-word
+    loop-i-smaller-then-counts-from-gt0
+    loop-i-preserved-then-counts-from-gt0
+    loop-i-smaller
+    loop-i-preserved
     returns)
