@@ -4,37 +4,45 @@ use Rattle.store_columns.proofs.Blocks.{ZeroSoFar, zero_start, zero_turn, zero_e
 use Rattle.store_columns.proofs.are_all_zero.Statement.{statement}
 use Rattle.store_columns.proofs.are_all_zero.Tie as tie
 
-abbrev invariant-loop : tie.invariant-loop
-invariant-loop words any₀ k₀ any k = ZeroSoFar words any k
+abbrev invariant-loop-k : tie.invariant-loop-k
+invariant-loop-k words any₀ k₀ any k = ZeroSoFar words any k
 
-abbrev decreases-loop : tie.decreases-loop
-decreases-loop words any₀ k₀ any k = 16 - k
+abbrev decreases-loop-k : tie.decreases-loop-k
+decreases-loop-k words any₀ k₀ any k = 16 - k
 
-loop-holds : tie.Need-loop-init invariant-loop decreases-loop
-loop-holds c =
-    let owned = c.well-formed.0 in
-    zero_start c.args.t1 (search rules)
+loop-k-init : tie.Need-loop-k-init invariant-loop-k decreases-loop-k
+loop-k-init c =
+    let owned = c.well_formed.0 in
+    zero_start c.args.words (search rules)
 
-array-read-any : tie.Need-array-read-any invariant-loop decreases-loop
-array-read-any c = omega arith
+bounds-words-k : tie.Need-bounds-words-k invariant-loop-k decreases-loop-k
+bounds-words-k c = omega arith
 
-add-k : tie.Need-overflow-add-k invariant-loop decreases-loop
-add-k c = omega arith
+overflow_add-k : tie.Need-overflow_add-k invariant-loop-k decreases-loop-k
+overflow_add-k c = omega arith
 
-loop-less : tie.Need-loop-smaller invariant-loop decreases-loop
-loop-less c = omega arith
+loop-k-smaller : tie.Need-loop-k-smaller invariant-loop-k decreases-loop-k
+loop-k-smaller c = omega arith
 
-loop-again : tie.Need-loop-preserved invariant-loop decreases-loop
-loop-again c =
-    let l = c.before.loop in
-    zero_turn c.before.before.args.t1 l.any l.k l.invariant (omega arith)
+loop-k-preserved : tie.Need-loop-k-preserved invariant-loop-k decreases-loop-k
+loop-k-preserved c =
+    let l = c.before.loop-k in
+    zero_turn c.before.before.args.words l.any l.k l.invariant (omega arith)
 
-returns : tie.Need-returns invariant-loop decreases-loop
+returns : tie.Need-returns invariant-loop-k decreases-loop-k
 returns c =
-    let l = c.before.loop in
-    zero_end c.before.before.args.t1 l.any l.k l.invariant (omega arith)
+    let l = c.before.loop-k in
+    zero_end c.before.before.args.words l.any l.k l.invariant (omega arith)
 
-pub are-all-zero-spec : {M : Type 1} → statement M
-are-all-zero-spec =
+pub are_all_zero_spec : {M : Type 1} → statement M
+are_all_zero_spec =
     tie.close
-    (tie.spec invariant-loop decreases-loop loop-holds array-read-any add-k loop-less loop-again returns)
+    (tie.spec
+    invariant-loop-k
+    decreases-loop-k
+    loop-k-init
+    bounds-words-k
+    overflow_add-k
+    loop-k-smaller
+    loop-k-preserved
+    returns)

@@ -5,79 +5,79 @@ use Rattle.store_columns.proofs.Blocks.{BlocksSoFar, blocks_start, blocks_turn, 
 use Rattle.store_columns.proofs.are_blocks_readings.Statement.{statement}
 use Rattle.store_columns.proofs.are_blocks_readings.Tie as tie
 
-abbrev invariant-loop : tie.invariant-loop
-invariant-loop kinds meters base n limit wrong₀ end at₀ wrong at = BlocksSoFar (is_reading_at kinds meters limit) base n wrong at
+abbrev invariant-loop-at : tie.invariant-loop-at
+invariant-loop-at kinds meters base n limit wrong₀ end at₀ wrong at = BlocksSoFar (is_reading_at kinds meters limit) base n wrong at
 
-abbrev decreases-loop : tie.decreases-loop
-decreases-loop kinds meters base n limit wrong₀ end at₀ wrong at = base + n - at
+abbrev decreases-loop-at : tie.decreases-loop-at
+decreases-loop-at kinds meters base n limit wrong₀ end at₀ wrong at = base + n - at
 
 -- where a turn begins
-abbrev start : tie.At-loop invariant-loop decreases-loop → tie.Start invariant-loop decreases-loop
+abbrev start : tie.At-loop-at invariant-loop-at decreases-loop-at → tie.Start invariant-loop-at decreases-loop-at
 start l = l.before.before.before
 
-add-end : tie.Need-overflow-add-end invariant-loop decreases-loop
-add-end c = omega arith
+overflow_add-end : tie.Need-overflow_add-end invariant-loop-at decreases-loop-at
+overflow_add-end c = omega arith
 
-loop-holds : tie.Need-loop-init invariant-loop decreases-loop
-loop-holds c =
+loop-at-init : tie.Need-loop-at-init invariant-loop-at decreases-loop-at
+loop-at-init c =
     let a = c.before.before.args in
     blocks_start (is_reading_at a.kinds.now a.meters.now a.limit) a.base a.n
 
-sub-lesser : tie.Need-overflow-sub-lesser invariant-loop decreases-loop
-sub-lesser c = omega arith
+overflow_sub-end : tie.Need-overflow_sub-end invariant-loop-at decreases-loop-at
+overflow_sub-end c = omega arith
 
-lesser-requires : tie.Need-lesser-requires invariant-loop decreases-loop
-lesser-requires c κs = tt
+lesser-from-requires : tie.Need-lesser-from-requires invariant-loop-at decreases-loop-at
+lesser-from-requires c κs = tt
 
-lay-over-requires : tie.Need-lay-over-requires invariant-loop decreases-loop
-lay-over-requires c κs =
+lay_over-requires : tie.Need-lay_over-requires invariant-loop-at decreases-loop-at
+lay_over-requires c κs =
     let head = c.before.before.before in
     let a = (start head).args in
     let p = (start head).requires in
-    let from = c.before.lesser in
-    let within = lesser_within head.loop.at (a.base + a.n - 16) from.result from.ensures in
-    (omega (arith, p), omega (arith, p), p.3, head.loop.invariant.0)
+    let from = c.before.lesser-from in
+    let within = lesser_within head.loop-at.at (a.base + a.n - 16) from.result from.ensures in
+    (omega (arith, p), omega (arith, p), p.3, head.loop-at.invariant.0)
 
-add_at : tie.Need-overflow-add-at invariant-loop decreases-loop
-add_at c = omega arith
+overflow_add-at : tie.Need-overflow_add-at invariant-loop-at decreases-loop-at
+overflow_add-at c = omega arith
 
-loop-less : tie.Need-loop-smaller invariant-loop decreases-loop
-loop-less c = omega arith
+loop-at-smaller : tie.Need-loop-at-smaller invariant-loop-at decreases-loop-at
+loop-at-smaller c = omega arith
 
-loop-again : tie.Need-loop-preserved invariant-loop decreases-loop
-loop-again c =
+loop-at-preserved : tie.Need-loop-at-preserved invariant-loop-at decreases-loop-at
+loop-at-preserved c =
     let head = c.before.before.before.before in
     let a = (start head).args in
     let p = (start head).requires in
-    let l = head.loop in
-    let from = c.before.before.lesser in
-    blocks_turn (is_reading_at a.kinds.now a.meters.now a.limit) a.base a.n l.wrong c.lay-over.new.0 l.at
-    from.result l.invariant p.0 (omega arith) from.ensures c.lay-over.ensures
+    let l = head.loop-at in
+    let from = c.before.before.lesser-from in
+    blocks_turn (is_reading_at a.kinds.now a.meters.now a.limit) a.base a.n l.wrong c.lay_over.new.words l.at
+    from.result l.invariant p.0 (omega arith) from.ensures c.lay_over.ensures
 
-are-all-zero-requires : tie.Need-are-all-zero-requires invariant-loop decreases-loop
-are-all-zero-requires c κs = tt
+are_all_zero-requires : tie.Need-are_all_zero-requires invariant-loop-at decreases-loop-at
+are_all_zero-requires c κs = tt
 
-returns : tie.Need-returns invariant-loop decreases-loop
+returns : tie.Need-returns invariant-loop-at decreases-loop-at
 returns c =
     let head = c.before.before in
     let a = (start head).args in
-    let l = head.loop in
-    c.are-all-zero.ensures
+    let l = head.loop-at in
+    c.are_all_zero.ensures
     ∙ blocks_end (is_reading_at a.kinds.now a.meters.now a.limit) a.base a.n l.wrong l.at l.invariant (omega arith)
 
-pub are-blocks-readings-spec : {M : Type 1} → statement M
-are-blocks-readings-spec =
+pub are_blocks_readings_spec : {M : Type 1} → statement M
+are_blocks_readings_spec =
     tie.close
     (tie.spec
-    invariant-loop
-    decreases-loop
-    add-end
-    loop-holds
-    sub-lesser
-    lesser-requires
-    lay-over-requires
-    add_at
-    loop-less
-    loop-again
-    are-all-zero-requires
+    invariant-loop-at
+    decreases-loop-at
+    overflow_add-end
+    loop-at-init
+    overflow_sub-end
+    lesser-from-requires
+    lay_over-requires
+    overflow_add-at
+    loop-at-smaller
+    loop-at-preserved
+    are_all_zero-requires
     returns)

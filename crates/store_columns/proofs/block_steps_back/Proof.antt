@@ -4,71 +4,71 @@ use Rattle.store_columns.proofs.SmallSteps.{StepBlocks, step_blocks_start, step_
 use Rattle.store_columns.proofs.block_steps_back.Statement.{statement}
 use Rattle.store_columns.proofs.block_steps_back.Tie as tie
 
-abbrev invariant-loop : tie.invariant-loop
-invariant-loop ids base n words₀ last at₀ words at = StepBlocks ids base n words at
+abbrev invariant-loop-at : tie.invariant-loop-at
+invariant-loop-at ids base n words₀ last at₀ words at = StepBlocks ids base n words at
 
-abbrev decreases-loop : tie.decreases-loop
-decreases-loop ids base n words₀ last at₀ words at = base + n - at
+abbrev decreases-loop-at : tie.decreases-loop-at
+decreases-loop-at ids base n words₀ last at₀ words at = base + n - at
 
 -- where the function begins, from where the last block has been laid
-abbrev start : tie.After-lay-steps invariant-loop decreases-loop → tie.Start invariant-loop decreases-loop
+abbrev start : tie.After-lay_steps invariant-loop-at decreases-loop-at → tie.Start invariant-loop-at decreases-loop-at
 start c = c.before.before.before
 
-add-last : tie.Need-overflow-add-last invariant-loop decreases-loop
-add-last c = omega arith
+overflow_add-last : tie.Need-overflow_add-last invariant-loop-at decreases-loop-at
+overflow_add-last c = omega arith
 
-sub-last : tie.Need-overflow-sub-last invariant-loop decreases-loop
-sub-last c = omega arith
+overflow_sub-last : tie.Need-overflow_sub-last invariant-loop-at decreases-loop-at
+overflow_sub-last c = omega arith
 
-lay-steps-requires : tie.Need-lay-steps-requires invariant-loop decreases-loop
-lay-steps-requires c κs = (omega arith, refl)
+lay_steps-requires : tie.Need-lay_steps-requires invariant-loop-at decreases-loop-at
+lay_steps-requires c κs = (omega arith, refl)
 
-loop-holds : tie.Need-loop-init invariant-loop decreases-loop
-loop-holds c =
+loop-at-init : tie.Need-loop-at-init invariant-loop-at decreases-loop-at
+loop-at-init c =
     let a = (start c).args in
-    let laid = c.lay-steps in
-    step_blocks_start a.ids.now a.base a.n (replicate 8 4294967295) laid.new.0 (start c).requires.0 laid.ensures
+    let laid = c.lay_steps in
+    step_blocks_start a.ids.now a.base a.n (replicate 8 4294967295) laid.new.words (start c).requires.0 laid.ensures
 
-lay-steps-requires-2 : tie.Need-lay-steps-requires-2 invariant-loop decreases-loop
-lay-steps-requires-2 c κs = (omega arith, c.before.before.loop.invariant.0)
+lay_steps-requires-in-loop-at : tie.Need-lay_steps-requires-in-loop-at invariant-loop-at decreases-loop-at
+lay_steps-requires-in-loop-at c κs = (omega arith, c.before.before.loop-at.invariant.0)
 
-add_at : tie.Need-overflow-add-at invariant-loop decreases-loop
-add_at c = omega arith
+overflow_add-at : tie.Need-overflow_add-at invariant-loop-at decreases-loop-at
+overflow_add-at c = omega arith
 
-loop-less : tie.Need-loop-smaller invariant-loop decreases-loop
-loop-less c = omega arith
+loop-at-smaller : tie.Need-loop-at-smaller invariant-loop-at decreases-loop-at
+loop-at-smaller c = omega arith
 
-loop-again : tie.Need-loop-preserved invariant-loop decreases-loop
-loop-again c =
+loop-at-preserved : tie.Need-loop-at-preserved invariant-loop-at decreases-loop-at
+loop-at-preserved c =
     let head = c.before.before.before in
     let a = (start head.before).args in
-    let l = head.loop in
-    step_blocks_turn a.ids.now a.base a.n l.words l.at l.invariant c.lay-steps2.new.0 c.lay-steps2.ensures
+    let l = head.loop-at in
+    step_blocks_turn a.ids.now a.base a.n l.words l.at l.invariant c.lay_steps-in-loop-at.new.words c.lay_steps-in-loop-at.ensures
 
-common-bits-requires : tie.Need-common-bits-requires invariant-loop decreases-loop
-common-bits-requires c κs = tt
+common_bits-requires : tie.Need-common_bits-requires invariant-loop-at decreases-loop-at
+common_bits-requires c κs = tt
 
-returns : tie.Need-returns invariant-loop decreases-loop
+returns : tie.Need-returns invariant-loop-at decreases-loop-at
 returns c =
     let head = c.before.before in
     let a = (start head.before).args in
-    let l = head.loop in
+    let l = head.loop-at in
     λ small.
-    step_blocks_end a.ids.now a.base a.n l.words l.at l.invariant (omega arith) (c.common-bits.ensures small)
+    step_blocks_end a.ids.now a.base a.n l.words l.at l.invariant (omega arith) (c.common_bits.ensures small)
 
-pub block-steps-back-spec : {M : Type 1} → statement M
-block-steps-back-spec =
+pub block_steps_back_spec : {M : Type 1} → statement M
+block_steps_back_spec =
     tie.close
     (tie.spec
-    invariant-loop
-    decreases-loop
-    add-last
-    sub-last
-    lay-steps-requires
-    loop-holds
-    lay-steps-requires-2
-    add_at
-    loop-less
-    loop-again
-    common-bits-requires
+    invariant-loop-at
+    decreases-loop-at
+    overflow_add-last
+    overflow_sub-last
+    lay_steps-requires
+    loop-at-init
+    lay_steps-requires-in-loop-at
+    overflow_add-at
+    loop-at-smaller
+    loop-at-preserved
+    common_bits-requires
     returns)

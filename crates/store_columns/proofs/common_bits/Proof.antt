@@ -4,47 +4,47 @@ use Rattle.store_columns.proofs.SmallSteps.{CommonSoFar, common_start, common_tu
 use Rattle.store_columns.proofs.common_bits.Statement.{statement}
 use Rattle.store_columns.proofs.common_bits.Tie as tie
 
-abbrev invariant-loop : tie.invariant-loop
-invariant-loop words common₀ k₀ common k = CommonSoFar words common k
+abbrev invariant-loop-k : tie.invariant-loop-k
+invariant-loop-k words common₀ k₀ common k = CommonSoFar words common k
 
-abbrev decreases-loop : tie.decreases-loop
-decreases-loop words common₀ k₀ common k = 8 - k
+abbrev decreases-loop-k : tie.decreases-loop-k
+decreases-loop-k words common₀ k₀ common k = 8 - k
 
-loop-holds : tie.Need-loop-init invariant-loop decreases-loop
-loop-holds c = common_start c.args.t1 4294967295
+loop-k-init : tie.Need-loop-k-init invariant-loop-k decreases-loop-k
+loop-k-init c = common_start c.args.words 4294967295
 
-mul-common : tie.Need-overflow-mul-common invariant-loop decreases-loop
-mul-common c = omega arith
+offset_bounds-words-k : tie.Need-offset_bounds-words-k invariant-loop-k decreases-loop-k
+offset_bounds-words-k c = omega arith
 
-array-read-common : tie.Need-array-read-common invariant-loop decreases-loop
-array-read-common c = omega arith
+bounds-words-k : tie.Need-bounds-words-k invariant-loop-k decreases-loop-k
+bounds-words-k c = omega arith
 
-add-k : tie.Need-overflow-add-k invariant-loop decreases-loop
-add-k c = omega arith
+overflow_add-k : tie.Need-overflow_add-k invariant-loop-k decreases-loop-k
+overflow_add-k c = omega arith
 
-loop-less : tie.Need-loop-smaller invariant-loop decreases-loop
-loop-less c = omega arith
+loop-k-smaller : tie.Need-loop-k-smaller invariant-loop-k decreases-loop-k
+loop-k-smaller c = omega arith
 
-loop-again : tie.Need-loop-preserved invariant-loop decreases-loop
-loop-again c =
-    let l = c.before.loop in
-    common_turn c.before.before.args.t1 l.common l.k l.invariant
+loop-k-preserved : tie.Need-loop-k-preserved invariant-loop-k decreases-loop-k
+loop-k-preserved c =
+    let l = c.before.loop-k in
+    common_turn c.before.before.args.words l.common l.k l.invariant
 
-returns : tie.Need-returns invariant-loop decreases-loop
+returns : tie.Need-returns invariant-loop-k decreases-loop-k
 returns c =
-    let l = c.before.loop in
-    common_end c.before.before.args.t1 l.common l.k l.invariant (omega arith)
+    let l = c.before.loop-k in
+    common_end c.before.before.args.words l.common l.k l.invariant (omega arith)
 
-pub common-bits-spec : {M : Type 1} → statement M
-common-bits-spec =
+pub common_bits_spec : {M : Type 1} → statement M
+common_bits_spec =
     tie.close
     (tie.spec
-    invariant-loop
-    decreases-loop
-    loop-holds
-    mul-common
-    array-read-common
-    add-k
-    loop-less
-    loop-again
+    invariant-loop-k
+    decreases-loop-k
+    loop-k-init
+    offset_bounds-words-k
+    bounds-words-k
+    overflow_add-k
+    loop-k-smaller
+    loop-k-preserved
     returns)

@@ -8,59 +8,59 @@ use Rattle.store_columns.proofs.SmallSteps.{small_steps_rise}
 use Rattle.store_columns.proofs.ids_rise.Statement.{statement}
 use Rattle.store_columns.proofs.ids_rise.Tie as tie
 
-returns : tie.Need-returns
-returns c =
+returns-then-n-lt2 : tie.Need-returns-then-n-lt2
+returns-then-n-lt2 c =
     let a = c.before.before.args in
     sym (few_rise (share a.base a.n a.ids.now) (omega (arith, length_share_le a.base a.n a.ids.now)))
 
-steps-back-requires : tie.Need-steps-back-requires
-steps-back-requires c κs = omega arith
+steps_back-back-requires : tie.Need-steps_back-back-requires
+steps_back-back-requires c κs = omega arith
 
-mul-if2 : tie.Need-overflow-mul-if2
-mul-if2 c = omega arith
+offset_bounds-ids-base : tie.Need-offset_bounds-ids-base
+offset_bounds-ids-base c = omega arith
 
-shared-slice-read-if2 : tie.Need-shared-slice-read-if2
-shared-slice-read-if2 c = omega arith
+bounds-ids-base : tie.Need-bounds-ids-base
+bounds-ids-base c = omega arith
 
-add-if2 : tie.Need-overflow-add-if2
-add-if2 c = omega arith
+overflow_add-base : tie.Need-overflow_add-base
+overflow_add-base c = omega arith
 
-sub-if2 : tie.Need-overflow-sub-if2
-sub-if2 c = omega arith
+overflow_sub-base : tie.Need-overflow_sub-base
+overflow_sub-base c = omega arith
 
-mul-if2-2 : tie.Need-overflow-mul-if2-2
-mul-if2-2 c = omega arith
+offset_bounds-ids-base-2 : tie.Need-offset_bounds-ids-base-2
+offset_bounds-ids-base-2 c = omega arith
 
-shared-slice-read-if2-2 : tie.Need-shared-slice-read-if2-2
-shared-slice-read-if2-2 c = omega arith
+bounds-ids-base-2 : tie.Need-bounds-ids-base-2
+bounds-ids-base-2 c = omega arith
 
-returns-2 : tie.Need-returns-2
-returns-2 c =
+returns-then-back-ids : tie.Need-returns-then-back-ids
+returns-then-back-ids c =
     let told = c.before.before.before in
     let start = told.before.before.before in
     let a = start.args in
-    let (small, above) = and_parts _ _ c.if2.true in
-    small_steps_rise a.ids.now a.base a.n start.requires.1 (told.steps_back.ensures (leb-true _ _ small)) (omega arith)
+    let (small, above) = and_parts _ _ c.if-back-ids.true in
+    small_steps_rise a.ids.now a.base a.n start.requires.1 (told.steps_back-back.ensures (leb-true _ _ small)) (omega arith)
     start.requires.0 _ (ltb-true _ _ above) (omega arith)
 
-ids-rise-exactly-requires : tie.Need-ids-rise-exactly-requires
-ids-rise-exactly-requires c κs = omega arith
+ids_rise_exactly-requires : tie.Need-ids_rise_exactly-requires
+ids_rise_exactly-requires c κs = omega arith
 
-returns-3 : tie.Need-returns-3
-returns-3 c = c.ids-rise-exactly.ensures
+returns : tie.Need-returns
+returns c = c.ids_rise_exactly.ensures
 
-pub ids-rise-spec : {M : Type 1} → statement M
-ids-rise-spec =
+pub ids_rise_spec : {M : Type 1} → statement M
+ids_rise_spec =
     tie.close
     (tie.spec
-    returns
-    steps-back-requires
-    mul-if2
-    shared-slice-read-if2
-    add-if2
-    sub-if2
-    mul-if2-2
-    shared-slice-read-if2-2
-    returns-2
-    ids-rise-exactly-requires
-    returns-3)
+    returns-then-n-lt2
+    steps_back-back-requires
+    offset_bounds-ids-base
+    bounds-ids-base
+    overflow_add-base
+    overflow_sub-base
+    offset_bounds-ids-base-2
+    bounds-ids-base-2
+    returns-then-back-ids
+    ids_rise_exactly-requires
+    returns)

@@ -4,73 +4,73 @@ use Rattle.store_columns.proofs.Tests.{RisesSoFar, rises_start, rises_turn, rise
 use Rattle.store_columns.proofs.ids_rise_exactly.Statement.{statement}
 use Rattle.store_columns.proofs.ids_rise_exactly.Tie as tie
 
-abbrev invariant-loop : tie.invariant-loop
-invariant-loop ids base n ok₀ i₀ ok i = RisesSoFar ids base n ok i
+abbrev invariant-loop-i : tie.invariant-loop-i
+invariant-loop-i ids base n ok₀ i₀ ok i = RisesSoFar ids base n ok i
 
-abbrev decreases-loop : tie.decreases-loop
-decreases-loop ids base n ok₀ i₀ ok i = n - i
+abbrev decreases-loop-i : tie.decreases-loop-i
+decreases-loop-i ids base n ok₀ i₀ ok i = n - i
 
-loop-holds : tie.Need-loop-init invariant-loop decreases-loop
-loop-holds c =
+loop-i-init : tie.Need-loop-i-init invariant-loop-i decreases-loop-i
+loop-i-init c =
     let a = c.args in
     rises_start a.ids.now a.base a.n
 
-add_ok : tie.Need-overflow-add-ok invariant-loop decreases-loop
-add_ok c = omega arith
+overflow_add-ok : tie.Need-overflow_add-ok invariant-loop-i decreases-loop-i
+overflow_add-ok c = omega arith
 
-sub-ok : tie.Need-overflow-sub-ok invariant-loop decreases-loop
-sub-ok c = omega arith
+overflow_sub-ok : tie.Need-overflow_sub-ok invariant-loop-i decreases-loop-i
+overflow_sub-ok c = omega arith
 
-mul_ok : tie.Need-overflow-mul-ok invariant-loop decreases-loop
-mul_ok c = omega arith
+offset_bounds-ids-base : tie.Need-offset_bounds-ids-base invariant-loop-i decreases-loop-i
+offset_bounds-ids-base c = omega arith
 
-shared-slice-read-ok : tie.Need-shared-slice-read-ok invariant-loop decreases-loop
-shared-slice-read-ok c = omega arith
+bounds-ids-base : tie.Need-bounds-ids-base invariant-loop-i decreases-loop-i
+bounds-ids-base c = omega arith
 
-add-ok-2 : tie.Need-overflow-add-ok-2 invariant-loop decreases-loop
-add-ok-2 c = omega arith
+overflow_add-ok-in-loop-i : tie.Need-overflow_add-ok-in-loop-i invariant-loop-i decreases-loop-i
+overflow_add-ok-in-loop-i c = omega arith
 
-mul-ok-2 : tie.Need-overflow-mul-ok-2 invariant-loop decreases-loop
-mul-ok-2 c = omega arith
+offset_bounds-ids-base-in-loop-i : tie.Need-offset_bounds-ids-base-in-loop-i invariant-loop-i decreases-loop-i
+offset_bounds-ids-base-in-loop-i c = omega arith
 
-shared-slice-read-ok-2 : tie.Need-shared-slice-read-ok-2 invariant-loop decreases-loop
-shared-slice-read-ok-2 c = omega arith
+bounds-ids-base-in-loop-i : tie.Need-bounds-ids-base-in-loop-i invariant-loop-i decreases-loop-i
+bounds-ids-base-in-loop-i c = omega arith
 
-add-i : tie.Need-overflow-add-i invariant-loop decreases-loop
-add-i c = omega arith
+overflow_add-i : tie.Need-overflow_add-i invariant-loop-i decreases-loop-i
+overflow_add-i c = omega arith
 
-loop-less : tie.Need-loop-smaller invariant-loop decreases-loop
-loop-less c = omega arith
+loop-i-smaller : tie.Need-loop-i-smaller invariant-loop-i decreases-loop-i
+loop-i-smaller c = omega arith
 
-loop-again : tie.Need-loop-preserved invariant-loop decreases-loop
-loop-again c =
+loop-i-preserved : tie.Need-loop-i-preserved invariant-loop-i decreases-loop-i
+loop-i-preserved c =
     let head = c.before.before.before in
     let a = head.before.args in
-    let l = head.loop in
+    let l = head.loop-i in
     rises_turn a.ids.now a.base a.n l.ok l.i l.invariant (omega arith) (omega arith)
 
-returns : tie.Need-returns invariant-loop decreases-loop
+returns : tie.Need-returns invariant-loop-i decreases-loop-i
 returns c =
     let head = c.before in
     let a = head.before.args in
-    let l = head.loop in
+    let l = head.loop-i in
     rises_end a.ids.now a.base a.n l.ok l.i l.invariant (omega arith)
 
-pub ids-rise-exactly-spec : {M : Type 1} → statement M
-ids-rise-exactly-spec =
+pub ids_rise_exactly_spec : {M : Type 1} → statement M
+ids_rise_exactly_spec =
     tie.close
     (tie.spec
-    invariant-loop
-    decreases-loop
-    loop-holds
-    add_ok
-    sub-ok
-    mul_ok
-    shared-slice-read-ok
-    add-ok-2
-    mul-ok-2
-    shared-slice-read-ok-2
-    add-i
-    loop-less
-    loop-again
+    invariant-loop-i
+    decreases-loop-i
+    loop-i-init
+    overflow_add-ok
+    overflow_sub-ok
+    offset_bounds-ids-base
+    bounds-ids-base
+    overflow_add-ok-in-loop-i
+    offset_bounds-ids-base-in-loop-i
+    bounds-ids-base-in-loop-i
+    overflow_add-i
+    loop-i-smaller
+    loop-i-preserved
     returns)

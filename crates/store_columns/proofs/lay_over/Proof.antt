@@ -4,78 +4,78 @@ use Rattle.store_columns.proofs.Blocks.{LaidSoFar, laid_start, laid_turn, laid_e
 use Rattle.store_columns.proofs.lay_over.Statement.{statement}
 use Rattle.store_columns.proofs.lay_over.Tie as tie
 
-abbrev invariant-loop : tie.invariant-loop
-invariant-loop words₀ kinds meters from limit k₀ words k = LaidSoFar kinds meters limit from words₀ words k
+abbrev invariant-loop-k : tie.invariant-loop-k
+invariant-loop-k words₀ kinds meters from limit k₀ words k = LaidSoFar kinds meters limit from words₀ words k
 
-abbrev decreases-loop : tie.decreases-loop
-decreases-loop words₀ kinds meters from limit k₀ words k = 16 - k
+abbrev decreases-loop-k : tie.decreases-loop-k
+decreases-loop-k words₀ kinds meters from limit k₀ words k = 16 - k
 
 -- where a turn begins
-abbrev start : tie.At-loop invariant-loop decreases-loop → tie.Start invariant-loop decreases-loop
+abbrev start : tie.At-loop-k invariant-loop-k decreases-loop-k → tie.Start invariant-loop-k decreases-loop-k
 start l = l.before.before.before
 
-loop-holds : tie.Need-loop-init invariant-loop decreases-loop
-loop-holds c =
+loop-k-init : tie.Need-loop-k-init invariant-loop-k decreases-loop-k
+loop-k-init c =
     let a = c.before.before.args in
     laid_start a.kinds.now a.meters.now a.limit a.from a.words.now c.before.before.requires.3
 
-element-copy-out-words : tie.Need-element-copy-out-words invariant-loop decreases-loop
-element-copy-out-words c = omega arith
+bounds-words-k : tie.Need-bounds-words-k invariant-loop-k decreases-loop-k
+bounds-words-k c = omega arith
 
-add-wrong-bits : tie.Need-overflow-add-wrong-bits invariant-loop decreases-loop
-add-wrong-bits c = omega arith
+overflow_add-from : tie.Need-overflow_add-from invariant-loop-k decreases-loop-k
+overflow_add-from c = omega arith
 
-shared-slice-read-wrong-bits : tie.Need-shared-slice-read-wrong-bits invariant-loop decreases-loop
-shared-slice-read-wrong-bits c = omega arith
+bounds-kinds-from : tie.Need-bounds-kinds-from invariant-loop-k decreases-loop-k
+bounds-kinds-from c = omega arith
 
-add-wrong-bits-2 : tie.Need-overflow-add-wrong-bits-2 invariant-loop decreases-loop
-add-wrong-bits-2 c = omega arith
+overflow_add-from-in-loop-k : tie.Need-overflow_add-from-in-loop-k invariant-loop-k decreases-loop-k
+overflow_add-from-in-loop-k c = omega arith
 
-shared-slice-read-wrong-bits-2 : tie.Need-shared-slice-read-wrong-bits-2 invariant-loop decreases-loop
-shared-slice-read-wrong-bits-2 c = omega arith
+bounds-meters-from : tie.Need-bounds-meters-from invariant-loop-k decreases-loop-k
+bounds-meters-from c = omega arith
 
-wrong-bits-requires : tie.Need-wrong-bits-requires invariant-loop decreases-loop
-wrong-bits-requires c κs = c.before.before.before.before.before.before.before.requires.2
+wrong_bits-requires : tie.Need-wrong_bits-requires invariant-loop-k decreases-loop-k
+wrong_bits-requires c κs = c.before.before.before.before.before.before.before.requires.2
 
-element-write-words : tie.Need-element-write-words invariant-loop decreases-loop
-element-write-words c = omega arith
+bounds-words-k-in-loop-k : tie.Need-bounds-words-k-in-loop-k invariant-loop-k decreases-loop-k
+bounds-words-k-in-loop-k c = omega arith
 
-add-k : tie.Need-overflow-add-k invariant-loop decreases-loop
-add-k c = omega arith
+overflow_add-k : tie.Need-overflow_add-k invariant-loop-k decreases-loop-k
+overflow_add-k c = omega arith
 
-loop-less : tie.Need-loop-smaller invariant-loop decreases-loop
-loop-less c = omega arith
+loop-k-smaller : tie.Need-loop-k-smaller invariant-loop-k decreases-loop-k
+loop-k-smaller c = omega arith
 
-loop-again : tie.Need-loop-preserved invariant-loop decreases-loop
-loop-again c =
-    let head = c.before.before.before.before.before in
+loop-k-preserved : tie.Need-loop-k-preserved invariant-loop-k decreases-loop-k
+loop-k-preserved c =
+    let head = c.before.before.before.before.before.before in
     let a = (start head).args in
-    let l = head.loop in
-    laid_turn a.kinds.now a.meters.now a.limit a.from a.words.now l.words l.k c.wrong-bits.result l.invariant
-    (omega arith) c.wrong-bits.ensures
+    let l = head.loop-k in
+    laid_turn a.kinds.now a.meters.now a.limit a.from a.words.now l.words l.k c.wrong_bits.result l.invariant
+    (omega arith) c.wrong_bits.ensures
 
-returns : tie.Need-returns invariant-loop decreases-loop
+returns : tie.Need-returns invariant-loop-k decreases-loop-k
 returns c =
     let head = c.before in
     let a = (start head).args in
-    let l = head.loop in
+    let l = head.loop-k in
     laid_end a.kinds.now a.meters.now a.limit a.from a.words.now l.words l.k l.invariant (omega arith)
 
-pub lay-over-spec : {M : Type 1} → statement M
-lay-over-spec =
+pub lay_over_spec : {M : Type 1} → statement M
+lay_over_spec =
     tie.close
     (tie.spec
-    invariant-loop
-    decreases-loop
-    loop-holds
-    element-copy-out-words
-    add-wrong-bits
-    shared-slice-read-wrong-bits
-    add-wrong-bits-2
-    shared-slice-read-wrong-bits-2
-    wrong-bits-requires
-    element-write-words
-    add-k
-    loop-less
-    loop-again
+    invariant-loop-k
+    decreases-loop-k
+    loop-k-init
+    bounds-words-k
+    overflow_add-from
+    bounds-kinds-from
+    overflow_add-from-in-loop-k
+    bounds-meters-from
+    wrong_bits-requires
+    bounds-words-k-in-loop-k
+    overflow_add-k
+    loop-k-smaller
+    loop-k-preserved
     returns)

@@ -1,102 +1,106 @@
 -- `store_columns::lay_steps` meets its contract: the words tell of the steps laid over them so far.
+use borrow.Author.Rules.{rules}
 use Rattle.std.proofs.Common.{◌+◌, ◌-◌, arith}
 use Rattle.store_columns.proofs.SmallSteps.{LaidSteps, laid_steps_start, laid_steps_turn, laid_steps_end}
 use Rattle.store_columns.proofs.lay_steps.Statement.{statement}
 use Rattle.store_columns.proofs.lay_steps.Tie as tie
 
-abbrev invariant-loop : tie.invariant-loop
-invariant-loop words₀ ids from k₀ words k = LaidSteps ids from words₀ words k
+abbrev invariant-loop-k : tie.invariant-loop-k
+invariant-loop-k words₀ ids from k₀ words k = LaidSteps ids from words₀ words k
 
-abbrev decreases-loop : tie.decreases-loop
-decreases-loop words₀ ids from k₀ words k = 8 - k
+abbrev decreases-loop-k : tie.decreases-loop-k
+decreases-loop-k words₀ ids from k₀ words k = 8 - k
 
 -- where a turn begins
-abbrev start : tie.At-loop invariant-loop decreases-loop → tie.Start invariant-loop decreases-loop
+abbrev start : tie.At-loop-k invariant-loop-k decreases-loop-k → tie.Start invariant-loop-k decreases-loop-k
 start l = l.before.before
 
-loop-holds : tie.Need-loop-init invariant-loop decreases-loop
-loop-holds c =
+loop-k-init : tie.Need-loop-k-init invariant-loop-k decreases-loop-k
+loop-k-init c =
     let a = c.before.args in
     laid_steps_start a.ids.now a.from a.words.now c.before.requires.1
 
-mul_words : tie.Need-overflow-mul-words invariant-loop decreases-loop
-mul_words c = omega arith
+offset_bounds-words-k : tie.Need-offset_bounds-words-k invariant-loop-k decreases-loop-k
+offset_bounds-words-k c = omega arith
 
-element-copy-out-words : tie.Need-element-copy-out-words invariant-loop decreases-loop
-element-copy-out-words c = omega arith
+bounds-words-k : tie.Need-bounds-words-k invariant-loop-k decreases-loop-k
+bounds-words-k c = omega arith
 
-add-wrapping-sub-u32 : tie.Need-overflow-add-wrapping-sub-u32 invariant-loop decreases-loop
-add-wrapping-sub-u32 c = omega arith
+overflow_add-from : tie.Need-overflow_add-from invariant-loop-k decreases-loop-k
+overflow_add-from c = omega arith
 
-mul-wrapping-sub-u32 : tie.Need-overflow-mul-wrapping-sub-u32 invariant-loop decreases-loop
-mul-wrapping-sub-u32 c = omega arith
+offset_bounds-ids-from : tie.Need-offset_bounds-ids-from invariant-loop-k decreases-loop-k
+offset_bounds-ids-from c = omega arith
 
-shared-slice-read-wrapping-sub-u32 : tie.Need-shared-slice-read-wrapping-sub-u32 invariant-loop decreases-loop
-shared-slice-read-wrapping-sub-u32 c = omega arith
+bounds-ids-from : tie.Need-bounds-ids-from invariant-loop-k decreases-loop-k
+bounds-ids-from c = omega arith
 
-add-wrapping-sub-u32-2 : tie.Need-overflow-add-wrapping-sub-u32-2 invariant-loop decreases-loop
-add-wrapping-sub-u32-2 c = omega arith
+overflow_add-from-in-loop-k : tie.Need-overflow_add-from-in-loop-k invariant-loop-k decreases-loop-k
+overflow_add-from-in-loop-k c = omega arith
 
-add-wrapping-sub-u32-3 : tie.Need-overflow-add-wrapping-sub-u32-3 invariant-loop decreases-loop
-add-wrapping-sub-u32-3 c = omega arith
+overflow_add-from-in-loop-k-2 : tie.Need-overflow_add-from-in-loop-k-2 invariant-loop-k decreases-loop-k
+overflow_add-from-in-loop-k-2 c = omega arith
 
-mul-wrapping-sub-u32-2 : tie.Need-overflow-mul-wrapping-sub-u32-2 invariant-loop decreases-loop
-mul-wrapping-sub-u32-2 c = omega arith
+offset_bounds-ids-from-in-loop-k : tie.Need-offset_bounds-ids-from-in-loop-k invariant-loop-k decreases-loop-k
+offset_bounds-ids-from-in-loop-k c = omega arith
 
 shared_slice_read_wrapping_sub_u32_2 :
-    tie.Need-shared-slice-read-wrapping-sub-u32-2 invariant-loop decreases-loop
+    tie.Need-bounds-ids-from-in-loop-k invariant-loop-k decreases-loop-k
 shared_slice_read_wrapping_sub_u32_2 c = omega arith
 
-wrapping-sub-u32-requires : tie.Need-wrapping-sub-u32-requires invariant-loop decreases-loop
-wrapping-sub-u32-requires c κs = tt
+wrapping_sub_u32-requires : tie.Need-wrapping_sub_u32-requires invariant-loop-k decreases-loop-k
+wrapping_sub_u32-requires c κs = tt
 
-mul-words-2 : tie.Need-overflow-mul-words-2 invariant-loop decreases-loop
-mul-words-2 c = omega arith
+offset_bounds-words-k-in-loop-k : tie.Need-offset_bounds-words-k-in-loop-k invariant-loop-k decreases-loop-k
+offset_bounds-words-k-in-loop-k c = omega arith
 
-element-write-words : tie.Need-element-write-words invariant-loop decreases-loop
-element-write-words c = omega arith
+bounds-words-k-in-loop-k : tie.Need-bounds-words-k-in-loop-k invariant-loop-k decreases-loop-k
+bounds-words-k-in-loop-k c = omega arith
 
-add-k : tie.Need-overflow-add-k invariant-loop decreases-loop
-add-k c = omega arith
+overflow_add-k : tie.Need-overflow_add-k invariant-loop-k decreases-loop-k
+overflow_add-k c = omega arith
 
-loop-less : tie.Need-loop-smaller invariant-loop decreases-loop
-loop-less c = omega arith
+loop-k-smaller : tie.Need-loop-k-smaller invariant-loop-k decreases-loop-k
+loop-k-smaller c = omega arith
 
-loop-again : tie.Need-loop-preserved invariant-loop decreases-loop
-loop-again c =
-    let head = c.before.before.before.before.before in
+loop-k-preserved : tie.Need-loop-k-preserved invariant-loop-k decreases-loop-k
+loop-k-preserved c =
+    let head = c.before.before.before.before.before.before in
     let a = (start head).args in
-    let l = head.loop in
-    laid_steps_turn a.ids.now a.from a.words.now l.words l.k l.invariant c.wrapping-sub-u32.result (omega arith)
-    (omega (arith, c.before.shared-slice-known3.given (a.from + l.k + 1))) (omega arith) (omega arith)
+    let l = head.loop-k in
+    laid_steps_turn a.ids.now a.from a.words.now l.words l.k l.invariant c.wrapping_sub_u32.result (omega arith)
+    (omega (arith, c.before.shared_slice_known-in-loop-k-2-1.given (a.from + l.k + 1))) (omega arith) (omega arith)
 
-returns : tie.Need-returns invariant-loop decreases-loop
+returns : tie.Need-returns invariant-loop-k decreases-loop-k
 returns c =
     let head = c.before in
     let a = (start head).args in
-    let l = head.loop in
+    let l = head.loop-k in
     laid_steps_end a.ids.now a.from a.words.now l.words l.k l.invariant (omega arith)
 
-pub lay-steps-spec : {M : Type 1} → statement M
-lay-steps-spec =
+bounds-ids-from-in-loop-k : tie.Need-bounds-ids-from-in-loop-k invariant-loop-k decreases-loop-k
+bounds-ids-from-in-loop-k c = search rules
+
+pub lay_steps_spec : {M : Type 1} → statement M
+lay_steps_spec =
     tie.close
     (tie.spec
-    invariant-loop
-    decreases-loop
-    loop-holds
-    mul_words
-    element-copy-out-words
-    add-wrapping-sub-u32
-    mul-wrapping-sub-u32
-    shared-slice-read-wrapping-sub-u32
-    add-wrapping-sub-u32-2
-    add-wrapping-sub-u32-3
-    mul-wrapping-sub-u32-2
-    shared_slice_read_wrapping_sub_u32_2
-    wrapping-sub-u32-requires
-    mul-words-2
-    element-write-words
-    add-k
-    loop-less
-    loop-again
+    invariant-loop-k
+    decreases-loop-k
+    loop-k-init
+    offset_bounds-words-k
+    bounds-words-k
+    overflow_add-from
+    offset_bounds-ids-from
+    bounds-ids-from
+    overflow_add-from-in-loop-k
+    overflow_add-from-in-loop-k-2
+    offset_bounds-ids-from-in-loop-k
+    bounds-ids-from-in-loop-k
+    wrapping_sub_u32-requires
+    offset_bounds-words-k-in-loop-k
+    bounds-words-k-in-loop-k
+    overflow_add-k
+    loop-k-smaller
+    loop-k-preserved
     returns)

@@ -5,89 +5,89 @@ use Rattle.store.specs.Parts.{with_rows_at}
 use Rattle.store_columns.proofs.place.Statement.{statement}
 use Rattle.store_columns.proofs.place.Tie as tie
 
-mul-ids : tie.Need-overflow-mul-ids
+offset_bounds-ids-at : tie.Need-offset_bounds-ids-at
 unfolding store_length
-mul-ids c = search rules
+offset_bounds-ids-at c = search rules
 
-slice-write-ids : tie.Need-slice-write-ids
+bounds-ids-at : tie.Need-bounds-ids-at
 unfolding store_length
-slice-write-ids c = search rules
+bounds-ids-at c = search rules
 
-mul-times : tie.Need-overflow-mul-times
+offset_bounds-times-at : tie.Need-offset_bounds-times-at
 unfolding store_length
-mul-times c = search rules
+offset_bounds-times-at c = search rules
 
-slice-write-times : tie.Need-slice-write-times
+bounds-times-at : tie.Need-bounds-times-at
 unfolding store_length
-slice-write-times c = search rules
+bounds-times-at c = search rules
 
-mul-value : tie.Need-overflow-mul-value
+offset_bounds-values-at : tie.Need-offset_bounds-values-at
 unfolding store_length
-mul-value c = search rules
+offset_bounds-values-at c = search rules
 
-slice-set-from-value : tie.Need-slice-set-from-value
+bounds-values-at : tie.Need-bounds-values-at
 unfolding store_length
-slice-set-from-value c = search rules
+bounds-values-at c = search rules
 
-mul-arrivals : tie.Need-overflow-mul-arrivals
+offset_bounds-arrivals-at : tie.Need-offset_bounds-arrivals-at
 unfolding store_length
-mul-arrivals c = search rules
+offset_bounds-arrivals-at c = search rules
 
-slice-write-arrivals : tie.Need-slice-write-arrivals
+bounds-arrivals-at : tie.Need-bounds-arrivals-at
 unfolding store_length
-slice-write-arrivals c = search rules
+bounds-arrivals-at c = search rules
 
-slice-write-kinds : tie.Need-slice-write-kinds
+bounds-kinds-at : tie.Need-bounds-kinds-at
 unfolding store_length
-slice-write-kinds c = search rules
+bounds-kinds-at c = search rules
 
-slice-write-meters : tie.Need-slice-write-meters
+bounds-meters-at : tie.Need-bounds-meters-at
 unfolding store_length
-slice-write-meters c = search rules
+bounds-meters-at c = search rules
 
-same_length : tie.Need-same-length
-same_length c = search rules
+shape_of-ids : tie.Need-shape_of-ids
+shape_of-ids c = search rules
 
-same-length-2 : tie.Need-same-length-2
-same-length-2 c = search rules
+shape_of-times : tie.Need-shape_of-times
+shape_of-times c = search rules
 
-same-length-3 : tie.Need-same-length-3
-same-length-3 c = search rules
+shape_of-values : tie.Need-shape_of-values
+shape_of-values c = search rules
 
-same-length-4 : tie.Need-same-length-4
-same-length-4 c = search rules
+shape_of-arrivals : tie.Need-shape_of-arrivals
+shape_of-arrivals c = search rules
 
-same-length-5 : tie.Need-same-length-5
-same-length-5 c = search rules
+shape_of-kinds : tie.Need-shape_of-kinds
+shape_of-kinds c = search rules
 
-same-length-6 : tie.Need-same-length-6
-same-length-6 c = search rules
+shape_of-meters : tie.Need-shape_of-meters
+shape_of-meters c = search rules
 
 returns : tie.Need-returns
 unfolding with_rows_at
 returns c =
-    let told = c.struct_told.given in
+    let told = c.struct_told-1.given in
     let fits : SFits w32 c.before.args.r.value = search rules in
     rw (to_z-of_z fits)
 
-pub place-spec : {M : Type 1} → statement M
-place-spec =
+pub place_spec : {M : Type 1} → statement M
+place_spec =
     tie.close
     (tie.spec
-    mul-ids
-    slice-write-ids
-    mul-times
-    slice-write-times
-    mul-value
-    slice-set-from-value
-    mul-arrivals
-    slice-write-arrivals
-    slice-write-kinds
-    slice-write-meters
-    same_length
-    same-length-2
-    same-length-3
-    same-length-4
-    same-length-5
-    same-length-6
+    offset_bounds-ids-at
+    bounds-ids-at
+    offset_bounds-times-at
+    bounds-times-at
+    offset_bounds-values-at
+    bounds-values-at
+    offset_bounds-arrivals-at
+    bounds-arrivals-at
+    bounds-kinds-at
+    bounds-meters-at
+    shape_of-ids
+    shape_of-times
+    shape_of-values
+    shape_of-arrivals
+    shape_of-kinds
+    shape_of-meters
     returns)

@@ -10,74 +10,74 @@ use Rattle.store_columns.proofs.some_between.Tie as tie
 abbrev between : ReadingTime → ArrivalTick → ℕ → ℕ → Bool
 between first latest t a = leb first.0 t && leb a latest.0
 
-abbrev invariant-loop : tie.invariant-loop
-invariant-loop times arrivals base n first latest found₀ i₀ found i = SomePairSoFar (between first latest) times arrivals base n found i
+abbrev invariant-loop-i : tie.invariant-loop-i
+invariant-loop-i times arrivals base n first latest found₀ i₀ found i = SomePairSoFar (between first latest) times arrivals base n found i
 
-abbrev decreases-loop : tie.decreases-loop
-decreases-loop times arrivals base n first latest found₀ i₀ found i = n - i
+abbrev decreases-loop-i : tie.decreases-loop-i
+decreases-loop-i times arrivals base n first latest found₀ i₀ found i = n - i
 
 -- the loop's head, seen from the turn's end
-abbrev looped : tie.After-struct-known2 invariant-loop decreases-loop → tie.At-loop invariant-loop decreases-loop
+abbrev looped : tie.After-struct_known-in-loop-i-1 invariant-loop-i decreases-loop-i → tie.At-loop-i invariant-loop-i decreases-loop-i
 looped c = c.before.before.before.before.before
 
-loop-holds : tie.Need-loop-init invariant-loop decreases-loop
-loop-holds c =
+loop-i-init : tie.Need-loop-i-init invariant-loop-i decreases-loop-i
+loop-i-init c =
     let a = c.args in
     some_pair_start (between a.first a.latest) a.times.now a.arrivals.now a.base a.n
 
-add-found : tie.Need-overflow-add-found invariant-loop decreases-loop
-add-found c = omega arith
+overflow_add-found : tie.Need-overflow_add-found invariant-loop-i decreases-loop-i
+overflow_add-found c = omega arith
 
-mul-found : tie.Need-overflow-mul-found invariant-loop decreases-loop
-mul-found c = omega arith
+offset_bounds-times-base : tie.Need-offset_bounds-times-base invariant-loop-i decreases-loop-i
+offset_bounds-times-base c = omega arith
 
-shared-slice-read-found : tie.Need-shared-slice-read-found invariant-loop decreases-loop
-shared-slice-read-found c = omega arith
+bounds-times-base : tie.Need-bounds-times-base invariant-loop-i decreases-loop-i
+bounds-times-base c = omega arith
 
-add-found-2 : tie.Need-overflow-add-found-2 invariant-loop decreases-loop
-add-found-2 c = omega arith
+overflow_add-found-in-loop-i : tie.Need-overflow_add-found-in-loop-i invariant-loop-i decreases-loop-i
+overflow_add-found-in-loop-i c = omega arith
 
-mul-found-2 : tie.Need-overflow-mul-found-2 invariant-loop decreases-loop
-mul-found-2 c = omega arith
+offset_bounds-arrivals-base : tie.Need-offset_bounds-arrivals-base invariant-loop-i decreases-loop-i
+offset_bounds-arrivals-base c = omega arith
 
-shared-slice-read-found-2 : tie.Need-shared-slice-read-found-2 invariant-loop decreases-loop
-shared-slice-read-found-2 c = omega arith
+bounds-arrivals-base : tie.Need-bounds-arrivals-base invariant-loop-i decreases-loop-i
+bounds-arrivals-base c = omega arith
 
-add-i : tie.Need-overflow-add-i invariant-loop decreases-loop
-add-i c = omega arith
+overflow_add-i : tie.Need-overflow_add-i invariant-loop-i decreases-loop-i
+overflow_add-i c = omega arith
 
-loop-less : tie.Need-loop-smaller invariant-loop decreases-loop
-loop-less c = omega arith
+loop-i-smaller : tie.Need-loop-i-smaller invariant-loop-i decreases-loop-i
+loop-i-smaller c = omega arith
 
-loop-again : tie.Need-loop-preserved invariant-loop decreases-loop
-loop-again c =
+loop-i-preserved : tie.Need-loop-i-preserved invariant-loop-i decreases-loop-i
+loop-i-preserved c =
     let a = (looped c).before.args in
-    let l = (looped c).loop in
-    some_pair_turn (between a.first a.latest) a.times.now a.arrivals.now a.base a.n l.found l.i l.inv
+    let l = (looped c).loop-i in
+    some_pair_turn (between a.first a.latest) a.times.now a.arrivals.now a.base a.n l.found l.i l.invariant
     (omega arith) (omega arith) (omega arith)
 
-returns : tie.Need-returns invariant-loop decreases-loop
+returns : tie.Need-returns invariant-loop-i decreases-loop-i
 returns c =
     let head = c.before in
     let a = head.before.args in
-    let l = head.loop in
+    let l = head.loop-i in
     some_pair_end (between a.first a.latest) a.times.now a.arrivals.now a.base a.n l.found l.i l.invariant
     (omega arith)
 
-pub some-between-spec : {M : Type 1} → statement M
-some-between-spec =
+pub some_between_spec : {M : Type 1} → statement M
+some_between_spec =
     tie.close
     (tie.spec
-    invariant-loop
-    decreases-loop
-    loop-holds
-    add-found
-    mul-found
-    shared-slice-read-found
-    add-found-2
-    mul-found-2
-    shared-slice-read-found-2
-    add-i
-    loop-less
-    loop-again
+    invariant-loop-i
+    decreases-loop-i
+    loop-i-init
+    overflow_add-found
+    offset_bounds-times-base
+    bounds-times-base
+    overflow_add-found-in-loop-i
+    offset_bounds-arrivals-base
+    bounds-arrivals-base
+    overflow_add-i
+    loop-i-smaller
+    loop-i-preserved
     returns)

@@ -7,44 +7,50 @@ use Rattle.store_columns.proofs.some_due.Statement.{statement}
 use Rattle.store_columns.proofs.some_due.Tie as tie
 
 -- the start, seen from the first test; the first test, seen from the second
-abbrev entered : tie.After-shared-slice-known2 → tie.Start
+abbrev entered : tie.After-shared_slice_known-2-1 → tie.Start
 entered c = c.before.before
 
-abbrev early : tie.After-struct-known → tie.After-shared-slice-known2
+abbrev early : tie.After-struct_known-1 → tie.After-shared_slice_known-2-1
 early c = c.before.before
 
-mul-start : tie.Need-overflow-mul-start
-mul-start c =
+overflow_mul-start : tie.Need-overflow_mul-start
+overflow_mul-start c =
     let a = (entered c).args in
     omega (arith, product_le a.p a.bucket (omega arith) (omega arith))
 
-returns : tie.Need-returns
-returns c =
+returns-then-start-gt-LAST_TIME : tie.Need-returns-then-start-gt-LAST_TIME
+returns-then-start-gt-LAST_TIME c =
     let a = (entered c.before).args in
-    let times = c.before.before.shared-slice-known.given in
+    let times = c.before.before.shared_slice_known-1.given in
     sym
     (none_late a.bucket a.p a.hold a.tick a.times.now a.arrivals.now a.base a.n (2 ^ 32) (omega arith)
     (omega arith) (λ i. omega (arith, times i)) (omega arith))
 
-returns-2 : tie.Need-returns-2
-returns-2 c =
+returns-then-tick-hold : tie.Need-returns-then-tick-hold
+returns-then-tick-hold c =
     let a = (entered (early c.before)).args in
     sym
     (none_due a.bucket a.p a.hold a.tick a.times.now a.arrivals.now a.base a.n (omega arith) (omega arith))
 
-cast-first : tie.Need-overflow-cast-first
-cast-first c = search rules
+overflow_cast-first : tie.Need-overflow_cast-first
+overflow_cast-first c = search rules
 
-some-between-requires : tie.Need-some-between-requires
-some-between-requires c κs = search rules
+some_between-requires : tie.Need-some_between-requires
+some_between-requires c κs = search rules
 
-returns-3 : tie.Need-returns-3
-returns-3 c =
+returns : tie.Need-returns
+returns c =
     let a = (entered (early c.before.before.before)).args in
     some_late_due a.bucket a.p a.hold a.tick a.times.now a.arrivals.now a.base a.n _ (omega arith)
-    (omega arith) c.some-between.ensures
+    (omega arith) c.some_between.ensures
 
-pub some-due-spec : {M : Type 1} → statement M
-some-due-spec =
+pub some_due_spec : {M : Type 1} → statement M
+some_due_spec =
     tie.close
-    (tie.spec mul-start returns returns-2 cast-first some-between-requires returns-3)
+    (tie.spec
+    overflow_mul-start
+    returns-then-start-gt-LAST_TIME
+    returns-then-tick-hold
+    overflow_cast-first
+    some_between-requires
+    returns)

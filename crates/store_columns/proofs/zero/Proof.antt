@@ -9,13 +9,13 @@ use Rattle.store_columns.proofs.zero.Tie as tie
 -- ---- the places on the way
 
 -- from the first call's argument to the start
-abbrev entered : tie.After-zero-first-arg3 → tie.Start
+abbrev entered : tie.After-zero_first-arg-3-1 → tie.Start
 entered c = c.before.before.before.before.before.before.before.before
 
-abbrev first : tie.After-zero-others-arg3 → tie.After-zero-first
+abbrev first : tie.After-zero_others-arg-3-1 → tie.After-zero_first
 first c = c.before.before.before.before.before.before.before.before.before
 
-abbrev others : tie.After-slice-known10 → tie.After-zero-others
+abbrev others : tie.After-slice_known-10-1 → tie.After-zero_others
 others c = c.before.before.before.before.before
 
 -- the store as it was, and its places
@@ -29,52 +29,52 @@ space s = room s.args.to (store s) s.requires.1
 
 -- ---- the needs
 
-zero-first-requires : tie.Need-zero-first-requires
-zero-first-requires c κs =
+zero_first-requires : tie.Need-zero_first-requires
+zero_first-requires c κs =
     let s = entered c in
-    (s.pre.0, (space s).ids, (space s).times, (space s).arrivals)
+    (s.requires.0, (space s).ids, (space s).times, (space s).arrivals)
 
-zero-others-requires : tie.Need-zero-others-requires
-zero-others-requires c κs =
+zero_others-requires : tie.Need-zero_others-requires
+zero_others-requires c κs =
     let s = entered (first c).before in
-    (s.pre.0, (space s).values, (space s).kinds, (space s).meters)
+    (s.requires.0, (space s).values, (space s).kinds, (space s).meters)
 
-same_length : tie.Need-same-length
-same_length c = (first (others c).before).zero-first.auto.0
+shape_of-ids : tie.Need-shape_of-ids
+shape_of-ids c = (first (others c).before).zero_first.auto.ids
 
-same-length-2 : tie.Need-same-length-2
-same-length-2 c = (first (others c).before).zero-first.auto.1.0
+shape_of-times : tie.Need-shape_of-times
+shape_of-times c = (first (others c).before).zero_first.auto.times
 
-same-length-3 : tie.Need-same-length-3
-same-length-3 c = (others c).zero-others.auto.0
+shape_of-values : tie.Need-shape_of-values
+shape_of-values c = (others c).zero_others.auto.values
 
-same-length-4 : tie.Need-same-length-4
-same-length-4 c = (first (others c).before).zero-first.auto.1.1.0
+shape_of-arrivals : tie.Need-shape_of-arrivals
+shape_of-arrivals c = (first (others c).before).zero_first.auto.arrivals
 
-same-length-5 : tie.Need-same-length-5
-same-length-5 c = (others c).zero-others.auto.1.0
+shape_of-kinds : tie.Need-shape_of-kinds
+shape_of-kinds c = (others c).zero_others.auto.kinds
 
-same-length-6 : tie.Need-same-length-6
-same-length-6 c = (others c).zero-others.auto.1.1.0
+shape_of-meters : tie.Need-shape_of-meters
+shape_of-meters c = (others c).zero_others.auto.meters
 
 returns : tie.Need-returns
 returns c =
     let f = first (others c).before in
     let s = entered f.before in
-    let a = f.zero-first.ensures in
-    let b = (others c).zero-others.ensures in
+    let a = f.zero_first.ensures in
+    let b = (others c).zero_others.ensures in
     zeroed_rows (store s) s.args.from (s.args.to - s.args.from) a.0 a.1 b.0 a.2 b.1 b.2
 
-pub zero-spec : {M : Type 1} → statement M
-zero-spec =
+pub zero_spec : {M : Type 1} → statement M
+zero_spec =
     tie.close
     (tie.spec
-    zero-first-requires
-    zero-others-requires
-    same_length
-    same-length-2
-    same-length-3
-    same-length-4
-    same-length-5
-    same-length-6
+    zero_first-requires
+    zero_others-requires
+    shape_of-ids
+    shape_of-times
+    shape_of-values
+    shape_of-arrivals
+    shape_of-kinds
+    shape_of-meters
     returns)

@@ -4,55 +4,55 @@ use Rattle.store_columns.proofs.Zeroed.{Zeroing, zeroing_turn, zeroing_end}
 use Rattle.store_columns.proofs.zero_u32.Statement.{statement}
 use Rattle.store_columns.proofs.zero_u32.Tie as tie
 
-abbrev invariant-loop : tie.invariant-loop
-invariant-loop xs₀ from to i₀ xs i = Zeroing 0 xs₀ from to xs i
+abbrev invariant-loop-i : tie.invariant-loop-i
+invariant-loop-i xs₀ from to i₀ xs i = Zeroing 0 xs₀ from to xs i
 
-abbrev decreases-loop : tie.decreases-loop
-decreases-loop xs₀ from to i₀ xs i = to - i
+abbrev decreases-loop-i : tie.decreases-loop-i
+decreases-loop-i xs₀ from to i₀ xs i = to - i
 
-loop-holds : tie.Need-loop-init invariant-loop decreases-loop
-loop-holds c = (omega arith, refl, refl)
+loop-i-init : tie.Need-loop-i-init invariant-loop-i decreases-loop-i
+loop-i-init c = (omega arith, refl, refl)
 
-mul-xs : tie.Need-overflow-mul-xs invariant-loop decreases-loop
-mul-xs c = omega arith
+offset_bounds-xs-i : tie.Need-offset_bounds-xs-i invariant-loop-i decreases-loop-i
+offset_bounds-xs-i c = omega arith
 
-slice-write-xs : tie.Need-slice-write-xs invariant-loop decreases-loop
-slice-write-xs c = omega arith
+bounds-xs-i : tie.Need-bounds-xs-i invariant-loop-i decreases-loop-i
+bounds-xs-i c = omega arith
 
-add-i : tie.Need-overflow-add-i invariant-loop decreases-loop
-add-i c = omega arith
+overflow_add-i : tie.Need-overflow_add-i invariant-loop-i decreases-loop-i
+overflow_add-i c = omega arith
 
-loop-less : tie.Need-loop-smaller invariant-loop decreases-loop
-loop-less c = omega arith
+loop-i-smaller : tie.Need-loop-i-smaller invariant-loop-i decreases-loop-i
+loop-i-smaller c = omega arith
 
-loop-again : tie.Need-loop-preserved invariant-loop decreases-loop
-loop-again c =
+loop-i-preserved : tie.Need-loop-i-preserved invariant-loop-i decreases-loop-i
+loop-i-preserved c =
     let head = c.before in
     let a = head.before.args in
-    let l = head.loop in
+    let l = head.loop-i in
     zeroing_turn 0 a.xs.now a.from a.to l.xs l.i l.invariant (omega arith)
 
-same_length : tie.Need-same-length invariant-loop decreases-loop
-same_length c = omega arith
+shape_of-xs : tie.Need-shape_of-xs invariant-loop-i decreases-loop-i
+shape_of-xs c = omega arith
 
-returns : tie.Need-returns invariant-loop decreases-loop
+returns : tie.Need-returns invariant-loop-i decreases-loop-i
 returns c =
     let head = c.before in
     let a = head.before.args in
-    let l = head.loop in
+    let l = head.loop-i in
     zeroing_end 0 a.xs.now a.from a.to l.xs l.i l.invariant (omega arith)
 
-pub zero-u32-spec : {M : Type 1} → statement M
-zero-u32-spec =
+pub zero_u32_spec : {M : Type 1} → statement M
+zero_u32_spec =
     tie.close
     (tie.spec
-    invariant-loop
-    decreases-loop
-    loop-holds
-    mul-xs
-    slice-write-xs
-    add-i
-    loop-less
-    loop-again
-    same_length
+    invariant-loop-i
+    decreases-loop-i
+    loop-i-init
+    offset_bounds-xs-i
+    bounds-xs-i
+    overflow_add-i
+    loop-i-smaller
+    loop-i-preserved
+    shape_of-xs
     returns)
