@@ -11,4 +11,7 @@ unfolding meters_in meters_of meters_from meter_at no_meter
 returns c = (refl, refl)
 
 pub clear_spec : {M : Type 1} → statement M
-clear_spec = tie.close (tie.spec returns)
+clear_spec =
+    tie.close
+    (tie.spec
+    returns)

@@ -6,32 +6,32 @@ use Rattle.operator_rows.proofs.keep.Statement.{statement}
 use Rattle.operator_rows.proofs.keep.Tie as tie
 
 -- the slices tell that there are two rows
-abbrev sliced : tie.After-operator-lasts → tie.After-all-lasts
+abbrev sliced : tie.After-operator_lasts-1 → tie.After-all_lasts-1
 sliced c = c.before.before.before
 
-abbrev lent : tie.After-all-lasts → Rows
+abbrev lent : tie.After-all_lasts-1 → Rows
 lent c = let a = c.before.before.before.args in rows_of a.counts.now a.sums.now a.lasts.now
 
-two_rows : (c : tie.After-all-lasts) → TwoRows (lent c)
-two_rows c = (c.before.before.all-counts.given.0.1, c.before.all-sums.given.0.1, c.all-lasts.given.0.1)
+two_rows : (c : tie.After-all_lasts-1) → TwoRows (lent c)
+two_rows c = (c.before.before.all_counts-1.given.0.1, c.before.all_sums-1.given.0.1, c.all_lasts-1.given.0.1)
 
-slice-copy-out-operator-counts : tie.Need-slice-copy-out-operator-counts
-slice-copy-out-operator-counts c = search rules
+slice_copy_out-operator_counts : tie.Need-slice_copy_out-operator_counts
+slice_copy_out-operator_counts c = search rules
 
-slice-copy-out-operator-sums : tie.Need-slice-copy-out-operator-sums
-slice-copy-out-operator-sums c = search rules
+slice_copy_out-operator_sums : tie.Need-slice_copy_out-operator_sums
+slice_copy_out-operator_sums c = search rules
 
-slice-copy-out-operator-lasts : tie.Need-slice-copy-out-operator-lasts
-slice-copy-out-operator-lasts c = search rules
+slice_copy_out-operator_lasts : tie.Need-slice_copy_out-operator_lasts
+slice_copy_out-operator_lasts c = search rules
 
-slice-set-from-operator-counts : tie.Need-slice-set-from-operator-counts
-slice-set-from-operator-counts c = search rules
+bounds-all_counts-1 : tie.Need-bounds-all_counts-1
+bounds-all_counts-1 c = search rules
 
-slice-set-from-operator-sums : tie.Need-slice-set-from-operator-sums
-slice-set-from-operator-sums c = search rules
+bounds-all_sums-1 : tie.Need-bounds-all_sums-1
+bounds-all_sums-1 c = search rules
 
-slice-set-from-operator-lasts : tie.Need-slice-set-from-operator-lasts
-slice-set-from-operator-lasts c = search rules
+bounds-all_lasts-1 : tie.Need-bounds-all_lasts-1
+bounds-all_lasts-1 c = search rules
 
 returns : tie.Need-returns
 returns c = kept (lent (sliced c)) (two_rows (sliced c))
@@ -40,10 +40,10 @@ pub keep_spec : {M : Type 1} → statement M
 keep_spec =
     tie.close
     (tie.spec
-    slice-copy-out-operator-counts
-    slice-copy-out-operator-sums
-    slice-copy-out-operator-lasts
-    slice-set-from-operator-counts
-    slice-set-from-operator-sums
-    slice-set-from-operator-lasts
+    slice_copy_out-operator_counts
+    slice_copy_out-operator_sums
+    slice_copy_out-operator_lasts
+    bounds-all_counts-1
+    bounds-all_sums-1
+    bounds-all_lasts-1
     returns)

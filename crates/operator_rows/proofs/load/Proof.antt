@@ -5,18 +5,24 @@ use Rattle.operator_rows.specs.Rows.{meters_in}
 use Rattle.operator_rows.proofs.load.Statement.{statement}
 use Rattle.operator_rows.proofs.load.Tie as tie
 
-element-copy-out-c : tie.Need-element-copy-out-c
-element-copy-out-c c = omega arith
+bounds-counts-0 : tie.Need-bounds-counts-0
+bounds-counts-0 c = omega arith
 
-element-copy-out-s : tie.Need-element-copy-out-s
-element-copy-out-s c = omega arith
+bounds-sums-0 : tie.Need-bounds-sums-0
+bounds-sums-0 c = omega arith
 
-element-copy-out-l : tie.Need-element-copy-out-l
-element-copy-out-l c = omega arith
+bounds-lasts-0 : tie.Need-bounds-lasts-0
+bounds-lasts-0 c = omega arith
 
 returns : tie.Need-returns
 unfolding meters_in
 returns c = refl
 
 pub load_spec : {M : Type 1} → statement M
-load_spec = tie.close (tie.spec element-copy-out-c element-copy-out-s element-copy-out-l returns)
+load_spec =
+    tie.close
+    (tie.spec
+    bounds-counts-0
+    bounds-sums-0
+    bounds-lasts-0
+    returns)

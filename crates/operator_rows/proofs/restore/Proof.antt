@@ -6,44 +6,44 @@ use Rattle.operator_rows.proofs.restore.Statement.{statement}
 use Rattle.operator_rows.proofs.restore.Tie as tie
 
 -- the slices tell that there are two rows
-abbrev sliced : tie.After-checkpoint-lasts → tie.After-all-lasts
+abbrev sliced : tie.After-checkpoint_lasts-1 → tie.After-all_lasts-1
 sliced c = c.before.before.before
 
-abbrev lent : tie.After-all-lasts → Rows
+abbrev lent : tie.After-all_lasts-1 → Rows
 lent c = let a = c.before.before.before.args in rows_of a.counts.now a.sums.now a.lasts.now
 
-two_rows : (c : tie.After-all-lasts) → TwoRows (lent c)
-two_rows c = (c.before.before.all-counts.given.0.1, c.before.all-sums.given.0.1, c.all-lasts.given.0.1)
+two_rows : (c : tie.After-all_lasts-1) → TwoRows (lent c)
+two_rows c = (c.before.before.all_counts-1.given.0.1, c.before.all_sums-1.given.0.1, c.all_lasts-1.given.0.1)
 
-slice-copy-out-checkpoint-counts : tie.Need-slice-copy-out-checkpoint-counts
-slice-copy-out-checkpoint-counts c = search rules
+slice_copy_out-checkpoint_counts : tie.Need-slice_copy_out-checkpoint_counts
+slice_copy_out-checkpoint_counts c = search rules
 
-slice-copy-out-checkpoint-sums : tie.Need-slice-copy-out-checkpoint-sums
-slice-copy-out-checkpoint-sums c = search rules
+slice_copy_out-checkpoint_sums : tie.Need-slice_copy_out-checkpoint_sums
+slice_copy_out-checkpoint_sums c = search rules
 
-slice-copy-out-checkpoint-lasts : tie.Need-slice-copy-out-checkpoint-lasts
-slice-copy-out-checkpoint-lasts c = search rules
+slice_copy_out-checkpoint_lasts : tie.Need-slice_copy_out-checkpoint_lasts
+slice_copy_out-checkpoint_lasts c = search rules
 
-slice-set-from-checkpoint-counts : tie.Need-slice-set-from-checkpoint-counts
-slice-set-from-checkpoint-counts c = search rules
+bounds-all_counts-0 : tie.Need-bounds-all_counts-0
+bounds-all_counts-0 c = search rules
 
-slice-set-from-checkpoint-sums : tie.Need-slice-set-from-checkpoint-sums
-slice-set-from-checkpoint-sums c = search rules
+bounds-all_sums-0 : tie.Need-bounds-all_sums-0
+bounds-all_sums-0 c = search rules
 
-slice-set-from-checkpoint-lasts : tie.Need-slice-set-from-checkpoint-lasts
-slice-set-from-checkpoint-lasts c = search rules
+bounds-all_lasts-0 : tie.Need-bounds-all_lasts-0
+bounds-all_lasts-0 c = search rules
 
 returns : tie.Need-returns
 returns c = restored (lent (sliced c)) (two_rows (sliced c))
 
-pub restore-spec : {M : Type 1} → statement M
-restore-spec =
+pub restore_spec : {M : Type 1} → statement M
+restore_spec =
     tie.close
     (tie.spec
-    slice-copy-out-checkpoint-counts
-    slice-copy-out-checkpoint-sums
-    slice-copy-out-checkpoint-lasts
-    slice-set-from-checkpoint-counts
-    slice-set-from-checkpoint-sums
-    slice-set-from-checkpoint-lasts
+    slice_copy_out-checkpoint_counts
+    slice_copy_out-checkpoint_sums
+    slice_copy_out-checkpoint_lasts
+    bounds-all_counts-0
+    bounds-all_sums-0
+    bounds-all_lasts-0
     returns)
