@@ -6,25 +6,31 @@ use Rattle.store_places.proofs.BucketTest.{bucket_test}
 use Rattle.store_places.proofs.is_in.Statement.{statement}
 use Rattle.store_places.proofs.is_in.Tie as tie
 
-bucket-end-requires : tie.Need-bucket-end-requires
-bucket-end-requires c κs = search rules
+bucket_end-end-requires : tie.Need-bucket_end-end-requires
+bucket_end-end-requires c κs = search rules
 
-cast-time : tie.Need-overflow-cast-time
-cast-time c = search rules
+overflow_cast-time : tie.Need-overflow_cast-time
+overflow_cast-time c = search rules
 
 -- the bucket's end, once it is known
-abbrev entered : tie.After-bucket-end → tie.Start
+abbrev entered : tie.After-bucket_end-end → tie.Start
 entered e = e.before
 
-sub-result : tie.Need-overflow-sub-result
+overflow_sub-result : tie.Need-overflow_sub-result
 unfolding bucket_end
-sub-result c = omega (arith, c.before.bucket-end.ensures)
+overflow_sub-result c = omega (arith, c.before.bucket_end-end.ensures)
 
 returns : tie.Need-returns
 returns c =
     let e = c.before in
     let a = (entered e).args in
-    bucket_test a.bucket a.j e.bucket-end.result a.t (omega arith) e.bucket-end.ensures
+    bucket_test a.bucket a.j e.bucket_end-end.result a.t (omega arith) e.bucket_end-end.ensures
 
-pub is-in-spec : {M : Type 1} → statement M
-is-in-spec = tie.close (tie.spec bucket-end-requires cast-time sub-result returns)
+pub is_in_spec : {M : Type 1} → statement M
+is_in_spec =
+    tie.close
+    (tie.spec
+    bucket_end-end-requires
+    overflow_cast-time
+    overflow_sub-result
+    returns)

@@ -10,83 +10,83 @@ use Rattle.store_places.proofs.FirstPlaces.{Passed, first_none, first_here, firs
 use Rattle.store_places.proofs.next_out.Statement.{statement}
 use Rattle.store_places.proofs.next_out.Tie as tie
 
-abbrev invariant-loop : tie.invariant-loop
-invariant-loop times from end bucket j at₀ at = Passed (is_time_of false bucket j) from end times at
+abbrev invariant-loop-at : tie.invariant-loop-at
+invariant-loop-at times from end bucket j at₀ at = Passed (is_time_of false bucket j) from end times at
 
-abbrev decreases-loop : tie.decreases-loop
-decreases-loop times from end bucket j at₀ at = end - at
+abbrev decreases-loop-at : tie.decreases-loop-at
+decreases-loop-at times from end bucket j at₀ at = end - at
 
 -- the start, seen from the loop's head; the head, seen from where a time was tested
-abbrev entered : tie.At-loop invariant-loop decreases-loop → tie.Start invariant-loop decreases-loop
+abbrev entered : tie.At-loop-at invariant-loop-at decreases-loop-at → tie.Start invariant-loop-at decreases-loop-at
 entered l = l.before.before
 
-abbrev looped : tie.After-is-in invariant-loop decreases-loop → tie.At-loop invariant-loop decreases-loop
+abbrev looped : tie.After-is_in invariant-loop-at decreases-loop-at → tie.At-loop-at invariant-loop-at decreases-loop-at
 looped c = c.before.before.before
 
 -- what the test says of the time
 told :
-    (c : tie.After-is-in invariant-loop decreases-loop) → let a = (entered (looped c)).args in
-    is_time_of false a.bucket a.j (get_or a.times.now (looped c).loop.at 0) ≡ not c.is-in.result
+    (c : tie.After-is_in invariant-loop-at decreases-loop-at) → let a = (entered (looped c)).args in
+    is_time_of false a.bucket a.j (get_or a.times.now (looped c).loop-at.at 0) ≡ not c.is_in.result
 unfolding is_time_of
-told c = sym (ap not c.is-in.ensures)
+told c = sym (ap not c.is_in.ensures)
 
-loop-holds : tie.Need-loop-init invariant-loop decreases-loop
-loop-holds c = (c.before.requires.1, refl)
+loop-at-init : tie.Need-loop-at-init invariant-loop-at decreases-loop-at
+loop-at-init c = (c.before.requires.1, refl)
 
-mul-t8 : tie.Need-overflow-mul-t8 invariant-loop decreases-loop
-mul-t8 c = omega arith
+offset_bounds-times-at : tie.Need-offset_bounds-times-at invariant-loop-at decreases-loop-at
+offset_bounds-times-at c = omega arith
 
-shared-slice-read-t10 : tie.Need-shared-slice-read-t10 invariant-loop decreases-loop
-shared-slice-read-t10 c = omega arith
+bounds-times-at : tie.Need-bounds-times-at invariant-loop-at decreases-loop-at
+bounds-times-at c = omega arith
 
-is-in-requires : tie.Need-is-in-requires invariant-loop decreases-loop
-is-in-requires c κs = omega arith
+is_in-requires : tie.Need-is_in-requires invariant-loop-at decreases-loop-at
+is_in-requires c κs = omega arith
 
-returns : tie.Need-returns invariant-loop decreases-loop
-returns c =
+returns-then-not-is_in : tie.Need-returns-then-not-is_in invariant-loop-at decreases-loop-at
+returns-then-not-is_in c =
     let head = looped c.before in
     let a = (entered head).args in
-    let l = head.loop in
-    sym (first_here 0 (is_time_of false a.bucket a.j) a.end a.times.now (omega arith) l.at (omega arith) (told c.before ∙ c.if1.true))
-    ∙ l.inv.1
+    let l = head.loop-at in
+    sym (first_here 0 (is_time_of false a.bucket a.j) a.end a.times.now (omega arith) l.at (omega arith) (told c.before ∙ ap not c.if-not-is_in.true))
+    ∙ l.invariant.1
 
-add_at : tie.Need-overflow-add-at invariant-loop decreases-loop
-add_at c = omega arith
+overflow_add-at : tie.Need-overflow_add-at invariant-loop-at decreases-loop-at
+overflow_add-at c = omega arith
 
-loop-less : tie.Need-loop-smaller invariant-loop decreases-loop
-loop-less c = omega arith
+loop-at-smaller : tie.Need-loop-at-smaller invariant-loop-at decreases-loop-at
+loop-at-smaller c = omega arith
 
-loop-again : tie.Need-loop-preserved invariant-loop decreases-loop
-loop-again c =
+loop-at-preserved : tie.Need-loop-at-preserved invariant-loop-at decreases-loop-at
+loop-at-preserved c =
     let head = looped c.before in
     let a = (entered head).args in
-    let l = head.loop in
+    let l = head.loop-at in
     rw (add-one l.at) (
       omega arith,
-      sym (first_next 0 (is_time_of false a.bucket a.j) a.end a.times.now (omega arith) l.at (omega arith) (told c.before ∙ c.if1.false))
-          ∙ l.inv.1,
+      sym (first_next 0 (is_time_of false a.bucket a.j) a.end a.times.now (omega arith) l.at (omega arith) (told c.before ∙ ap not c.if-not-is_in.false))
+          ∙ l.invariant.1,
     )
 
-returns-2 : tie.Need-returns-2 invariant-loop decreases-loop
-returns-2 c =
+returns : tie.Need-returns invariant-loop-at decreases-loop-at
+returns c =
     let head = c.before in
     let a = (entered head).args in
-    let l = head.loop in
+    let l = head.loop-at in
     let e : l.at ≡ a.end = omega arith in
     e ∙ sym (first_none 0 (is_time_of false a.bucket a.j) a.end a.times.now (omega arith) l.at e) ∙ l.invariant.1
 
-pub next-out-spec : {M : Type 1} → statement M
-next-out-spec =
+pub next_out_spec : {M : Type 1} → statement M
+next_out_spec =
     tie.close
     (tie.spec
-    invariant-loop
-    decreases-loop
-    loop-holds
-    mul-t8
-    shared-slice-read-t10
-    is-in-requires
-    returns
-    add_at
-    loop-less
-    loop-again
-    returns-2)
+    invariant-loop-at
+    decreases-loop-at
+    loop-at-init
+    offset_bounds-times-at
+    bounds-times-at
+    is_in-requires
+    returns-then-not-is_in
+    overflow_add-at
+    loop-at-smaller
+    loop-at-preserved
+    returns)

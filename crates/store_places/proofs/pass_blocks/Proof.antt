@@ -9,71 +9,71 @@ use Rattle.store_places.proofs.FirstPlaces.{Passed, first_behind}
 use Rattle.store_places.proofs.pass_blocks.Statement.{statement}
 use Rattle.store_places.proofs.pass_blocks.Tie as tie
 
-abbrev invariant-loop : tie.invariant-loop
-invariant-loop times from end n first last at₀ at = Passed (is_from_to first last) from end times at
+abbrev invariant-loop-at : tie.invariant-loop-at
+invariant-loop-at times from end n first last at₀ at = Passed (is_from_to first last) from end times at
 
-abbrev decreases-loop : tie.decreases-loop
-decreases-loop times from end n first last at₀ at = end - at
+abbrev decreases-loop-at : tie.decreases-loop-at
+decreases-loop-at times from end n first last at₀ at = end - at
 
 -- the start, seen from the loop's head; the head, seen from where a block was tested
-abbrev entered : tie.At-loop invariant-loop decreases-loop → tie.Start invariant-loop decreases-loop
+abbrev entered : tie.At-loop-at invariant-loop-at decreases-loop-at → tie.Start invariant-loop-at decreases-loop-at
 entered l = l.before.before
 
-abbrev looped : tie.After-holds-time invariant-loop decreases-loop → tie.At-loop invariant-loop decreases-loop
+abbrev looped : tie.After-holds_time invariant-loop-at decreases-loop-at → tie.At-loop-at invariant-loop-at decreases-loop-at
 looped c = c.before.before
 
 -- what the test says of the block
 told :
-    (c : tie.After-holds-time invariant-loop decreases-loop) → let a = (entered (looped c)).args in
-    some_of (is_from_to a.first a.last) (share (looped c).loop.at a.n a.times.now) ≡ c.holds-time.result
-told c = sym c.holds-time.ensures
+    (c : tie.After-holds_time invariant-loop-at decreases-loop-at) → let a = (entered (looped c)).args in
+    some_of (is_from_to a.first a.last) (share (looped c).loop-at.at a.n a.times.now) ≡ c.holds_time.result
+told c = sym c.holds_time.ensures
 
-loop-holds : tie.Need-loop-init invariant-loop decreases-loop
-loop-holds c = (c.before.requires.1, refl)
+loop-at-init : tie.Need-loop-at-init invariant-loop-at decreases-loop-at
+loop-at-init c = (c.before.requires.1, refl)
 
-sub-loop : tie.Need-overflow-sub-loop invariant-loop decreases-loop
-sub-loop c = c.loop.invariant.0
+overflow_sub-end : tie.Need-overflow_sub-end invariant-loop-at decreases-loop-at
+overflow_sub-end c = c.loop-at.invariant.0
 
-holds-time-requires : tie.Need-holds-time-requires invariant-loop decreases-loop
-holds-time-requires c κs = omega arith
+holds_time-requires : tie.Need-holds_time-requires invariant-loop-at decreases-loop-at
+holds_time-requires c κs = omega arith
 
-returns : tie.Need-returns invariant-loop decreases-loop
-returns c =
-    let l = (looped c.before).loop in
-    (l.inv.0, l.inv.1, λ _. told c.before ∙ c.if1.true)
+returns-then-holds_time : tie.Need-returns-then-holds_time invariant-loop-at decreases-loop-at
+returns-then-holds_time c =
+    let l = (looped c.before).loop-at in
+    (l.invariant.0, l.invariant.1, λ _. told c.before ∙ c.if-holds_time.true)
 
-add_at : tie.Need-overflow-add-at invariant-loop decreases-loop
-add_at c = omega arith
+overflow_add-at : tie.Need-overflow_add-at invariant-loop-at decreases-loop-at
+overflow_add-at c = omega arith
 
-loop-less : tie.Need-loop-smaller invariant-loop decreases-loop
-loop-less c = omega arith
+loop-at-smaller : tie.Need-loop-at-smaller invariant-loop-at decreases-loop-at
+loop-at-smaller c = omega arith
 
-loop-again : tie.Need-loop-preserved invariant-loop decreases-loop
-loop-again c =
+loop-at-preserved : tie.Need-loop-at-preserved invariant-loop-at decreases-loop-at
+loop-at-preserved c =
     let head = looped c.before in
     let a = (entered head).args in
-    let l = head.loop in (
+    let l = head.loop-at in (
       omega arith,
       sym (first_behind 0 (is_from_to a.first a.last) a.end a.times.now (omega arith) a.n l.at (omega arith)
-          (told c.before ∙ c.if1.false)) ∙ l.inv.1,
+          (told c.before ∙ c.if-holds_time.false)) ∙ l.invariant.1,
     )
 
-returns-2 : tie.Need-returns-2 invariant-loop decreases-loop
-returns-2 c =
-    let l = c.before.loop in
+returns : tie.Need-returns invariant-loop-at decreases-loop-at
+returns c =
+    let l = c.before.loop-at in
     (l.invariant.0, l.invariant.1, λ more. absurd (omega arith))
 
-pub pass-blocks-spec : {M : Type 1} → statement M
-pass-blocks-spec =
+pub pass_blocks_spec : {M : Type 1} → statement M
+pass_blocks_spec =
     tie.close
     (tie.spec
-    invariant-loop
-    decreases-loop
-    loop-holds
-    sub-loop
-    holds-time-requires
-    returns
-    add_at
-    loop-less
-    loop-again
-    returns-2)
+    invariant-loop-at
+    decreases-loop-at
+    loop-at-init
+    overflow_sub-end
+    holds_time-requires
+    returns-then-holds_time
+    overflow_add-at
+    loop-at-smaller
+    loop-at-preserved
+    returns)
