@@ -40,12 +40,12 @@ sum_same (negsuc a) (negsuc b) f g =
       | false ↦ λ e. ne_eqb (2 ^ 64 - suc a) (2 ^ 64 - suc b) (λ h. eqb-false a b e (omega arith))
     ]) refl
 
-same_sum : (x y : ℤ) → same_sum x y ≡ true → x ≡ y
+same_sum_lem : (x y : ℤ) → same_sum x y ≡ true → x ≡ y
 unfolding same_sum
-same_sum (pos a) (pos b) e = ap pos (eqb-true a b e)
-same_sum (pos a) (negsuc b) e = not_both e refl
-same_sum (negsuc a) (pos b) e = not_both e refl
-same_sum (negsuc a) (negsuc b) e = ap negsuc (eqb-true a b e)
+same_sum_lem (pos a) (pos b) e = ap pos (eqb-true a b e)
+same_sum_lem (pos a) (negsuc b) e = not_both e refl
+same_sum_lem (negsuc a) (pos b) e = not_both e refl
+same_sum_lem (negsuc a) (negsuc b) e = ap negsuc (eqb-true a b e)
 
 -- ---- one turn
 
@@ -129,12 +129,12 @@ empty_ok : (m : Meter) → ltb m.count 1 ≡ true → same_sum m.sum (pos 0) ≡
 unfolding meter_ok sum_ok
 empty_ok m e f =
     let none : m.count ≡ 0 = omega (arith, ltb-true m.count 1 e) in
-    rw (none, same_sum m.sum (pos 0) f) refl
+    rw (none, same_sum_lem m.sum (pos 0) f) refl
 
 equal_ok : (m o : Meter) → eqb m.count o.count ≡ true → same_sum m.sum o.sum ≡ true → meter_ok m ≡ meter_ok o
 unfolding meter_ok
 equal_ok m o e f =
-    ap₂ (λ (n : ℕ) (x : ℤ). leb n count_limit && sum_ok x n) (eqb-true m.count o.count e) (same_sum m.sum o.sum f)
+    ap₂ (λ (n : ℕ) (x : ℤ). leb n count_limit && sum_ok x n) (eqb-true m.count o.count e) (same_sum_lem m.sum o.sum f)
 
 module _ (x : Rows) where
   abbrev EmptyRow : ℕ → Type 0

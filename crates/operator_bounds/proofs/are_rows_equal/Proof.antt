@@ -1,28 +1,32 @@
 -- `operator_bounds::are_rows_equal` meets its contract: the counts' test and then the sums'.
 use Rattle.std.proofs.Common.{sym, refl, ◌∙◌}
-use borrow.Author.Tests.{not-true, not-false}
 use Rattle.operator_bounds.specs.Places.{rows_equal}
 use Rattle.operator_bounds.proofs.are_rows_equal.Statement.{statement}
 use Rattle.operator_bounds.proofs.are_rows_equal.Tie as tie
 
-are-counts-equal-requires : tie.Need-are-counts-equal-requires
-are-counts-equal-requires c κs = tt
+are_counts_equal-requires : tie.Need-are_counts_equal-requires
+are_counts_equal-requires c κs = tt
+
+returns-then-not-are_counts_equal : tie.Need-returns-then-not-are_counts_equal
+unfolding rows_equal
+returns-then-not-are_counts_equal c =
+    let counted = c.before.are_counts_equal in
+    rw (sym counted.ensures ∙ c.if-not-are_counts_equal.true) refl
+
+are_sums_equal-requires : tie.Need-are_sums_equal-requires
+are_sums_equal-requires c κs = tt
 
 returns : tie.Need-returns
 unfolding rows_equal
 returns c =
-    let counted = c.before.are-counts-equal in
-    rw (sym counted.ensures ∙ not-true counted.result c.if1.true) refl
+    let counted = c.before.before.are_counts_equal in
+    rw (sym counted.ensures ∙ c.before.if-not-are_counts_equal.false) c.are_sums_equal.ensures
 
-are-sums-equal-requires : tie.Need-are-sums-equal-requires
-are-sums-equal-requires c κs = tt
-
-returns-2 : tie.Need-returns-2
-unfolding rows_equal
-returns-2 c =
-    let counted = c.before.before.are-counts-equal in
-    rw (sym counted.ensures ∙ not-false counted.result c.before.if1.false) c.are-sums-equal.ensures
-
-pub are-rows-equal-spec : {M : Type 1} → statement M
-are-rows-equal-spec =
-    tie.close (tie.spec are-counts-equal-requires returns are-sums-equal-requires returns-2)
+pub are_rows_equal_spec : {M : Type 1} → statement M
+are_rows_equal_spec =
+    tie.close
+    (tie.spec
+    are_counts_equal-requires
+    returns-then-not-are_counts_equal
+    are_sums_equal-requires
+    returns)

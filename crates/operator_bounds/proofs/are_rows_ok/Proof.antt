@@ -1,6 +1,5 @@
 -- `operator_bounds::are_rows_ok` meets its contract: the operator's row is tested, and the checkpoint's unless it is the same.
 use Rattle.std.proofs.Common.{◌≡◌, true, ◌&&◌, List, ℤ, sym, refl, ◌∙◌, ap₂, arith}
-use borrow.Author.Tests.{not-true, not-false}
 use Rattle.store.specs.Lists.{all_of}
 use Rattle.operator_meter.specs.Bounds.{meter_ok}
 use Rattle.operator_rows.specs.Rows.{Rows, rows_of, operator_row, meters_in}
@@ -12,47 +11,47 @@ abbrev rows : tie.Start → List (List ℤ) → Rows
 rows s lasts = rows_of s.args.counts.now s.args.sums.now lasts
 
 -- the entry, from where the operator's row is tested
-abbrev entry : tie.After-is-row-ok → tie.Start
+abbrev entry : tie.After-is_row_ok → tie.Start
 entry c = c.before
 
 -- the operator's row is within its bounds
-operator_ok : (e : tie.Else1) (lasts : List (List ℤ)) → all_of meter_ok (meters_in operator_row (rows (entry e.before) lasts)) ≡ true
+operator_ok : (e : tie.Else-not-is_row_ok) (lasts : List (List ℤ)) → all_of meter_ok (meters_in operator_row (rows (entry e.before) lasts)) ≡ true
 operator_ok e lasts =
-    let tested = e.before.is-row-ok in
-    sym (tested.ensures lasts) ∙ not-false tested.result e.if1.false
+    let tested = e.before.is_row_ok in
+    sym (tested.ensures lasts) ∙ e.if-not-is_row_ok.false
 
-is-row-ok-requires : tie.Need-is-row-ok-requires
-is-row-ok-requires c κs = (omega arith, c.requires)
+is_row_ok-requires : tie.Need-is_row_ok-requires
+is_row_ok-requires c κs = (omega arith, c.requires)
 
-returns : tie.Need-returns
-returns c =
-    let tested = c.before.is-row-ok in
-    λ lasts. rw (sym (tested.ensures lasts) ∙ not-true tested.result c.if1.true) refl
+returns-then-not-is_row_ok : tie.Need-returns-then-not-is_row_ok
+returns-then-not-is_row_ok c =
+    let tested = c.before.is_row_ok in
+    λ lasts. rw (sym (tested.ensures lasts) ∙ c.if-not-is_row_ok.true) refl
 
-are-rows-equal-requires : tie.Need-are-rows-equal-requires
-are-rows-equal-requires c κs = tt
+are_rows_equal-requires : tie.Need-are_rows_equal-requires
+are_rows_equal-requires c κs = tt
 
-returns-2 : tie.Need-returns-2
-returns-2 c =
+returns-then-are_rows_equal : tie.Need-returns-then-are_rows_equal
+returns-then-are_rows_equal c =
     λ lasts.
-    let same = equal_within (rows (entry c.before.before.before) lasts) (sym c.before.are-rows-equal.ensures ∙ c.if2.true) in
+    let same = equal_within (rows (entry c.before.before.before) lasts) (sym c.before.are_rows_equal.ensures ∙ c.if-are_rows_equal.true) in
     let ok = operator_ok c.before.before lasts in
     sym (ap₂ ◌&&◌ ok (sym same ∙ ok))
 
-is-row-ok-requires-2 : tie.Need-is-row-ok-requires-2
-is-row-ok-requires-2 c κs = (omega arith, (entry c.before.before.before).requires)
+is_row_ok-requires-2 : tie.Need-is_row_ok-requires-2
+is_row_ok-requires-2 c κs = (omega arith, (entry c.before.before.before).requires)
 
-returns-3 : tie.Need-returns-3
-returns-3 c =
-    λ lasts. rw (operator_ok c.before.before.before lasts) (c.is-row-ok2.ensures lasts)
+returns : tie.Need-returns
+returns c =
+    λ lasts. rw (operator_ok c.before.before.before lasts) (c.is_row_ok-2.ensures lasts)
 
-pub are-rows-ok-spec : {M : Type 1} → statement M
-are-rows-ok-spec =
+pub are_rows_ok_spec : {M : Type 1} → statement M
+are_rows_ok_spec =
     tie.close
     (tie.spec
-    is-row-ok-requires
-    returns
-    are-rows-equal-requires
-    returns-2
-    is-row-ok-requires-2
-    returns-3)
+    is_row_ok-requires
+    returns-then-not-is_row_ok
+    are_rows_equal-requires
+    returns-then-are_rows_equal
+    is_row_ok-requires-2
+    returns)

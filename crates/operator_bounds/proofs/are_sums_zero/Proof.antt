@@ -1,5 +1,6 @@
 -- `operator_bounds::are_sums_zero` meets its contract. The loop's invariant: the word is 0 exactly
 -- if every sum before the place is 0.
+use borrow.Author.Rules.{rules}
 use Rattle.std.proofs.Common.{◌≡◌, ◌-◌, ◌≤◌, eqb, refl, ap, ◌∙◌, add-one, arith, to_z-of_z, w64, SFits, rules}
 use Rattle.signed.specs.Twos.{twos}
 use Rattle.operator.specs.Meters.{meter_count}
@@ -9,86 +10,86 @@ use Rattle.operator_bounds.proofs.Places.{sums_zero_turn}
 use Rattle.operator_bounds.proofs.are_sums_zero.Statement.{statement}
 use Rattle.operator_bounds.proofs.are_sums_zero.Tie as tie
 
-abbrev invariant-loop : tie.invariant-loop
-invariant-loop sums any₀ place₀ any place = (place ≤ meter_count) × (eqb any 0 ≡ all_below (sums_zero_at sums) place)
+abbrev invariant-loop-place : tie.invariant-loop-place
+invariant-loop-place sums any₀ place₀ any place = (place ≤ meter_count) × (eqb any 0 ≡ all_below (sums_zero_at sums) place)
 
-abbrev decreases-loop : tie.decreases-loop
-decreases-loop sums any₀ place₀ any place = meter_count - place
+abbrev decreases-loop-place : tie.decreases-loop-place
+decreases-loop-place sums any₀ place₀ any place = meter_count - place
 
-loop-holds : tie.Need-loop-init invariant-loop decreases-loop
+loop-place-init : tie.Need-loop-place-init invariant-loop-place decreases-loop-place
 unfolding all_below
-loop-holds c = (omega arith, refl)
+loop-place-init c = (omega arith, refl)
 
-mul-first : tie.Need-overflow-mul-first invariant-loop decreases-loop
-mul-first c = omega arith
+offset_bounds-sums-place : tie.Need-offset_bounds-sums-place invariant-loop-place decreases-loop-place
+offset_bounds-sums-place c = omega arith
 
-index-1-first : tie.Need-bounds-1-first invariant-loop decreases-loop
-index-1-first c = omega arith
+offset_bounds-sums-place-in-loop-place : tie.Need-offset_bounds-sums-place-in-loop-place invariant-loop-place decreases-loop-place
+offset_bounds-sums-place-in-loop-place c = omega arith
 
-index-2-first : tie.Need-bounds-2-first invariant-loop decreases-loop
-index-2-first c = omega arith
-
-mul-second : tie.Need-overflow-mul-second invariant-loop decreases-loop
-mul-second c = omega arith
-
-index-1-second : tie.Need-bounds-1-second invariant-loop decreases-loop
-index-1-second c = omega arith
-
-index-2-second : tie.Need-bounds-2-second invariant-loop decreases-loop
-index-2-second c = omega arith
-
-bits64-requires : tie.Need-bits64-requires invariant-loop decreases-loop
+bits64-requires : tie.Need-bits64-requires invariant-loop-place decreases-loop-place
 bits64-requires c κs = tt
 
-bits64-requires-2 : tie.Need-bits64-requires-2 invariant-loop decreases-loop
-bits64-requires-2 c κs = tt
+bits64-requires-in-loop-place : tie.Need-bits64-requires-in-loop-place invariant-loop-place decreases-loop-place
+bits64-requires-in-loop-place c κs = tt
 
-add-place : tie.Need-overflow-add-place invariant-loop decreases-loop
-add-place c = omega arith
+overflow_add-place : tie.Need-overflow_add-place invariant-loop-place decreases-loop-place
+overflow_add-place c = omega arith
 
-loop-less : tie.Need-loop-smaller invariant-loop decreases-loop
-loop-less c = omega arith
+loop-place-smaller : tie.Need-loop-place-smaller invariant-loop-place decreases-loop-place
+loop-place-smaller c = omega arith
 
-abbrev head : tie.After-bits642 invariant-loop decreases-loop → tie.At-loop invariant-loop decreases-loop
+abbrev head : tie.After-bits64-in-loop-place invariant-loop-place decreases-loop-place → tie.At-loop-place invariant-loop-place decreases-loop-place
 head c = c.before.before.before.before.before
 
-loop-again : tie.Need-loop-preserved invariant-loop decreases-loop
-loop-again c =
-    let l = (head c).loop in
+loop-place-preserved : tie.Need-loop-place-preserved invariant-loop-place decreases-loop-place
+loop-place-preserved c =
+    let l = (head c).loop-place in
     let a = (head c).before.args in
     let v = c.before.bits64 in
-    let w = c.bits642 in
+    let w = c.bits64-in-loop-place in
     let f : SFits w64 (sum_in a.sums.now operator_row l.place) = search rules in
     let g : SFits w64 (sum_in a.sums.now checkpoint_row l.place) = search rules in
     rw add-one (
       omega arith,
       sums_zero_turn a.sums.now l.place l.any v.result w.result
           (f.sfits, g.sfits, v.ensures ∙ ap (twos 64) (to_z-of_z f), w.ensures ∙ ap (twos 64) (to_z-of_z g))
-          l.inv.1,
+          l.invariant.1,
     )
 
-returns : tie.Need-returns invariant-loop decreases-loop
+returns : tie.Need-returns invariant-loop-place decreases-loop-place
 returns c =
-    let l = c.before.loop in
+    let l = c.before.loop-place in
     let e : l.place ≡ meter_count = omega arith in
     rw e at l.invariant.1
 
-pub are-sums-zero-spec : {M : Type 1} → statement M
-are-sums-zero-spec =
+bounds-sums-0 : tie.Need-bounds-sums-0 invariant-loop-place decreases-loop-place
+bounds-sums-0 c = search rules
+
+bounds-sums-place : tie.Need-bounds-sums-place invariant-loop-place decreases-loop-place
+bounds-sums-place c = search rules
+
+bounds-sums-1 : tie.Need-bounds-sums-1 invariant-loop-place decreases-loop-place
+bounds-sums-1 c = search rules
+
+bounds-sums-place-in-loop-place : tie.Need-bounds-sums-place-in-loop-place invariant-loop-place decreases-loop-place
+bounds-sums-place-in-loop-place c = search rules
+
+pub are_sums_zero_spec : {M : Type 1} → statement M
+are_sums_zero_spec =
     tie.close
     (tie.spec
-    invariant-loop
-    decreases-loop
-    loop-holds
-    mul-first
-    index-1-first
-    index-2-first
-    mul-second
-    index-1-second
-    index-2-second
+    invariant-loop-place
+    decreases-loop-place
+    loop-place-init
+    offset_bounds-sums-place
+    bounds-sums-0
+    bounds-sums-place
+    offset_bounds-sums-place-in-loop-place
+    bounds-sums-1
+    bounds-sums-place-in-loop-place
     bits64-requires
-    bits64-requires-2
-    add-place
-    loop-less
-    loop-again
+    bits64-requires-in-loop-place
+    overflow_add-place
+    loop-place-smaller
+    loop-place-preserved
     returns)

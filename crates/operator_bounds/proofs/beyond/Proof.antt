@@ -4,35 +4,35 @@ use Rattle.operator_bounds.proofs.OneMeter.{beyond_told}
 use Rattle.operator_bounds.proofs.beyond.Statement.{statement}
 use Rattle.operator_bounds.proofs.beyond.Tie as tie
 
-bits64-requires : tie.Need-bits64-requires
-bits64-requires c κs = tt
+bits64-bits-requires : tie.Need-bits64-bits-requires
+bits64-bits-requires c κs = tt
 
-cast-wrapping-sub-u64 : tie.Need-overflow-cast-wrapping-sub-u64
-cast-wrapping-sub-u64 c = omega arith
+overflow_cast-wrapping_sub_u64 : tie.Need-overflow_cast-wrapping_sub_u64
+overflow_cast-wrapping_sub_u64 c = omega arith
 
-wrapping-sub-u64-requires : tie.Need-wrapping-sub-u64-requires
-wrapping-sub-u64-requires c κs = tt
+wrapping_sub_u64-left-requires : tie.Need-wrapping_sub_u64-left-requires
+wrapping_sub_u64-left-requires c κs = tt
 
-mul-wrapping-add-u64 : tie.Need-overflow-mul-wrapping-add-u64
-mul-wrapping-add-u64 c = omega arith
+overflow_mul-n : tie.Need-overflow_mul-n
+overflow_mul-n c = omega arith
 
-wrapping-add-u64-requires : tie.Need-wrapping-add-u64-requires
-wrapping-add-u64-requires c κs = tt
+wrapping_add_u64-above_lowest-requires : tie.Need-wrapping_add_u64-above_lowest-requires
+wrapping_add_u64-above_lowest-requires c κs = tt
 
-mul-wrapping-sub-u64 : tie.Need-overflow-mul-wrapping-sub-u64
-mul-wrapping-sub-u64 c = omega arith
+overflow_mul-n-2 : tie.Need-overflow_mul-n-2
+overflow_mul-n-2 c = omega arith
 
-wrapping-sub-u64-requires-2 : tie.Need-wrapping-sub-u64-requires-2
-wrapping-sub-u64-requires-2 c κs = tt
+wrapping_sub_u64-below_highest-requires : tie.Need-wrapping_sub_u64-below_highest-requires
+wrapping_sub_u64-below_highest-requires c κs = tt
 
 returns : tie.Need-returns
 returns c =
-    let word = c.before.before.before.bits64 in
+    let word = c.before.before.before.bits64-bits in
     let a = c.before.before.before.before.args in
     let fits = c.before.before.before.before.ranges in
-    let left = c.before.before.wrapping-sub-u64.result in
-    let above = c.before.wrapping-add-u64.result in
-    let below = c.wrapping-sub-u642.result in
+    let left = c.before.before.wrapping_sub_u64-left.result in
+    let above = c.before.wrapping_add_u64-above_lowest.result in
+    let below = c.wrapping_sub_u64-below_highest.result in
     λ last.
     beyond_told a.count word.result left above below a.sum last (omega arith) fits.sum.sfits
     (rw (to_z-of_z fits.sum) at word.ensures)
@@ -42,15 +42,15 @@ returns c =
     (omega arith)
     (omega arith)
 
-pub beyond-spec : {M : Type 1} → statement M
-beyond-spec =
+pub beyond_spec : {M : Type 1} → statement M
+beyond_spec =
     tie.close
     (tie.spec
-    bits64-requires
-    cast-wrapping-sub-u64
-    wrapping-sub-u64-requires
-    mul-wrapping-add-u64
-    wrapping-add-u64-requires
-    mul-wrapping-sub-u64
-    wrapping-sub-u64-requires-2
+    bits64-bits-requires
+    overflow_cast-wrapping_sub_u64
+    wrapping_sub_u64-left-requires
+    overflow_mul-n
+    wrapping_add_u64-above_lowest-requires
+    overflow_mul-n-2
+    wrapping_sub_u64-below_highest-requires
     returns)

@@ -1,5 +1,6 @@
 -- `operator_bounds::counts_over` meets its contract. The loop's invariant: below a power of two exactly if every count before
 -- the place is.
+use borrow.Author.Rules.{rules}
 use Rattle.std.proofs.Common.{◌≡◌, ℕ, ◌-◌, ◌^◌, ◌≤◌, ltb, add-one, arith, pow_pos, lt-ltb}
 use Rattle.operator.specs.Meters.{meter_count}
 use Rattle.operator_bounds.specs.Places.{all_below, counts_below_at}
@@ -7,68 +8,68 @@ use Rattle.operator_bounds.proofs.Places.{counts_over_turn}
 use Rattle.operator_bounds.proofs.counts_over.Statement.{statement}
 use Rattle.operator_bounds.proofs.counts_over.Tie as tie
 
-abbrev invariant-loop : tie.invariant-loop
-invariant-loop counts over₀ place₀ over place = (place ≤ meter_count) × ((k : ℕ) → ltb over (2 ^ k) ≡ all_below (counts_below_at k counts) place)
+abbrev invariant-loop-place : tie.invariant-loop-place
+invariant-loop-place counts over₀ place₀ over place = (place ≤ meter_count) × ((k : ℕ) → ltb over (2 ^ k) ≡ all_below (counts_below_at k counts) place)
 
-abbrev decreases-loop : tie.decreases-loop
-decreases-loop counts over₀ place₀ over place = meter_count - place
+abbrev decreases-loop-place : tie.decreases-loop-place
+decreases-loop-place counts over₀ place₀ over place = meter_count - place
 
-loop-holds : tie.Need-loop-init invariant-loop decreases-loop
+loop-place-init : tie.Need-loop-place-init invariant-loop-place decreases-loop-place
 unfolding all_below
-loop-holds c = (omega arith, λ k. lt-ltb 0 (2 ^ k) (pow_pos k))
+loop-place-init c = (omega arith, λ k. lt-ltb 0 (2 ^ k) (pow_pos k))
 
-mul-over : tie.Need-overflow-mul-over invariant-loop decreases-loop
-mul-over c = omega arith
+offset_bounds-counts-place : tie.Need-offset_bounds-counts-place invariant-loop-place decreases-loop-place
+offset_bounds-counts-place c = omega arith
 
-index-1-over : tie.Need-bounds-1-over invariant-loop decreases-loop
-index-1-over c = omega arith
+offset_bounds-counts-place-in-loop-place : tie.Need-offset_bounds-counts-place-in-loop-place invariant-loop-place decreases-loop-place
+offset_bounds-counts-place-in-loop-place c = omega arith
 
-index-2-over : tie.Need-bounds-2-over invariant-loop decreases-loop
-index-2-over c = omega arith
+overflow_add-place : tie.Need-overflow_add-place invariant-loop-place decreases-loop-place
+overflow_add-place c = omega arith
 
-mul-over-2 : tie.Need-overflow-mul-over-2 invariant-loop decreases-loop
-mul-over-2 c = omega arith
+loop-place-smaller : tie.Need-loop-place-smaller invariant-loop-place decreases-loop-place
+loop-place-smaller c = omega arith
 
-index-1-over-2 : tie.Need-bounds-1-over-2 invariant-loop decreases-loop
-index-1-over-2 c = omega arith
-
-index-2-over-2 : tie.Need-bounds-2-over-2 invariant-loop decreases-loop
-index-2-over-2 c = omega arith
-
-add-place : tie.Need-overflow-add-place invariant-loop decreases-loop
-add-place c = omega arith
-
-loop-less : tie.Need-loop-smaller invariant-loop decreases-loop
-loop-less c = omega arith
-
-abbrev head : tie.After-over2 invariant-loop decreases-loop → tie.At-loop invariant-loop decreases-loop
+abbrev head : tie.After-over-in-loop-place-1 invariant-loop-place decreases-loop-place → tie.At-loop-place invariant-loop-place decreases-loop-place
 head c = c.before.before.before
 
-loop-again : tie.Need-loop-preserved invariant-loop decreases-loop
-loop-again c =
-    let l = (head c).loop in
-    rw add-one (omega arith, counts_over_turn (head c).before.args.counts.now l.place l.over l.inv.1)
+loop-place-preserved : tie.Need-loop-place-preserved invariant-loop-place decreases-loop-place
+loop-place-preserved c =
+    let l = (head c).loop-place in
+    rw add-one (omega arith, counts_over_turn (head c).before.args.counts.now l.place l.over l.invariant.1)
 
-returns : tie.Need-returns invariant-loop decreases-loop
+returns : tie.Need-returns invariant-loop-place decreases-loop-place
 returns c =
-    let l = c.before.loop in
+    let l = c.before.loop-place in
     let e : l.place ≡ meter_count = omega arith in
     rw e at l.invariant.1
 
-pub counts-over-spec : {M : Type 1} → statement M
-counts-over-spec =
+bounds-counts-0 : tie.Need-bounds-counts-0 invariant-loop-place decreases-loop-place
+bounds-counts-0 c = search rules
+
+bounds-counts-place : tie.Need-bounds-counts-place invariant-loop-place decreases-loop-place
+bounds-counts-place c = search rules
+
+bounds-counts-1 : tie.Need-bounds-counts-1 invariant-loop-place decreases-loop-place
+bounds-counts-1 c = search rules
+
+bounds-counts-place-in-loop-place : tie.Need-bounds-counts-place-in-loop-place invariant-loop-place decreases-loop-place
+bounds-counts-place-in-loop-place c = search rules
+
+pub counts_over_spec : {M : Type 1} → statement M
+counts_over_spec =
     tie.close
     (tie.spec
-    invariant-loop
-    decreases-loop
-    loop-holds
-    mul-over
-    index-1-over
-    index-2-over
-    mul-over-2
-    index-1-over-2
-    index-2-over-2
-    add-place
-    loop-less
-    loop-again
+    invariant-loop-place
+    decreases-loop-place
+    loop-place-init
+    offset_bounds-counts-place
+    bounds-counts-0
+    bounds-counts-place
+    offset_bounds-counts-place-in-loop-place
+    bounds-counts-1
+    bounds-counts-place-in-loop-place
+    overflow_add-place
+    loop-place-smaller
+    loop-place-preserved
     returns)

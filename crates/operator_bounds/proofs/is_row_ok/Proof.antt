@@ -6,24 +6,29 @@ use Rattle.operator_bounds.proofs.SmallSums.{small_within}
 use Rattle.operator_bounds.proofs.is_row_ok.Statement.{statement}
 use Rattle.operator_bounds.proofs.is_row_ok.Tie as tie
 
-are-sums-small-requires : tie.Need-are-sums-small-requires
-are-sums-small-requires c κs = c.before.requires.0
+are_sums_small-requires : tie.Need-are_sums_small-requires
+are_sums_small-requires c κs = c.before.requires.0
 
-returns : tie.Need-returns
-returns c =
+returns-then-are_sums_small : tie.Need-returns-then-are_sums_small
+returns-then-are_sums_small c =
     let s = c.before.before.before in
     let a = s.args in
     λ lasts.
     sym (small_within (rows_of a.counts.now a.sums.now lasts) a.row s.requires.0
     (sym (s.requires.1 15) ∙ lt-ltb a.over (2 ^ 15) (omega arith))
-    (sym c.before.are-sums-small.ensures ∙ c.if2.true))
+    (sym c.before.are_sums_small.ensures ∙ c.if-are_sums_small.true))
 
-is-row-within-bounds-requires : tie.Need-is-row-within-bounds-requires
-is-row-within-bounds-requires c κs = c.before.requires.0
+is_row_within_bounds-requires : tie.Need-is_row_within_bounds-requires
+is_row_within_bounds-requires c κs = c.before.requires.0
 
-returns-2 : tie.Need-returns-2
-returns-2 c = c.is-row-within-bounds.ensures
+returns : tie.Need-returns
+returns c = c.is_row_within_bounds.ensures
 
-pub is-row-ok-spec : {M : Type 1} → statement M
-is-row-ok-spec =
-    tie.close (tie.spec are-sums-small-requires returns is-row-within-bounds-requires returns-2)
+pub is_row_ok_spec : {M : Type 1} → statement M
+is_row_ok_spec =
+    tie.close
+    (tie.spec
+    are_sums_small-requires
+    returns-then-are_sums_small
+    is_row_within_bounds-requires
+    returns)
