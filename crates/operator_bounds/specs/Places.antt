@@ -1,5 +1,6 @@
 -- Tests place by place, of both rows at once or of a row's sums: where they hold, the bounds of a row need not be looked at.
-use Rattle.std.specs.Prelude.{◌≡◌, ℕ, zero, suc, ◌*◌, ◌^◌, Bool, true, false, ◌&&◌, List, [], ℤ, pos, negsuc, ◌==◌, nat_le, nat_lt, slice_index, slice_index_or, unsigned_abs}
+use Rattle.std.specs.Prelude.{◌≡◌, ℕ, zero, suc, ◌*◌, ◌^◌, Bool, true, false, ◌&&◌, List, [], ℤ, pos, negsuc}
+use Rattle.std.specs.Prelude.{◌==◌, nat_le, nat_lt, slice_index, slice_index_or, unsigned_abs}
 use Rattle.operator.specs.Meters.{meter_count}
 use Rattle.operator_rows.specs.Rows.{operator_row, checkpoint_row}
 
