@@ -11,77 +11,77 @@ use Rattle.store_compaction.proofs.Moved.{Moving, moving_start, moving_turn, mov
 use Rattle.store_compaction.proofs.move_i32.Statement.{statement}
 use Rattle.store_compaction.proofs.move_i32.Tie as tie
 
-abbrev invariant-loop : tie.invariant-loop
-invariant-loop xs₀ from to n k₀ xs k = Moving xs₀ from to n xs k
+abbrev invariant-loop-k : tie.invariant-loop-k
+invariant-loop-k xs₀ from to n k₀ xs k = Moving xs₀ from to n xs k
 
-abbrev decreases-loop : tie.decreases-loop
-decreases-loop xs₀ from to n k₀ xs k = n - k
+abbrev decreases-loop-k : tie.decreases-loop-k
+decreases-loop-k xs₀ from to n k₀ xs k = n - k
 
 -- the loop's head, seen from the turn's end
-abbrev looped : tie.After-xs invariant-loop decreases-loop → tie.At-loop invariant-loop decreases-loop
+abbrev looped : tie.After-xs-1 invariant-loop-k decreases-loop-k → tie.At-loop-k invariant-loop-k decreases-loop-k
 looped c = c.before.before
 
-loop-holds : tie.Need-loop-init invariant-loop decreases-loop
-loop-holds c = let a = c.args in moving_start a.xs.now a.from a.to a.n
+loop-k-init : tie.Need-loop-k-init invariant-loop-k decreases-loop-k
+loop-k-init c = let a = c.args in moving_start a.xs.now a.from a.to a.n
 
-add-xs : tie.Need-overflow-add-xs invariant-loop decreases-loop
-add-xs c = omega arith
+overflow_add-xs : tie.Need-overflow_add-xs invariant-loop-k decreases-loop-k
+overflow_add-xs c = omega arith
 
-mul-xs : tie.Need-overflow-mul-xs invariant-loop decreases-loop
-mul-xs c = omega arith
+offset_bounds-xs-from : tie.Need-offset_bounds-xs-from invariant-loop-k decreases-loop-k
+offset_bounds-xs-from c = omega arith
 
-slice-copy-out-xs : tie.Need-slice-copy-out-xs invariant-loop decreases-loop
-slice-copy-out-xs c = omega arith
+slice_copy_out-xs : tie.Need-slice_copy_out-xs invariant-loop-k decreases-loop-k
+slice_copy_out-xs c = omega arith
 
-add-t11 : tie.Need-overflow-add-t11 invariant-loop decreases-loop
-add-t11 c = omega arith
+overflow_add-to : tie.Need-overflow_add-to invariant-loop-k decreases-loop-k
+overflow_add-to c = omega arith
 
-mul-t12 : tie.Need-overflow-mul-t12 invariant-loop decreases-loop
-mul-t12 c = omega arith
+offset_bounds-xs-to : tie.Need-offset_bounds-xs-to invariant-loop-k decreases-loop-k
+offset_bounds-xs-to c = omega arith
 
-slice-set-from-xs : tie.Need-slice-set-from-xs invariant-loop decreases-loop
-slice-set-from-xs c = omega arith
+bounds-xs-to : tie.Need-bounds-xs-to invariant-loop-k decreases-loop-k
+bounds-xs-to c = omega arith
 
-add-k : tie.Need-overflow-add-k invariant-loop decreases-loop
-add-k c = omega arith
+overflow_add-k : tie.Need-overflow_add-k invariant-loop-k decreases-loop-k
+overflow_add-k c = omega arith
 
-loop-less : tie.Need-loop-smaller invariant-loop decreases-loop
-loop-less c = omega arith
+loop-k-smaller : tie.Need-loop-k-smaller invariant-loop-k decreases-loop-k
+loop-k-smaller c = omega arith
 
-loop-again : tie.Need-loop-preserved invariant-loop decreases-loop
-loop-again c =
+loop-k-preserved : tie.Need-loop-k-preserved invariant-loop-k decreases-loop-k
+loop-k-preserved c =
     let head = looped c in
     let a = head.before.args in
-    let l = head.loop in
+    let l = head.loop-k in
     let fits : SFits w32 (get_or l.xs (a.from + l.k) (pos 0)) = search rules in
     rw (to_z-of_z fits)
-    (moving_turn a.xs.now a.from a.to a.n l.xs l.k l.inv (pos 0) (omega arith) (omega arith) (omega arith))
+    (moving_turn a.xs.now a.from a.to a.n l.xs l.k l.invariant (pos 0) (omega arith) (omega arith) (omega arith))
 
-same_length : tie.Need-same-length invariant-loop decreases-loop
-same_length c = c.before.loop.invariant.1
+shape_of-xs : tie.Need-shape_of-xs invariant-loop-k decreases-loop-k
+shape_of-xs c = c.before.loop-k.invariant.1
 
-returns : tie.Need-returns invariant-loop decreases-loop
+returns : tie.Need-returns invariant-loop-k decreases-loop-k
 returns c =
     let head = c.before in
     let a = head.before.args in
-    let l = head.loop in
+    let l = head.loop-k in
     moving_end a.xs.now a.from a.to a.n l.xs l.k l.invariant (omega arith)
 
-pub move-i32-spec : {M : Type 1} → statement M
-move-i32-spec =
+pub move_i32_spec : {M : Type 1} → statement M
+move_i32_spec =
     tie.close
     (tie.spec
-    invariant-loop
-    decreases-loop
-    loop-holds
-    add-xs
-    mul-xs
-    slice-copy-out-xs
-    add-t11
-    mul-t12
-    slice-set-from-xs
-    add-k
-    loop-less
-    loop-again
-    same_length
+    invariant-loop-k
+    decreases-loop-k
+    loop-k-init
+    overflow_add-xs
+    offset_bounds-xs-from
+    slice_copy_out-xs
+    overflow_add-to
+    offset_bounds-xs-to
+    bounds-xs-to
+    overflow_add-k
+    loop-k-smaller
+    loop-k-preserved
+    shape_of-xs
     returns)

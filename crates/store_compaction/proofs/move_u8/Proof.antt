@@ -5,67 +5,67 @@ use Rattle.store_compaction.proofs.Moved.{Moving, moving_start, moving_turn, mov
 use Rattle.store_compaction.proofs.move_u8.Statement.{statement}
 use Rattle.store_compaction.proofs.move_u8.Tie as tie
 
-abbrev invariant-loop : tie.invariant-loop
-invariant-loop xs₀ from to n k₀ xs k = Moving xs₀ from to n xs k
+abbrev invariant-loop-k : tie.invariant-loop-k
+invariant-loop-k xs₀ from to n k₀ xs k = Moving xs₀ from to n xs k
 
-abbrev decreases-loop : tie.decreases-loop
-decreases-loop xs₀ from to n k₀ xs k = n - k
+abbrev decreases-loop-k : tie.decreases-loop-k
+decreases-loop-k xs₀ from to n k₀ xs k = n - k
 
 -- the loop's head, seen from the turn's end
-abbrev looped : tie.After-slice-known invariant-loop decreases-loop → tie.At-loop invariant-loop decreases-loop
+abbrev looped : tie.After-slice_known-1 invariant-loop-k decreases-loop-k → tie.At-loop-k invariant-loop-k decreases-loop-k
 looped c = c.before.before
 
-loop-holds : tie.Need-loop-init invariant-loop decreases-loop
-loop-holds c = let a = c.args in moving_start a.xs.now a.from a.to a.n
+loop-k-init : tie.Need-loop-k-init invariant-loop-k decreases-loop-k
+loop-k-init c = let a = c.args in moving_start a.xs.now a.from a.to a.n
 
-add-xs : tie.Need-overflow-add-xs invariant-loop decreases-loop
-add-xs c = omega arith
+overflow_add-xs : tie.Need-overflow_add-xs invariant-loop-k decreases-loop-k
+overflow_add-xs c = omega arith
 
-slice-read-xs : tie.Need-slice-read-xs invariant-loop decreases-loop
-slice-read-xs c = omega arith
+bounds-xs-from : tie.Need-bounds-xs-from invariant-loop-k decreases-loop-k
+bounds-xs-from c = omega arith
 
-add-xs-2 : tie.Need-overflow-add-xs-2 invariant-loop decreases-loop
-add-xs-2 c = omega arith
+overflow_add-xs-in-loop-k : tie.Need-overflow_add-xs-in-loop-k invariant-loop-k decreases-loop-k
+overflow_add-xs-in-loop-k c = omega arith
 
-slice-write-xs : tie.Need-slice-write-xs invariant-loop decreases-loop
-slice-write-xs c = omega arith
+bounds-xs-to : tie.Need-bounds-xs-to invariant-loop-k decreases-loop-k
+bounds-xs-to c = omega arith
 
-add-k : tie.Need-overflow-add-k invariant-loop decreases-loop
-add-k c = omega arith
+overflow_add-k : tie.Need-overflow_add-k invariant-loop-k decreases-loop-k
+overflow_add-k c = omega arith
 
-loop-less : tie.Need-loop-smaller invariant-loop decreases-loop
-loop-less c = omega arith
+loop-k-smaller : tie.Need-loop-k-smaller invariant-loop-k decreases-loop-k
+loop-k-smaller c = omega arith
 
-loop-again : tie.Need-loop-preserved invariant-loop decreases-loop
-loop-again c =
+loop-k-preserved : tie.Need-loop-k-preserved invariant-loop-k decreases-loop-k
+loop-k-preserved c =
     let head = looped c in
     let a = head.before.args in
-    let l = head.loop in
-    moving_turn a.xs.now a.from a.to a.n l.xs l.k l.inv 0 (omega arith) (omega arith) (omega arith)
+    let l = head.loop-k in
+    moving_turn a.xs.now a.from a.to a.n l.xs l.k l.invariant 0 (omega arith) (omega arith) (omega arith)
 
-same_length : tie.Need-same-length invariant-loop decreases-loop
-same_length c = c.before.loop.invariant.1
+shape_of-xs : tie.Need-shape_of-xs invariant-loop-k decreases-loop-k
+shape_of-xs c = c.before.loop-k.invariant.1
 
-returns : tie.Need-returns invariant-loop decreases-loop
+returns : tie.Need-returns invariant-loop-k decreases-loop-k
 returns c =
     let head = c.before in
     let a = head.before.args in
-    let l = head.loop in
+    let l = head.loop-k in
     moving_end a.xs.now a.from a.to a.n l.xs l.k l.invariant (omega arith)
 
-pub move-u8-spec : {M : Type 1} → statement M
-move-u8-spec =
+pub move_u8_spec : {M : Type 1} → statement M
+move_u8_spec =
     tie.close
     (tie.spec
-    invariant-loop
-    decreases-loop
-    loop-holds
-    add-xs
-    slice-read-xs
-    add-xs-2
-    slice-write-xs
-    add-k
-    loop-less
-    loop-again
-    same_length
+    invariant-loop-k
+    decreases-loop-k
+    loop-k-init
+    overflow_add-xs
+    bounds-xs-from
+    overflow_add-xs-in-loop-k
+    bounds-xs-to
+    overflow_add-k
+    loop-k-smaller
+    loop-k-preserved
+    shape_of-xs
     returns)
