@@ -11,10 +11,13 @@ returns : tie.Need-returns
 unfolding is_counted
 returns c =
     let b = c.before.before.before.before in
-    let told = c.struct-told2.given in
+    let told = c.struct_told-2-1.given in
     let low : SFits w32 b.args.s.low = search rules in
     let high : SFits w32 b.args.s.high = search rules in
     rw (to_z-of_z low, to_z-of_z high, to_z-of_z b.ranges.value)
 
-pub is-counted-spec : {M : Type 1} → statement M
-is-counted-spec = tie.close (tie.spec returns)
+pub is_counted_spec : {M : Type 1} → statement M
+is_counted_spec =
+    tie.close
+    (tie.spec
+    returns)
