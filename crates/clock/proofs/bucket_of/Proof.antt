@@ -5,12 +5,16 @@ use Rattle.clock.specs.Buckets.{bucket_of}
 use Rattle.clock.proofs.bucket_of.Statement.{statement}
 use Rattle.clock.proofs.bucket_of.Tie as tie
 
-div-result : tie.Need-nonzero-div-result
-div-result c = search rules
+nonzero_div-result : tie.Need-nonzero_div-result
+nonzero_div-result c = search rules
 
 returns : tie.Need-returns
 unfolding bucket_of
 returns c = refl
 
-pub bucket-of-spec : {M : Type 1} → statement M
-bucket-of-spec = tie.close (tie.spec div-result returns)
+pub bucket_of_spec : {M : Type 1} → statement M
+bucket_of_spec =
+    tie.close
+    (tie.spec
+    nonzero_div-result
+    returns)

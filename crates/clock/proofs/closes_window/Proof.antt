@@ -5,15 +5,20 @@ use Rattle.clock.specs.Windows.{closes_window}
 use Rattle.clock.proofs.closes_window.Statement.{statement}
 use Rattle.clock.proofs.closes_window.Tie as tie
 
-add-result : tie.Need-overflow-add-result
-add-result c = search rules
+overflow_add-result : tie.Need-overflow_add-result
+overflow_add-result c = search rules
 
-rem-result : tie.Need-nonzero-rem-result
-rem-result c = search rules
+nonzero_rem-result : tie.Need-nonzero_rem-result
+nonzero_rem-result c = search rules
 
 returns : tie.Need-returns
 unfolding closes_window
 returns c = refl
 
-pub closes-window-spec : {M : Type 1} → statement M
-closes-window-spec = tie.close (tie.spec add-result rem-result returns)
+pub closes_window_spec : {M : Type 1} → statement M
+closes_window_spec =
+    tie.close
+    (tie.spec
+    overflow_add-result
+    nonzero_rem-result
+    returns)

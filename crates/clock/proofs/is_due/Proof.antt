@@ -5,18 +5,24 @@ use Rattle.clock.specs.Hold.{is_due}
 use Rattle.clock.proofs.is_due.Statement.{statement}
 use Rattle.clock.proofs.is_due.Tie as tie
 
-cast-result : tie.Need-overflow-cast-result
-cast-result c = search rules
+overflow_cast-result : tie.Need-overflow_cast-result
+overflow_cast-result c = search rules
 
-add-result : tie.Need-overflow-add-result
-add-result c = search rules
+overflow_add-result : tie.Need-overflow_add-result
+overflow_add-result c = search rules
 
-cast-result-2 : tie.Need-overflow-cast-result-2
-cast-result-2 c = search rules
+overflow_cast-result-3 : tie.Need-overflow_cast-result-3
+overflow_cast-result-3 c = search rules
 
 returns : tie.Need-returns
 unfolding is_due
 returns c = refl
 
-pub is-due-spec : {M : Type 1} → statement M
-is-due-spec = tie.close (tie.spec cast-result add-result cast-result-2 returns)
+pub is_due_spec : {M : Type 1} → statement M
+is_due_spec =
+    tie.close
+    (tie.spec
+    overflow_cast-result
+    overflow_add-result
+    overflow_cast-result-3
+    returns)

@@ -9,25 +9,32 @@ use Rattle.clock.proofs.Windows.{window_start_early}
 use Rattle.clock.proofs.window_start.Statement.{statement}
 use Rattle.clock.proofs.window_start.Tie as tie
 
-add-next : tie.Need-overflow-add-next
-add-next c = search rules
+overflow_add-next : tie.Need-overflow_add-next
+overflow_add-next c = search rules
 
-returns : tie.Need-returns
-returns c =
+returns-then-next-window : tie.Need-returns-then-next-window
+returns-then-next-window c =
     let a = c.before.args in
     sym (window_start_early a.bucket a.window a.j (omega arith))
 
-sub-result : tie.Need-overflow-sub-result
-sub-result c = search rules
+overflow_sub-result : tie.Need-overflow_sub-result
+overflow_sub-result c = search rules
 
-mul-result : tie.Need-overflow-mul-result
-mul-result c =
+overflow_mul-result : tie.Need-overflow_mul-result
+overflow_mul-result c =
     let a = c.before.args in
     omega (arith, product_le (a.j + 1 - a.window) a.bucket (omega arith) (omega arith))
 
-returns-2 : tie.Need-returns-2
+returns : tie.Need-returns
 unfolding window_start
-returns-2 c = refl
+returns c = refl
 
-pub window-start-spec : {M : Type 1} → statement M
-window-start-spec = tie.close (tie.spec add-next returns sub-result mul-result returns-2)
+pub window_start_spec : {M : Type 1} → statement M
+window_start_spec =
+    tie.close
+    (tie.spec
+    overflow_add-next
+    returns-then-next-window
+    overflow_sub-result
+    overflow_mul-result
+    returns)
