@@ -6,34 +6,41 @@ use Rattle.signed.proofs.Twos.{twos_below_zero, twos_non_neg}
 use Rattle.signed.proofs.bits32.Statement.{statement}
 use Rattle.signed.proofs.bits32.Tie as tie
 
-add-result : tie.Need-overflow-add-result
-add-result c = plus_one_fits c.before.ranges.x c.if1.true
+overflow_add-result : tie.Need-overflow_add-result
+overflow_add-result c = plus_one_fits c.before.ranges.x c.if-x-lt0.true
 
-sub-result : tie.Need-overflow-sub-result
-sub-result c = minus_plus_one_fits c.before.ranges.x c.if1.true
+overflow_sub-result : tie.Need-overflow_sub-result
+overflow_sub-result c = minus_plus_one_fits c.before.ranges.x c.if-x-lt0.true
 
-cast-result : tie.Need-overflow-cast-result
-cast-result c = rw (magnitude_less_one c.before.ranges.x c.if1.true) (tt, omega arith)
+overflow_cast-result : tie.Need-overflow_cast-result
+overflow_cast-result c = rw (magnitude_less_one c.before.ranges.x c.if-x-lt0.true) (tt, omega arith)
 
-sub-result-2 : tie.Need-overflow-sub-result-2
-sub-result-2 c = rw (magnitude_less_one c.before.ranges.x c.if1.true) (omega arith)
+overflow_sub-result-then-x-lt0 : tie.Need-overflow_sub-result-then-x-lt0
+overflow_sub-result-then-x-lt0 c = rw (magnitude_less_one c.before.ranges.x c.if-x-lt0.true) (omega arith)
 
-cast-result-2 : tie.Need-overflow-cast-result-2
-cast-result-2 c =
+overflow_cast-result-else-x-lt0 : tie.Need-overflow_cast-result-else-x-lt0
+overflow_cast-result-else-x-lt0 c =
     rw (to_z-of_z c.before.ranges.x)
-    (read_non_neg c.before.ranges.x c.if1.false, Fits-nat_abs tt c.before.ranges.x)
+    (read_non_neg c.before.ranges.x c.if-x-lt0.false, Fits-nat_abs tt c.before.ranges.x)
 
-returns : tie.Need-returns
-returns c =
-    rw (magnitude_less_one c.before.ranges.x c.if1.true)
-    (twos_below_zero 32 c.before.args.x (below_zero c.before.ranges.x c.if1.true))
+returns-then-x-lt0 : tie.Need-returns-then-x-lt0
+returns-then-x-lt0 c =
+    rw (magnitude_less_one c.before.ranges.x c.if-x-lt0.true)
+    (twos_below_zero 32 c.before.args.x (below_zero c.before.ranges.x c.if-x-lt0.true))
 
-returns-2 : tie.Need-returns-2
-returns-2 c =
+returns-else-x-lt0 : tie.Need-returns-else-x-lt0
+returns-else-x-lt0 c =
     rw (to_z-of_z c.before.ranges.x)
-    (twos_non_neg 32 c.before.args.x (read_non_neg c.before.ranges.x c.if1.false))
+    (twos_non_neg 32 c.before.args.x (read_non_neg c.before.ranges.x c.if-x-lt0.false))
 
-pub bits32-spec : {M : Type 1} → statement M
-bits32-spec =
+pub bits32_spec : {M : Type 1} → statement M
+bits32_spec =
     tie.close
-    (tie.spec add-result sub-result cast-result sub-result-2 cast-result-2 returns returns-2)
+    (tie.spec
+    overflow_add-result
+    overflow_sub-result
+    overflow_cast-result
+    overflow_sub-result-then-x-lt0
+    overflow_cast-result-else-x-lt0
+    returns-then-x-lt0
+    returns-else-x-lt0)

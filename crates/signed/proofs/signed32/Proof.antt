@@ -6,28 +6,35 @@ use Rattle.signed.proofs.Twos.{low_read, turned_low, high_read}
 use Rattle.signed.proofs.signed32.Statement.{statement}
 use Rattle.signed.proofs.signed32.Tie as tie
 
-cast-result : tie.Need-overflow-cast-result
-cast-result c = search rules
+overflow_cast-result : tie.Need-overflow_cast-result
+overflow_cast-result c = search rules
 
-sub-result : tie.Need-overflow-sub-result
-sub-result c = search rules
+overflow_sub-result : tie.Need-overflow_sub-result
+overflow_sub-result c = search rules
 
-cast-result-2 : tie.Need-overflow-cast-result-2
-cast-result-2 c = search rules
+overflow_cast-result-else-word-lt2147483648 : tie.Need-overflow_cast-result-else-word-lt2147483648
+overflow_cast-result-else-word-lt2147483648 c = search rules
 
-sub-result-2 : tie.Need-overflow-sub-result-2
-sub-result-2 c = minus_fits w32 (turned_low w32 c.if1.false)
+overflow_sub-result-else-word-lt2147483648 : tie.Need-overflow_sub-result-else-word-lt2147483648
+overflow_sub-result-else-word-lt2147483648 c = minus_fits w32 (turned_low w32 c.if-word-lt2147483648.false)
 
-sub-result-3 : tie.Need-overflow-sub-result-3
-sub-result-3 c = minus_less_one_fits w32 (turned_low w32 c.if1.false)
+overflow_sub-result-else-word-lt2147483648-2 : tie.Need-overflow_sub-result-else-word-lt2147483648-2
+overflow_sub-result-else-word-lt2147483648-2 c = minus_less_one_fits w32 (turned_low w32 c.if-word-lt2147483648.false)
 
-returns : tie.Need-returns
-returns c = low_read w32 c.if1.true
+returns-then-word-lt2147483648 : tie.Need-returns-then-word-lt2147483648
+returns-then-word-lt2147483648 c = low_read w32 c.if-word-lt2147483648.true
 
-returns-2 : tie.Need-returns-2
-returns-2 c = high_read w32 c.if1.false c.before.ranges.word
+returns-else-word-lt2147483648 : tie.Need-returns-else-word-lt2147483648
+returns-else-word-lt2147483648 c = high_read w32 c.if-word-lt2147483648.false c.before.ranges.word
 
-pub signed32-spec : {M : Type 1} → statement M
-signed32-spec =
+pub signed32_spec : {M : Type 1} → statement M
+signed32_spec =
     tie.close
-    (tie.spec cast-result sub-result cast-result-2 sub-result-2 sub-result-3 returns returns-2)
+    (tie.spec
+    overflow_cast-result
+    overflow_sub-result
+    overflow_cast-result-else-word-lt2147483648
+    overflow_sub-result-else-word-lt2147483648
+    overflow_sub-result-else-word-lt2147483648-2
+    returns-then-word-lt2147483648
+    returns-else-word-lt2147483648)

@@ -6,28 +6,35 @@ use Rattle.signed.proofs.Twos.{low_read, turned_low, high_read}
 use Rattle.signed.proofs.signed64.Statement.{statement}
 use Rattle.signed.proofs.signed64.Tie as tie
 
-cast-result : tie.Need-overflow-cast-result
-cast-result c = search rules
+overflow_cast-result : tie.Need-overflow_cast-result
+overflow_cast-result c = search rules
 
-sub-result : tie.Need-overflow-sub-result
-sub-result c = search rules
+overflow_sub-result : tie.Need-overflow_sub-result
+overflow_sub-result c = search rules
 
-cast-result-2 : tie.Need-overflow-cast-result-2
-cast-result-2 c = search rules
+overflow_cast-result-else-word-lt9223372036854775808 : tie.Need-overflow_cast-result-else-word-lt9223372036854775808
+overflow_cast-result-else-word-lt9223372036854775808 c = search rules
 
-sub-result-2 : tie.Need-overflow-sub-result-2
-sub-result-2 c = minus_fits w64 (turned_low w64 c.if1.false)
+overflow_sub-result-else-word-lt9223372036854775808 : tie.Need-overflow_sub-result-else-word-lt9223372036854775808
+overflow_sub-result-else-word-lt9223372036854775808 c = minus_fits w64 (turned_low w64 c.if-word-lt9223372036854775808.false)
 
-sub-result-3 : tie.Need-overflow-sub-result-3
-sub-result-3 c = minus_less_one_fits w64 (turned_low w64 c.if1.false)
+overflow_sub-result-else-word-lt9223372036854775808-2 : tie.Need-overflow_sub-result-else-word-lt9223372036854775808-2
+overflow_sub-result-else-word-lt9223372036854775808-2 c = minus_less_one_fits w64 (turned_low w64 c.if-word-lt9223372036854775808.false)
 
-returns : tie.Need-returns
-returns c = low_read w64 c.if1.true
+returns-then-word-lt9223372036854775808 : tie.Need-returns-then-word-lt9223372036854775808
+returns-then-word-lt9223372036854775808 c = low_read w64 c.if-word-lt9223372036854775808.true
 
-returns-2 : tie.Need-returns-2
-returns-2 c = high_read w64 c.if1.false c.before.ranges.word
+returns-else-word-lt9223372036854775808 : tie.Need-returns-else-word-lt9223372036854775808
+returns-else-word-lt9223372036854775808 c = high_read w64 c.if-word-lt9223372036854775808.false c.before.ranges.word
 
-pub signed64-spec : {M : Type 1} → statement M
-signed64-spec =
+pub signed64_spec : {M : Type 1} → statement M
+signed64_spec =
     tie.close
-    (tie.spec cast-result sub-result cast-result-2 sub-result-2 sub-result-3 returns returns-2)
+    (tie.spec
+    overflow_cast-result
+    overflow_sub-result
+    overflow_cast-result-else-word-lt9223372036854775808
+    overflow_sub-result-else-word-lt9223372036854775808
+    overflow_sub-result-else-word-lt9223372036854775808-2
+    returns-then-word-lt9223372036854775808
+    returns-else-word-lt9223372036854775808)
