@@ -6,63 +6,63 @@ use Rattle.endian.proofs.LittleEndian.{number_of_next}
 use Rattle.endian.proofs.get4.Statement.{statement}
 use Rattle.endian.proofs.get4.Tie as tie
 
-shared-slice-read-result : tie.Need-shared-slice-read-result
-shared-slice-read-result c = omega arith
+bounds-s-at : tie.Need-bounds-s-at
+bounds-s-at c = omega arith
 
-cast-result : tie.Need-overflow-cast-result
-cast-result c = omega (arith, c.shared-slice-known.given c.before.args.at)
+overflow_cast-result : tie.Need-overflow_cast-result
+overflow_cast-result c = omega (arith, c.shared_slice_known-1.given c.before.args.at)
 
-add-result : tie.Need-overflow-add-result
-add-result c = omega arith
+overflow_add-result : tie.Need-overflow_add-result
+overflow_add-result c = omega arith
 
-shared-slice-read-result-2 : tie.Need-shared-slice-read-result-2
-shared-slice-read-result-2 c = omega arith
+bounds-s-at-2 : tie.Need-bounds-s-at-2
+bounds-s-at-2 c = omega arith
 
-cast-result-2 : tie.Need-overflow-cast-result-2
-cast-result-2 c = omega (arith, c.shared-slice-known2.given (c.before.before.args.at + 1))
+overflow_cast-result-2 : tie.Need-overflow_cast-result-2
+overflow_cast-result-2 c = omega (arith, c.shared_slice_known-2-1.given (c.before.before.args.at + 1))
 
-mul-result : tie.Need-overflow-mul-result
-mul-result c = omega (arith, c.shared-slice-known2.given (c.before.before.args.at + 1))
+overflow_mul-result : tie.Need-overflow_mul-result
+overflow_mul-result c = omega (arith, c.shared_slice_known-2-1.given (c.before.before.args.at + 1))
 
-add-result-2 : tie.Need-overflow-add-result-2
-add-result-2 c =
-    let byte = c.shared-slice-known2.given in
+overflow_add-result-2 : tie.Need-overflow_add-result-2
+overflow_add-result-2 c =
+    let byte = c.shared_slice_known-2-1.given in
     let at = c.before.before.args.at in
     omega (arith, byte at, byte (at + 1))
 
-add-result-3 : tie.Need-overflow-add-result-3
-add-result-3 c = omega arith
+overflow_add-result-3 : tie.Need-overflow_add-result-3
+overflow_add-result-3 c = omega arith
 
-shared-slice-read-result-3 : tie.Need-shared-slice-read-result-3
-shared-slice-read-result-3 c = omega arith
+bounds-s-at-3 : tie.Need-bounds-s-at-3
+bounds-s-at-3 c = omega arith
 
-cast-result-3 : tie.Need-overflow-cast-result-3
-cast-result-3 c = omega (arith, c.shared-slice-known3.given (c.before.before.before.args.at + 2))
+overflow_cast-result-3 : tie.Need-overflow_cast-result-3
+overflow_cast-result-3 c = omega (arith, c.shared_slice_known-3-1.given (c.before.before.before.args.at + 2))
 
-mul-result-2 : tie.Need-overflow-mul-result-2
-mul-result-2 c = omega (arith, c.shared-slice-known3.given (c.before.before.before.args.at + 2))
+overflow_mul-result-2 : tie.Need-overflow_mul-result-2
+overflow_mul-result-2 c = omega (arith, c.shared_slice_known-3-1.given (c.before.before.before.args.at + 2))
 
-add-result-4 : tie.Need-overflow-add-result-4
-add-result-4 c =
-    let byte = c.shared-slice-known3.given in
+overflow_add-result-4 : tie.Need-overflow_add-result-4
+overflow_add-result-4 c =
+    let byte = c.shared_slice_known-3-1.given in
     let at = c.before.before.before.args.at in
     omega (arith, byte at, byte (at + 1), byte (at + 2))
 
-add-result-5 : tie.Need-overflow-add-result-5
-add-result-5 c = omega arith
+overflow_add-result-5 : tie.Need-overflow_add-result-5
+overflow_add-result-5 c = omega arith
 
-shared-slice-read-result-4 : tie.Need-shared-slice-read-result-4
-shared-slice-read-result-4 c = omega arith
+bounds-s-at-4 : tie.Need-bounds-s-at-4
+bounds-s-at-4 c = omega arith
 
-cast-result-4 : tie.Need-overflow-cast-result-4
-cast-result-4 c = omega (arith, c.shared-slice-known4.given (c.before.before.before.before.args.at + 3))
+overflow_cast-result-4 : tie.Need-overflow_cast-result-4
+overflow_cast-result-4 c = omega (arith, c.shared_slice_known-4-1.given (c.before.before.before.before.args.at + 3))
 
-mul-result-3 : tie.Need-overflow-mul-result-3
-mul-result-3 c = omega (arith, c.shared-slice-known4.given (c.before.before.before.before.args.at + 3))
+overflow_mul-result-3 : tie.Need-overflow_mul-result-3
+overflow_mul-result-3 c = omega (arith, c.shared_slice_known-4-1.given (c.before.before.before.before.args.at + 3))
 
-add-result-6 : tie.Need-overflow-add-result-6
-add-result-6 c =
-    let byte = c.shared-slice-known4.given in
+overflow_add-result-6 : tie.Need-overflow_add-result-6
+overflow_add-result-6 c =
+    let byte = c.shared_slice_known-4-1.given in
     let at = c.before.before.before.before.args.at in
     omega (arith, byte at, byte (at + 1), byte (at + 2), byte (at + 3))
 
@@ -79,25 +79,25 @@ returns c =
       number_of_next s (at + 3) (at + 4) 0 (omega arith) (omega arith),
     )
 
-pub get4-spec : {M : Type 1} → statement M
-get4-spec =
+pub get4_spec : {M : Type 1} → statement M
+get4_spec =
     tie.close
     (tie.spec
-    shared-slice-read-result
-    cast-result
-    add-result
-    shared-slice-read-result-2
-    cast-result-2
-    mul-result
-    add-result-2
-    add-result-3
-    shared-slice-read-result-3
-    cast-result-3
-    mul-result-2
-    add-result-4
-    add-result-5
-    shared-slice-read-result-4
-    cast-result-4
-    mul-result-3
-    add-result-6
+    bounds-s-at
+    overflow_cast-result
+    overflow_add-result
+    bounds-s-at-2
+    overflow_cast-result-2
+    overflow_mul-result
+    overflow_add-result-2
+    overflow_add-result-3
+    bounds-s-at-3
+    overflow_cast-result-3
+    overflow_mul-result-2
+    overflow_add-result-4
+    overflow_add-result-5
+    bounds-s-at-4
+    overflow_cast-result-4
+    overflow_mul-result-3
+    overflow_add-result-6
     returns)

@@ -8,41 +8,41 @@ use Rattle.endian.proofs.LittleEndian.{little_endian_4}
 use Rattle.endian.proofs.put4.Statement.{statement}
 use Rattle.endian.proofs.put4.Tie as tie
 
-cast-out : tie.Need-overflow-cast-out
-cast-out c = omega arith
+overflow_cast-out : tie.Need-overflow_cast-out
+overflow_cast-out c = omega arith
 
-slice-write-out : tie.Need-slice-write-out
-slice-write-out c = omega arith
+bounds-out-at : tie.Need-bounds-out-at
+bounds-out-at c = omega arith
 
-cast-out-2 : tie.Need-overflow-cast-out-2
-cast-out-2 c = omega arith
+overflow_cast-out-2 : tie.Need-overflow_cast-out-2
+overflow_cast-out-2 c = omega arith
 
-add-out : tie.Need-overflow-add-out
-add-out c = omega arith
+overflow_add-out : tie.Need-overflow_add-out
+overflow_add-out c = omega arith
 
-slice-write-out-2 : tie.Need-slice-write-out-2
-slice-write-out-2 c = simp length-set (omega arith)
+bounds-out-at-2 : tie.Need-bounds-out-at-2
+bounds-out-at-2 c = simp length-set (omega arith)
 
-cast-out-3 : tie.Need-overflow-cast-out-3
-cast-out-3 c = omega arith
+overflow_cast-out-3 : tie.Need-overflow_cast-out-3
+overflow_cast-out-3 c = omega arith
 
-add-out-2 : tie.Need-overflow-add-out-2
-add-out-2 c = omega arith
+overflow_add-out-2 : tie.Need-overflow_add-out-2
+overflow_add-out-2 c = omega arith
 
-slice-write-out-3 : tie.Need-slice-write-out-3
-slice-write-out-3 c = simp length-set (omega arith)
+bounds-out-at-3 : tie.Need-bounds-out-at-3
+bounds-out-at-3 c = simp length-set (omega arith)
 
-cast-out-4 : tie.Need-overflow-cast-out-4
-cast-out-4 c = omega arith
+overflow_cast-out-4 : tie.Need-overflow_cast-out-4
+overflow_cast-out-4 c = omega arith
 
-add-out-3 : tie.Need-overflow-add-out-3
-add-out-3 c = omega arith
+overflow_add-out-3 : tie.Need-overflow_add-out-3
+overflow_add-out-3 c = omega arith
 
-slice-write-out-4 : tie.Need-slice-write-out-4
-slice-write-out-4 c = simp length-set (omega arith)
+bounds-out-at-4 : tie.Need-bounds-out-at-4
+bounds-out-at-4 c = simp length-set (omega arith)
 
-same_length : tie.Need-same-length
-same_length c = simp length-set
+shape_of-out : tie.Need-shape_of-out
+shape_of-out c = simp length-set
 
 returns : tie.Need-returns
 unfolding laid
@@ -53,20 +53,20 @@ returns c =
     let e3 : a + 3 ≡ suc (suc (suc a)) = omega arith in
     rw (little_endian_4 c.args.x c.ranges.x.fits, e1, e2, e3)
 
-pub put4-spec : {M : Type 1} → statement M
-put4-spec =
+pub put4_spec : {M : Type 1} → statement M
+put4_spec =
     tie.close
     (tie.spec
-    cast-out
-    slice-write-out
-    cast-out-2
-    add-out
-    slice-write-out-2
-    cast-out-3
-    add-out-2
-    slice-write-out-3
-    cast-out-4
-    add-out-3
-    slice-write-out-4
-    same_length
+    overflow_cast-out
+    bounds-out-at
+    overflow_cast-out-2
+    overflow_add-out
+    bounds-out-at-2
+    overflow_cast-out-3
+    overflow_add-out-2
+    bounds-out-at-3
+    overflow_cast-out-4
+    overflow_add-out-3
+    bounds-out-at-4
+    shape_of-out
     returns)

@@ -8,25 +8,25 @@ use Rattle.endian.proofs.LittleEndian.{little_endian_add, length_little_endian}
 use Rattle.endian.proofs.put8.Statement.{statement}
 use Rattle.endian.proofs.put8.Tie as tie
 
-cast-put4 : tie.Need-overflow-cast-put4
-cast-put4 c = omega arith
+overflow_cast-x : tie.Need-overflow_cast-x
+overflow_cast-x c = omega arith
 
 put4-requires : tie.Need-put4-requires
 put4-requires c κs = omega arith
 
-add-put4 : tie.Need-overflow-add-put4
-add-put4 c = omega arith
+overflow_add-at : tie.Need-overflow_add-at
+overflow_add-at c = omega arith
 
-cast-put4-2 : tie.Need-overflow-cast-put4-2
-cast-put4-2 c = omega arith
+overflow_cast-x-2 : tie.Need-overflow_cast-x-2
+overflow_cast-x-2 c = omega arith
 
 put4-requires-2 : tie.Need-put4-requires-2
-put4-requires-2 c κs = omega (arith, c.before.before.before.put4.auto.0)
+put4-requires-2 c κs = omega (arith, c.before.before.before.put4.auto.out)
 
-same_length : tie.Need-same-length
-same_length c =
+shape_of-out : tie.Need-shape_of-out
+shape_of-out c =
     let second = c.before.before in
-    second.put42.auto.0 ∙ second.before.before.before.before.put4.auto.0
+    second.put4-2.auto.out ∙ second.before.before.before.before.put4.auto.out
 
 returns : tie.Need-returns
 returns c =
@@ -35,9 +35,16 @@ returns c =
     let a = first.before.before.before.args in
     let low = little_endian 4 (a.x % 4294967296) in
     let high = little_endian 4 (a.x / 4294967296) in
-    rw (second.put42.ensures, first.put4.ensures, little_endian_add 4 4 a.x) (laid_laid a.out.now a.at (a.at + 4) low high (omega (arith, length_little_endian 4 (a.x % 4294967296))))
+    rw (second.put4-2.ensures, first.put4.ensures, little_endian_add 4 4 a.x) (laid_laid a.out.now a.at (a.at + 4) low high (omega (arith, length_little_endian 4 (a.x % 4294967296))))
 
-pub put8-spec : {M : Type 1} → statement M
-put8-spec =
+pub put8_spec : {M : Type 1} → statement M
+put8_spec =
     tie.close
-    (tie.spec cast-put4 put4-requires add-put4 cast-put4-2 put4-requires-2 same_length returns)
+    (tie.spec
+    overflow_cast-x
+    put4-requires
+    overflow_add-at
+    overflow_cast-x-2
+    put4-requires-2
+    shape_of-out
+    returns)
