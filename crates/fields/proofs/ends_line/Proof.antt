@@ -5,15 +5,20 @@ use Rattle.fields.proofs.Fields.{no_end_past}
 use Rattle.fields.proofs.ends_line.Statement.{statement}
 use Rattle.fields.proofs.ends_line.Tie as tie
 
-shared-slice-read-result : tie.Need-shared-slice-read-result
-shared-slice-read-result c = c.before.if1.true
+bounds-s-at : tie.Need-bounds-s-at
+bounds-s-at c = c.before.if-at-s.true
 
-returns : tie.Need-returns
+returns-then-at-s : tie.Need-returns-then-at-s
 unfolding ends_line
-returns c = refl
+returns-then-at-s c = refl
 
-returns-2 : tie.Need-returns-2
-returns-2 c = sym (no_end_past c.before.args.s.now c.before.args.at c.if1.false)
+returns-else-at-s : tie.Need-returns-else-at-s
+returns-else-at-s c = sym (no_end_past c.before.args.s.now c.before.args.at c.if-at-s.false)
 
-pub ends-line-spec : {M : Type 1} → statement M
-ends-line-spec = tie.close (tie.spec shared-slice-read-result returns returns-2)
+pub ends_line_spec : {M : Type 1} → statement M
+ends_line_spec =
+    tie.close
+    (tie.spec
+    bounds-s-at
+    returns-then-at-s
+    returns-else-at-s)

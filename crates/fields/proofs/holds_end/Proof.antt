@@ -8,49 +8,49 @@ use Rattle.fields.proofs.Lines.{held_further}
 use Rattle.fields.proofs.holds_end.Statement.{statement}
 use Rattle.fields.proofs.holds_end.Tie as tie
 
-abbrev invariant-loop : tie.invariant-loop
-invariant-loop s at n found₀ i₀ found i = (i ≤ n) × (found ≡ holds_line (take i (drop at s)))
+abbrev invariant-loop-i : tie.invariant-loop-i
+invariant-loop-i s at n found₀ i₀ found i = (i ≤ n) × (found ≡ holds_line (take i (drop at s)))
 
-abbrev decreases-loop : tie.decreases-loop
-decreases-loop s at n found₀ i₀ found i = n - i
+abbrev decreases-loop-i : tie.decreases-loop-i
+decreases-loop-i s at n found₀ i₀ found i = n - i
 
-loop-holds : tie.Need-loop-init invariant-loop decreases-loop
+loop-i-init : tie.Need-loop-i-init invariant-loop-i decreases-loop-i
 unfolding holds_line
-loop-holds c = (omega arith, refl)
+loop-i-init c = (omega arith, refl)
 
-add-found : tie.Need-overflow-add-found invariant-loop decreases-loop
-add-found c = omega arith
+overflow_add-found : tie.Need-overflow_add-found invariant-loop-i decreases-loop-i
+overflow_add-found c = omega arith
 
-shared-slice-read-found : tie.Need-shared-slice-read-found invariant-loop decreases-loop
-shared-slice-read-found c = omega arith
+bounds-s-at : tie.Need-bounds-s-at invariant-loop-i decreases-loop-i
+bounds-s-at c = omega arith
 
-add-i : tie.Need-overflow-add-i invariant-loop decreases-loop
-add-i c = omega arith
+overflow_add-i : tie.Need-overflow_add-i invariant-loop-i decreases-loop-i
+overflow_add-i c = omega arith
 
-loop-less : tie.Need-loop-smaller invariant-loop decreases-loop
-loop-less c = omega arith
+loop-i-smaller : tie.Need-loop-i-smaller invariant-loop-i decreases-loop-i
+loop-i-smaller c = omega arith
 
-loop-again : tie.Need-loop-preserved invariant-loop decreases-loop
-loop-again c =
+loop-i-preserved : tie.Need-loop-i-preserved invariant-loop-i decreases-loop-i
+loop-i-preserved c =
     let a = c.before.before.before.args in
-    let l = c.before.before.loop in
+    let l = c.before.before.loop-i in
     (omega arith, rw l.invariant.1 (held_further a.s.now a.at l.i (omega arith)))
 
-returns : tie.Need-returns invariant-loop decreases-loop
+returns : tie.Need-returns invariant-loop-i decreases-loop-i
 returns c =
-    let all : c.before.loop.i ≡ c.before.before.args.n = omega arith in
-    rw (← all) c.before.loop.invariant.1
+    let all : c.before.loop-i.i ≡ c.before.before.args.n = omega arith in
+    rw (← all) c.before.loop-i.invariant.1
 
-pub holds-end-spec : {M : Type 1} → statement M
-holds-end-spec =
+pub holds_end_spec : {M : Type 1} → statement M
+holds_end_spec =
     tie.close
     (tie.spec
-    invariant-loop
-    decreases-loop
-    loop-holds
-    add-found
-    shared-slice-read-found
-    add-i
-    loop-less
-    loop-again
+    invariant-loop-i
+    decreases-loop-i
+    loop-i-init
+    overflow_add-found
+    bounds-s-at
+    overflow_add-i
+    loop-i-smaller
+    loop-i-preserved
     returns)

@@ -8,20 +8,26 @@ use Rattle.fields.proofs.Fields.{no_end_past}
 use Rattle.fields.proofs.is_line.Statement.{statement}
 use Rattle.fields.proofs.is_line.Tie as tie
 
-sub-result : tie.Need-overflow-sub-result
-sub-result c = omega arith
+overflow_sub-result : tie.Need-overflow_sub-result
+overflow_sub-result c = omega arith
 
-shared-slice-read-result : tie.Need-shared-slice-read-result
-shared-slice-read-result c = omega arith
+bounds-s-s : tie.Need-bounds-s-s
+bounds-s-s c = omega arith
 
-returns : tie.Need-returns
+returns-then-s-gt0 : tie.Need-returns-then-s-gt0
 unfolding ends_line
-returns c = refl
+returns-then-s-gt0 c = refl
 
-returns-2 : tie.Need-returns-2
-returns-2 c =
+returns-else-s-gt0 : tie.Need-returns-else-s-gt0
+returns-else-s-gt0 c =
     let s = c.before.args.s.now in
     sym (no_end_past s (length s - 1) (omega arith))
 
-pub is-line-spec : {M : Type 1} → statement M
-is-line-spec = tie.close (tie.spec sub-result shared-slice-read-result returns returns-2)
+pub is_line_spec : {M : Type 1} → statement M
+is_line_spec =
+    tie.close
+    (tie.spec
+    overflow_sub-result
+    bounds-s-s
+    returns-then-s-gt0
+    returns-else-s-gt0)

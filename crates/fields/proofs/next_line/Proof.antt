@@ -9,50 +9,50 @@ use Rattle.fields.proofs.Lines.{line_found, part_line}
 use Rattle.fields.proofs.next_line.Statement.{statement}
 use Rattle.fields.proofs.next_line.Tie as tie
 
-pass-blocks-requires : tie.Need-pass-blocks-requires
-pass-blocks-requires c κs = (omega arith, omega arith)
+pass_blocks-far-requires : tie.Need-pass_blocks-far-requires
+pass_blocks-far-requires c κs = (omega arith, omega arith)
 
-pass-blocks-requires-2 : tie.Need-pass-blocks-requires-2
-pass-blocks-requires-2 c κs = (omega arith, omega arith)
+pass_blocks-near-requires : tie.Need-pass_blocks-near-requires
+pass_blocks-near-requires c κs = (omega arith, omega arith)
 
-pass-blocks-requires-3 : tie.Need-pass-blocks-requires-3
-pass-blocks-requires-3 c κs = (omega arith, omega arith)
+pass_blocks-at-requires : tie.Need-pass_blocks-at-requires
+pass_blocks-at-requires c κs = (omega arith, omega arith)
 
 -- what the last blocks lead to
-abbrev start : tie.After-pass-blocks3 → tie.Start
+abbrev start : tie.After-pass_blocks-at → tie.Start
 start c = c.before.before.before.before
 
-passed : (c : tie.After-pass-blocks3) → holds_line (take c.pass-blocks3.result (start c).args.s.now) ≡ false
+passed : (c : tie.After-pass_blocks-at) → holds_line (take c.pass_blocks-at.result (start c).args.s.now) ≡ false
 unfolding holds_line
 passed c =
-    c.pass-blocks3.ensures.1.0 ∙ c.before.pass-blocks2.ensures.1.0 ∙ c.before.before.pass-blocks.ensures.1.0
+    c.pass_blocks-at.ensures.1.0 ∙ c.before.pass_blocks-near.ensures.1.0 ∙ c.before.before.pass_blocks-far.ensures.1.0
 
-add-result : tie.Need-overflow-add-result
-add-result c = omega arith
+overflow_add-result : tie.Need-overflow_add-result
+overflow_add-result c = omega arith
 
-slice-aggregate-result : tie.Need-slice-aggregate-result
-slice-aggregate-result c = sym (length-take-le _ (start c.before.before).args.s.now (omega arith))
+slice_bounds-result-end : tie.Need-slice_bounds-result-end
+slice_bounds-result-end c = sym (length-take-le _ (start c.before).args.s.now (omega arith))
 
-returns : tie.Need-returns
-returns c =
-    let p = c.before.before in
-    (line_found (start p).args.s.now p.pass-blocks3.result (omega arith) (passed p) (p.pass-blocks3.ensures.1.1 (omega arith)), refl)
+returns-then-at-s : tie.Need-returns-then-at-s
+returns-then-at-s c =
+    let p = c.before in
+    (line_found (start p).args.s.now p.pass_blocks-at.result (omega arith) (passed p) (p.pass_blocks-at.ensures.1.1 (omega arith)), refl)
 
-returns-2 : tie.Need-returns-2
-returns-2 c =
+returns-else-at-s : tie.Need-returns-else-at-s
+returns-else-at-s c =
     let p = c.before in
     let s = (start p).args.s.now in
-    let all : take p.pass-blocks3.result s ≡ s = take_all p.pass-blocks3.result s (omega arith) in
+    let all : take p.pass_blocks-at.result s ≡ s = take_all p.pass_blocks-at.result s (omega arith) in
     (sym (part_line s (rw all at (passed p))), refl)
 
-pub next-line-spec : {M : Type 1} → statement M
-next-line-spec =
+pub next_line_spec : {M : Type 1} → statement M
+next_line_spec =
     tie.close
     (tie.spec
-    pass-blocks-requires
-    pass-blocks-requires-2
-    pass-blocks-requires-3
-    add-result
-    slice-aggregate-result
-    returns
-    returns-2)
+    pass_blocks-far-requires
+    pass_blocks-near-requires
+    pass_blocks-at-requires
+    overflow_add-result
+    slice_bounds-result-end
+    returns-then-at-s
+    returns-else-at-s)

@@ -8,54 +8,54 @@ use Rattle.fields.proofs.Lines.{held_block}
 use Rattle.fields.proofs.pass_blocks.Statement.{statement}
 use Rattle.fields.proofs.pass_blocks.Tie as tie
 
-abbrev invariant-loop : tie.invariant-loop
-invariant-loop s from n at₀ at = (at ≤ length s) × (holds_line (take at s) ≡ holds_line (take from s))
+abbrev invariant-loop-at : tie.invariant-loop-at
+invariant-loop-at s from n at₀ at = (at ≤ length s) × (holds_line (take at s) ≡ holds_line (take from s))
 
-abbrev decreases-loop : tie.decreases-loop
-decreases-loop s from n at₀ at = length s - at
+abbrev decreases-loop-at : tie.decreases-loop-at
+decreases-loop-at s from n at₀ at = length s - at
 
-loop-holds : tie.Need-loop-init invariant-loop decreases-loop
-loop-holds c = (omega arith, refl)
+loop-at-init : tie.Need-loop-at-init invariant-loop-at decreases-loop-at
+loop-at-init c = (omega arith, refl)
 
-sub-loop : tie.Need-overflow-sub-loop invariant-loop decreases-loop
-sub-loop c = omega arith
+overflow_sub-s : tie.Need-overflow_sub-s invariant-loop-at decreases-loop-at
+overflow_sub-s c = omega arith
 
-holds-end-requires : tie.Need-holds-end-requires invariant-loop decreases-loop
-holds-end-requires c κs = omega arith
+holds_end-requires : tie.Need-holds_end-requires invariant-loop-at decreases-loop-at
+holds_end-requires c κs = omega arith
 
-returns : tie.Need-returns invariant-loop decreases-loop
-returns c =
-    let l = c.before.before.before.loop in
-    (l.invariant.0, (l.invariant.1, λ whole. sym c.before.holds-end.ensures ∙ c.if1.true))
+returns-then-holds_end : tie.Need-returns-then-holds_end invariant-loop-at decreases-loop-at
+returns-then-holds_end c =
+    let l = c.before.before.before.loop-at in
+    (l.invariant.0, (l.invariant.1, λ whole. sym c.before.holds_end.ensures ∙ c.if-holds_end.true))
 
-add_at : tie.Need-overflow-add-at invariant-loop decreases-loop
-add_at c = omega arith
+overflow_add-at : tie.Need-overflow_add-at invariant-loop-at decreases-loop-at
+overflow_add-at c = omega arith
 
-loop-less : tie.Need-loop-smaller invariant-loop decreases-loop
-loop-less c = omega arith
+loop-at-smaller : tie.Need-loop-at-smaller invariant-loop-at decreases-loop-at
+loop-at-smaller c = omega arith
 
-loop-again : tie.Need-loop-preserved invariant-loop decreases-loop
-loop-again c =
+loop-at-preserved : tie.Need-loop-at-preserved invariant-loop-at decreases-loop-at
+loop-at-preserved c =
     let a = c.before.before.before.before.before.args in
-    let l = c.before.before.before.loop in
-    (omega arith, held_block a.s.now l.at a.n (sym c.before.holds-end.ensures ∙ c.if1.false) ∙ l.invariant.1)
+    let l = c.before.before.before.loop-at in
+    (omega arith, held_block a.s.now l.at a.n (sym c.before.holds_end.ensures ∙ c.if-holds_end.false) ∙ l.invariant.1)
 
-returns-2 : tie.Need-returns-2 invariant-loop decreases-loop
-returns-2 c =
-    let l = c.before.loop in
+returns : tie.Need-returns invariant-loop-at decreases-loop-at
+returns c =
+    let l = c.before.loop-at in
     (l.invariant.0, (l.invariant.1, λ whole. absurd (omega arith)))
 
-pub pass-blocks-spec : {M : Type 1} → statement M
-pass-blocks-spec =
+pub pass_blocks_spec : {M : Type 1} → statement M
+pass_blocks_spec =
     tie.close
     (tie.spec
-    invariant-loop
-    decreases-loop
-    loop-holds
-    sub-loop
-    holds-end-requires
-    returns
-    add_at
-    loop-less
-    loop-again
-    returns-2)
+    invariant-loop-at
+    decreases-loop-at
+    loop-at-init
+    overflow_sub-s
+    holds_end-requires
+    returns-then-holds_end
+    overflow_add-at
+    loop-at-smaller
+    loop-at-preserved
+    returns)

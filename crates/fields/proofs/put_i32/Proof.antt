@@ -13,17 +13,23 @@ wide f = sfits_widen tt f
 widened : {z : ℤ} → SFits w32 z → to_z w64 (of_z w64 (to_z w32 (of_z w32 z))) ≡ z
 widened f = rw (to_z-of_z f, to_z-of_z (wide f))
 
-cast-put-i64 : tie.Need-overflow-cast-put-i64
-cast-put-i64 c = let f = c.before.before.before.ranges.value in rw (to_z-of_z f) (wide f)
+overflow_cast-value : tie.Need-overflow_cast-value
+overflow_cast-value c = let f = c.before.before.before.ranges.value in rw (to_z-of_z f) (wide f)
 
-put-i64-requires : tie.Need-put-i64-requires
-put-i64-requires c κs = rw (widened c.before.before.before.ranges.value) c.before.before.before.requires
+put_i64-requires : tie.Need-put_i64-requires
+put_i64-requires c κs = rw (widened c.before.before.before.ranges.value) c.before.before.before.requires
 
-same_length : tie.Need-same-length
-same_length c = c.before.before.put-i64.auto.0
+shape_of-out : tie.Need-shape_of-out
+shape_of-out c = c.before.before.put_i64.auto.out
 
 returns : tie.Need-returns
-returns c = rw (widened c.before.before.before.before.before.before.ranges.value) at c.before.before.put-i64.ensures
+returns c = rw (widened c.before.before.before.before.before.before.ranges.value) at c.before.before.put_i64.ensures
 
-pub put-i32-spec : {M : Type 1} → statement M
-put-i32-spec = tie.close (tie.spec cast-put-i64 put-i64-requires same_length returns)
+pub put_i32_spec : {M : Type 1} → statement M
+put_i32_spec =
+    tie.close
+    (tie.spec
+    overflow_cast-value
+    put_i64-requires
+    shape_of-out
+    returns)

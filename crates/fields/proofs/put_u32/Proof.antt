@@ -12,21 +12,27 @@ use Rattle.fields.proofs.put_u32.Tie as tie
 widened : (n : ℕ) → n < 2 ^ 32 → to_z w64 n ≡ pos n
 widened n h = to_z_pos w64 {n = n} (omega arith)
 
-cast-put-i64 : tie.Need-overflow-cast-put-i64
-cast-put-i64 c = record { sfits = omega arith }
+overflow_cast-value : tie.Need-overflow_cast-value
+overflow_cast-value c = record { sfits = omega arith }
 
-put-i64-requires : tie.Need-put-i64-requires
-put-i64-requires c κs =
+put_i64-requires : tie.Need-put_i64-requires
+put_i64-requires c κs =
     let b = c.before.before.before in
     rw (widened b.args.value b.ranges.value.fits) b.requires
 
-same_length : tie.Need-same-length
-same_length c = c.before.before.put-i64.auto.0
+shape_of-out : tie.Need-shape_of-out
+shape_of-out c = c.before.before.put_i64.auto.out
 
 returns : tie.Need-returns
 returns c =
     let b = c.before.before.before.before.before.before in
-    rw (widened b.args.value b.ranges.value.fits) at c.before.before.put-i64.ensures
+    rw (widened b.args.value b.ranges.value.fits) at c.before.before.put_i64.ensures
 
-pub put-u32-spec : {M : Type 1} → statement M
-put-u32-spec = tie.close (tie.spec cast-put-i64 put-i64-requires same_length returns)
+pub put_u32_spec : {M : Type 1} → statement M
+put_u32_spec =
+    tie.close
+    (tie.spec
+    overflow_cast-value
+    put_i64-requires
+    shape_of-out
+    returns)

@@ -10,37 +10,44 @@ use Rattle.fields.proofs.wide_field.Statement.{statement}
 use Rattle.fields.proofs.wide_field.Tie as tie
 
 -- the places on the way
-abbrev known : tie.After-shared-slice-known2 → tie.Start
+abbrev known : tie.After-shared_slice_known-2-1 → tie.Start
 known c = c.before.before
 
-abbrev start : tie.After-has-key → tie.Start
+abbrev start : tie.After-has_key → tie.Start
 start c = known c.before
 
-has-key-requires : tie.Need-has-key-requires
-has-key-requires c κs = (known c).requires
+has_key-requires : tie.Need-has_key-requires
+has_key-requires c κs = (known c).requires
 
 -- the key is there, or it is not
-stands : (c : tie.Then1) → let a = (start c.before).args in starts_with a.key.now (drop a.at a.s.now) ≡ true
-stands c = sym c.before.has_key_lem.ensures ∙ c.if1.true
+stands : (c : tie.Then-has_key) → let a = (start c.before).args in starts_with a.key.now (drop a.at a.s.now) ≡ true
+stands c = sym c.before.has_key.ensures ∙ c.if-has_key.true
 
-fails : (c : tie.Else1) → let a = (start c.before).args in starts_with a.key.now (drop a.at a.s.now) ≡ false
-fails c = sym c.before.has_key_lem.ensures ∙ c.if1.false
+fails : (c : tie.Else-has_key) → let a = (start c.before).args in starts_with a.key.now (drop a.at a.s.now) ≡ false
+fails c = sym c.before.has_key.ensures ∙ c.if-has_key.false
 
-add-read-wide : tie.Need-overflow-add-read-wide
-add-read-wide c =
+overflow_add-at : tie.Need-overflow_add-at
+overflow_add-at c =
     let a = (start c.before).args in
     omega (arith, starts_room a.key.now (drop a.at a.s.now) (stands c), length-drop a.at a.s.now)
 
-read-wide-requires : tie.Need-read-wide-requires
-read-wide-requires c κs = tt
+read_wide-requires : tie.Need-read_wide-requires
+read_wide-requires c κs = tt
 
-returns : tie.Need-returns
+returns-then-has_key : tie.Need-returns-then-has_key
 unfolding number_field widened
-returns c = rw (stands c.before) c.read_wide.ensures
+returns-then-has_key c = rw (stands c.before) c.read_wide.ensures
 
-returns-2 : tie.Need-returns-2
+returns-else-has_key : tie.Need-returns-else-has_key
 unfolding number_field widened
-returns-2 c = rw (fails c)
+returns-else-has_key c = rw (fails c)
 
-pub wide-field-spec : {M : Type 1} → statement M
-wide-field-spec = tie.close (tie.spec has-key-requires add-read-wide read-wide-requires returns returns-2)
+pub wide_field_spec : {M : Type 1} → statement M
+wide_field_spec =
+    tie.close
+    (tie.spec
+    has_key-requires
+    overflow_add-at
+    read_wide-requires
+    returns-then-has_key
+    returns-else-has_key)
