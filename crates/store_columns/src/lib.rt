@@ -2,7 +2,8 @@
 // zeroed.
 #![tactic(auto)]
 
-ghost use Rattle.std.specs.Prelude.{◌≡◌, ℕ, ◌+◌, ◌-◌, ◌<◌, ◌≤◌, ◌&&◌, ltb, List, [], ◌∷◌, length, replicate, pos, ◌==◌, nat_eq, nat_le, nat_lt};
+ghost use Rattle.std.specs.Prelude.{◌≡◌, ℕ, ◌+◌, ◌-◌, ◌<◌, ◌≤◌, ◌&&◌, ltb, List};
+ghost use Rattle.std.specs.Prelude.{[], ◌∷◌, length, replicate, pos, ◌==◌, nat_eq, nat_le, nat_lt};
 ghost use Rattle.std.proofs.lemmas.List.Edits.{sets};
 ghost use Rattle.journal.specs.Kinds.{letter_t};
 ghost use Rattle.store.specs.Sizes.{readings_per_line};
