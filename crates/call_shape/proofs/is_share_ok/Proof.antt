@@ -5,16 +5,20 @@ use Rattle.call_shape.specs.Lent.{share_ok}
 use Rattle.call_shape.proofs.is_share_ok.Statement.{statement}
 use Rattle.call_shape.proofs.is_share_ok.Tie as tie
 
-are-readings-requires : tie.Need-are-readings-requires
-are-readings-requires c κs = (omega arith, omega arith, record { exponent = 6; is = refl })
+are_readings-requires : tie.Need-are_readings-requires
+are_readings-requires c κs = (omega arith, omega arith, record { exponent = 6; is = refl })
 
-ids-rise-requires : tie.Need-ids-rise-requires
-ids-rise-requires c κs = (omega arith, omega arith)
+ids_rise-requires : tie.Need-ids_rise-requires
+ids_rise-requires c κs = (omega arith, omega arith)
 
 returns : tie.Need-returns
 unfolding share_ok
 returns c = cc
 
-pub is-share-ok-spec : {M : Type 1} → statement M
-is-share-ok-spec =
-    tie.close (tie.spec are-readings-requires ids-rise-requires returns)
+pub is_share_ok_spec : {M : Type 1} → statement M
+is_share_ok_spec =
+    tie.close
+    (tie.spec
+    are_readings-requires
+    ids_rise-requires
+    returns)

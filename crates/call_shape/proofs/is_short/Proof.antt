@@ -6,8 +6,8 @@ use Rattle.call_shape.proofs.Short.{some_column_short}
 use Rattle.call_shape.proofs.is_short.Statement.{statement}
 use Rattle.call_shape.proofs.is_short.Tie as tie
 
-mul-n : tie.Need-overflow-mul-n
-mul-n c = search rules
+overflow_mul-n : tie.Need-overflow_mul-n
+overflow_mul-n c = search rules
 
 returns : tie.Need-returns
 returns c =
@@ -16,5 +16,9 @@ returns c =
     (some_column_short a.lines
     (columns_of a.ids.now a.times.now a.values.now a.arrivals.now a.kinds.now a.meters.now))
 
-pub is-short-spec : {M : Type 1} → statement M
-is-short-spec = tie.close (tie.spec mul-n returns)
+pub is_short_spec : {M : Type 1} → statement M
+is_short_spec =
+    tie.close
+    (tie.spec
+    overflow_mul-n
+    returns)
