@@ -165,12 +165,12 @@ module _
   shape : StateShape st x
   shape = state_facts st x (state_in_shape_lem st lent passed.shape)
 
-  on_line : InputOn st.settings (view st x) k (kind_of k.kind)
-  on_line = input_done st.settings (view st x) k (kind_of k.kind) (line_passed st.settings (view st x) k ok) named
+  on_named_line : InputOn st.settings (view st x) k (kind_of k.kind)
+  on_named_line = input_done st.settings (view st x) k (kind_of k.kind) (line_passed st.settings (view st x) k ok) named
 
   -- the line that it names is one of those that there are
   line_last : k.line - 1 < st.settings.lines
-  line_last = omega (arith, on_line.0)
+  line_last = omega (arith, on_named_line.0)
 
   pub line_below : k.line - 1 < max_lines
   line_below = omega (arith, line_last, (limits_hold st.settings shape.limits).lines)
@@ -238,4 +238,4 @@ module _
           ← put_columns_line st x fitted (k.line - 1) line_last (on_line k kind) (input (view st x) k kind).node refl small,
         )
         (rw (with_same lent.sent passed.sent, acknowledged_stay st x kept) at
-        (sym (called_laid st lent area k ok (input (view st x) k kind) on_line.1)))
+        (sym (called_laid st lent area k ok (input (view st x) k kind) on_named_line.1)))
