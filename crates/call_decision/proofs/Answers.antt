@@ -7,10 +7,9 @@ use borrow.Author.Tests.{ne_eqb, eqb-true}
 use lib.Dec.{eqb}
 use Rattle.journal.specs.declared.Call.{Call}
 use Rattle.journal.specs.declared.CallRead.{CallRead}
-use Rattle.journal.specs.declared.CallRead.TheVariants as CallRead
 use Rattle.journal.specs.JournalLine.{call_answer}
 use Rattle.journal.specs.ReadLine.{call_of}
-use lib.ListN.{length, take}
+use lib.ListN.{length, replicate, take, length-replicate}
 use Rattle.settings.specs.Limits.{max_lines}
 use Rattle.store.specs.Sizes.{readings_per_line}
 use Rattle.store.specs.Lists.{Every}
@@ -26,9 +25,9 @@ use Rattle.node.specs.Calls.{host_tests, refused_with, called_with, called_on}
 use Rattle.node.proofs.Limits.{limits_hold}
 use Rattle.node.proofs.Shape.{HeadShape, InShape, in_shape_facts, state_in_shape_lem, displays_in_shape}
 use Rattle.node.proofs.Calls.{HostPassed, host_passed}
+use Rattle.call_decision.specs.Stores.{StepOf}
 use Rattle.call_decision.specs.Deciding.{decided_with, decided_on}
 use Rattle.call_decision.specs.declared.Decision.{Decision}
-use Rattle.call_decision.specs.declared.Decision.TheVariants as Decision
 
 -- what the call's tests ask of state and stores
 pub record RefusalReady (st : Held) (x : Lent) : Type 0 where
@@ -51,6 +50,24 @@ refusal_ready st x area e =
       shape = state_in_shape_lem st x h.shape;
       displays = displays_in_shape st x h.shape;
       small = every_to (take st.settings.lines st.heads) (λ (h : LineHead) (v : HeadShape h). v.kept) f.heads;
+    }
+
+-- where no test of the host's fails on any area of a length: there is such an area
+pub ready_by_room :
+    (st : Held) (x : Lent) (room : ℕ) → ((area : List ℕ) → length area ≡ room → first_failed (host_tests st x area) ≡ 0) →
+    RefusalReady st x
+ready_by_room st x room passed =
+    let area : List ℕ = replicate room 0 in refusal_ready st x area (passed area (length-replicate room 0))
+
+-- and the store is one that a step can be done on
+pub step_of :
+    (st : Held) (x : Lent) → RefusalReady st x →
+    StepOf st x.readings.times x.readings.values x.readings.arrivals x.readings.meters x.readings
+unfolding places
+step_of st x r =
+    record {
+      work = record { of_times = refl; of_values = refl; of_meters = refl; room = r.room; shape = r.shape };
+      of_arrivals = refl;
     }
 
 -- ---- each way out is what is decided

@@ -3,21 +3,16 @@
 use Prim.Native.Nat.{ℕ, ◌-◌, ◌≤◌}
 use mathlib.Core.Path.{◌≡◌, refl, sym, ◌∙◌, ap, ap₂}
 use mathlib.Core.Bool.{Bool, true, false, ◌&&◌}
-use mathlib.Core.List.{[], ◌∷◌}
 use native.Mathlib.Omega.{arith}
 use borrow.Author.Tests.{le-ltb}
 use lib.Dec.{ltb}
 use lib.ListN.{length, take}
-use types.Run.{OneOf, miss}
-use denote.Enum.Declared.{tag_of}
 use Rattle.clock.specs.declared.ArrivalTick.{ArrivalTick}
 use Rattle.journal.specs.Kinds.{letter_s}
 use Rattle.store.specs.Columns.{Columns}
 use Rattle.retransmission.specs.Sizes.{held_results}
 use Rattle.operator.specs.Meters.{meter_count}
-use Rattle.protocol.specs.contracts.Rule as rule
 use Rattle.protocol.specs.declared.Rule.{Rule}
-use Rattle.protocol.specs.declared.Rule.TheVariants as Rule
 use Rattle.protocol.specs.Rules.{rule_of, worked}
 use Rattle.protocol.specs.Kinds.{Kind, is_step}
 use Rattle.protocol.specs.Displays.{least_of, given_up_to, free_places, lacks_places}
@@ -47,10 +42,10 @@ module _ (st : Held) (x : Columns) where
   room_left all room Rule.Idle = refl
 
   -- a rule that is not the second
-  pub other_rule : (r : Rule) → OneOf (0 ∷ 2 ∷ 3 ∷ 4 ∷ []) (tag_of rule.the_type r) → lacks_places st.settings (view st x) r ≡ false
+  pub other_rule : (r : Rule) → (r ≡ Rule.WorkStable → ⊥) → lacks_places st.settings (view st x) r ≡ false
   unfolding lacks_places
   other_rule Rule.Withdraw h = refl
-  other_rule Rule.WorkStable h = absurd (miss (0 ∷ 2 ∷ 3 ∷ 4 ∷ []) 1 tt h)
+  other_rule Rule.WorkStable h = absurd (h refl)
   other_rule Rule.EndCorrection h = refl
   other_rule Rule.WorkTentative h = refl
   other_rule Rule.Idle h = refl

@@ -2,14 +2,12 @@
 -- whom').
 use Rattle.std.specs.Prelude.{ℕ, cond, List, eqb}
 use Rattle.journal.specs.declared.CallRead.{CallRead}
-use Rattle.journal.specs.declared.CallRead.TheVariants as CallRead
 use Rattle.journal.specs.JournalLine.{call_answer}
 use Rattle.protocol.specs.Refusals.{first_failed, answer_to}
 use Rattle.node.specs.Held.{Held}
 use Rattle.node.specs.View.{Lent, view}
 use Rattle.node.specs.Calls.{host_tests}
 use Rattle.call_decision.specs.declared.Decision.{Decision}
-use Rattle.call_decision.specs.declared.Decision.TheVariants as Decision
 
 -- refusal 6, then 7 to 15
 unfoldable pub decided_with : Held → Lent → CallRead → Decision
