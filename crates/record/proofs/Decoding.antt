@@ -1,17 +1,15 @@
 -- Bytes are read exactly: as a record if they are that record's bytes and its kind is one that records have, and else as none.
 -- By the one test of the form: where it holds the fields are there and back, where it fails nothing is read.
 use mathlib.Core.Path.{◌≡◌, refl, sym, ap, subst, ◌∙◌}
-use mathlib.Core.Bool.{true, false, ◌&&◌, and-eq-true_iff}
+use mathlib.Core.Bool.{true, false, and-eq-true_iff}
 use mathlib.Core.List.{List}
 use Prim.Native.Nat.{ℕ}
 use native.Mathlib.Omega.{arith}
-use lib.Dec.{eqb}
 use lib.ListN.{length, get_or}
 use borrow.Author.Tests.{eqb-true}
 use Rattle.endian.proofs.LittleEndian.{AreBytes}
 use Rattle.record.specs.declared.Record.{Record}
 use Rattle.record.specs.declared.Decoded.{Decoded}
-use Rattle.record.specs.declared.Decoded.TheVariants as Decoded
 use Rattle.record.specs.Kinds.{is_record}
 use Rattle.record.specs.Layout.{bytes_of}
 use Rattle.record.specs.Fields.{fields_of}

@@ -8,7 +8,6 @@ use Rattle.record.specs.Within.{Within}
 use Rattle.record.specs.Fields.{fields_of}
 use Rattle.record.specs.declared.Record.{Record}
 use Rattle.record.specs.declared.Decoded.{Decoded}
-use Rattle.record.specs.declared.Decoded.TheVariants as Decoded
 
 -- 32 bytes, of a kind that records have, with both zero bytes zero
 unfoldable pub is_well_formed : List ℕ → Bool

@@ -15,13 +15,13 @@ use Rattle.record.proofs.fields_of.Tie as tie
 abbrev start : tie.After-signed64 → tie.Start
 start c = c.before.before.before
 
-abbrev summed : tie.After-get43 → tie.After-signed64
+abbrev summed : tie.After-get4-3 → tie.After-signed64
 summed c = c.before.before.before
 
-abbrev counted : tie.After-signed32 → tie.After-get43
+abbrev counted : tie.After-signed32 → tie.After-get4-3
 counted c = c.before.before
 
-abbrev averaged : tie.After-signed322 → tie.After-signed32
+abbrev averaged : tie.After-signed32-2 → tie.After-signed32
 averaged c = c.before.before
 
 -- the signed numbers
@@ -39,15 +39,15 @@ mean_read :
 unfolding word_at
 mean_read c =
     let fits : SFits w32 c.signed32.result = search rules in
-    to_z-of_z fits ∙ c.signed32.ensures ∙ ap (signed_of 32) c.before.get44.ensures
+    to_z-of_z fits ∙ c.signed32.ensures ∙ ap (signed_of 32) c.before.get4-4.ensures
 
 last_read :
-    (c : tie.After-signed322) →
-    to_z w32 (of_z w32 c.signed322.result) ≡ signed_of 32 (word_at 28 4 (start (summed (counted (averaged c)))).args.bytes.now)
+    (c : tie.After-signed32-2) →
+    to_z w32 (of_z w32 c.signed32-2.result) ≡ signed_of 32 (word_at 28 4 (start (summed (counted (averaged c)))).args.bytes.now)
 unfolding word_at
 last_read c =
-    let fits : SFits w32 c.signed322.result = search rules in
-    to_z-of_z fits ∙ c.signed322.ensures ∙ ap (signed_of 32) c.before.get45.ensures
+    let fits : SFits w32 c.signed32-2.result = search rules in
+    to_z-of_z fits ∙ c.signed32-2.ensures ∙ ap (signed_of 32) c.before.get4-5.ensures
 
 get8-requires : tie.Need-get8-requires
 get8-requires c κs = room_within refl refl c.before.requires
@@ -76,11 +76,11 @@ get4-requires-5 c κs = room_within refl refl (start (summed (counted c))).requi
 signed32-requires-2 : tie.Need-signed32-requires-2
 signed32-requires-2 c κs = tt
 
-shared-slice-read-t13 : tie.Need-shared-slice-read-t13
-shared-slice-read-t13 c = room_within refl refl (start (summed (counted (averaged c.before)))).requires
+bounds-bytes-0 : tie.Need-bounds-bytes-0
+bounds-bytes-0 c = room_within refl refl (start (summed (counted (averaged c.before)))).requires
 
-shared-slice-read-t15 : tie.Need-shared-slice-read-t15
-shared-slice-read-t15 c = room_within refl refl (start (summed (counted (averaged c.before.before)))).requires
+bounds-bytes-1 : tie.Need-bounds-bytes-1
+bounds-bytes-1 c = room_within refl refl (start (summed (counted (averaged c.before.before)))).requires
 
 returns : tie.Need-returns
 unfolding fields_of word_at
@@ -93,16 +93,16 @@ returns c =
     λ i. record {
       sum = sum_read s i;
       id = n.before.before.get4.ensures i;
-      time = record { 0 = n.before.get42.ensures i };
-      count = n.get43.ensures i;
+      time = record { 0 = n.before.get4-2.ensures i };
+      count = n.get4-3.ensures i;
       mean = mean_read m i;
       last = last_read l i;
       kind = get_or bytes 0 0;
       meter = get_or bytes 1 0;
     }
 
-pub fields-of-spec : {M : Type 1} → statement M
-fields-of-spec =
+pub fields_of_spec : {M : Type 1} → statement M
+fields_of_spec =
     tie.close
     (tie.spec
     get8-requires
@@ -114,6 +114,6 @@ fields-of-spec =
     signed32-requires
     get4-requires-5
     signed32-requires-2
-    shared-slice-read-t13
-    shared-slice-read-t15
+    bounds-bytes-0
+    bounds-bytes-1
     returns)

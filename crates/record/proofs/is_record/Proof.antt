@@ -4,12 +4,16 @@ use borrow.Author.Rules.{rules}
 use Rattle.record.proofs.is_record.Statement.{statement}
 use Rattle.record.proofs.is_record.Tie as tie
 
-is-result-requires : tie.Need-is-result-requires
-is-result-requires c κs = search rules
+is_result-requires : tie.Need-is_result-requires
+is_result-requires c κs = search rules
 
 returns : tie.Need-returns
 unfolding is_record
 returns c = cc
 
-pub is-record-spec : {M : Type 1} → statement M
-is-record-spec = tie.close (tie.spec is-result-requires returns)
+pub is_record_spec : {M : Type 1} → statement M
+is_record_spec =
+    tie.close
+    (tie.spec
+    is_result-requires
+    returns)

@@ -8,5 +8,8 @@ returns : tie.Need-returns
 unfolding is_stable
 returns c = refl
 
-pub is-stable-spec : {M : Type 1} → statement M
-is-stable-spec = tie.close (tie.spec returns)
+pub is_stable_spec : {M : Type 1} → statement M
+is_stable_spec =
+    tie.close
+    (tie.spec
+    returns)

@@ -8,5 +8,8 @@ returns : tie.Need-returns
 unfolding is_tentative
 returns c = refl
 
-pub is-tentative-spec : {M : Type 1} → statement M
-is-tentative-spec = tie.close (tie.spec returns)
+pub is_tentative_spec : {M : Type 1} → statement M
+is_tentative_spec =
+    tie.close
+    (tie.spec
+    returns)

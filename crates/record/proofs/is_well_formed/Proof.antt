@@ -6,35 +6,35 @@ use borrow.Author.Rules.{rules}
 use Rattle.record.proofs.is_well_formed.Statement.{statement}
 use Rattle.record.proofs.is_well_formed.Tie as tie
 
+returns-then-bytes-ne-RECORD_BYTES : tie.Need-returns-then-bytes-ne-RECORD_BYTES
+unfolding is_well_formed
+returns-then-bytes-ne-RECORD_BYTES c = simp (ne_eqb (length c.before.before.args.bytes.now) 32 c.if-bytes-ne-RECORD_BYTES.true)
+
+bounds-bytes-0 : tie.Need-bounds-bytes-0
+bounds-bytes-0 c = search rules
+
+is_record-requires : tie.Need-is_record-requires
+is_record-requires c κs = search rules
+
+bounds-bytes-2 : tie.Need-bounds-bytes-2
+bounds-bytes-2 c = search rules
+
+bounds-bytes-3 : tie.Need-bounds-bytes-3
+bounds-bytes-3 c = search rules
+
 returns : tie.Need-returns
 unfolding is_well_formed
-returns c = simp (ne_eqb (length c.before.before.args.bytes.now) 32 c.if1.true)
-
-shared-slice-read-is-record : tie.Need-shared-slice-read-is-record
-shared-slice-read-is-record c = search rules
-
-is-record-requires : tie.Need-is-record-requires
-is-record-requires c κs = search rules
-
-shared-slice-read-result : tie.Need-shared-slice-read-result
-shared-slice-read-result c = search rules
-
-shared-slice-read-result-2 : tie.Need-shared-slice-read-result-2
-shared-slice-read-result-2 c = search rules
-
-returns-2 : tie.Need-returns-2
-unfolding is_well_formed
-returns-2 c =
+returns c =
     let whole = c.before.before.before.before in
-    simp (eq-eqb (length whole.before.before.args.bytes.now) 32 whole.if1.false, c.before.before.is_record.ensures)
+    simp (eq-eqb (length whole.before.before.args.bytes.now) 32 whole.if-bytes-ne-RECORD_BYTES.false, c.before.before.is_record.ensures)
 
-pub is-well-formed-spec : {M : Type 1} → statement M
-is-well-formed-spec =
+pub is_well_formed_spec : {M : Type 1} → statement M
+is_well_formed_spec =
     tie.close
     (tie.spec
-    returns
-    shared-slice-read-is-record
-    is-record-requires
-    shared-slice-read-result
-    shared-slice-read-result-2
-    returns-2)
+    returns-then-bytes-ne-RECORD_BYTES
+    bounds-bytes-0
+    is_record-requires
+    bounds-bytes-2
+    bounds-bytes-3
+    returns)

@@ -8,5 +8,8 @@ returns : tie.Need-returns
 unfolding marker
 returns c = refl
 
-pub marker-spec : {M : Type 1} → statement M
-marker-spec = tie.close (tie.spec returns)
+pub marker_spec : {M : Type 1} → statement M
+marker_spec =
+    tie.close
+    (tie.spec
+    returns)

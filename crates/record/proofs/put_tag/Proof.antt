@@ -7,32 +7,32 @@ use borrow.Author.Rules.{rules}
 use Rattle.record.proofs.put_tag.Statement.{statement}
 use Rattle.record.proofs.put_tag.Tie as tie
 
-slice-write-out : tie.Need-slice-write-out
-slice-write-out c = search rules
+bounds-out-0 : tie.Need-bounds-out-0
+bounds-out-0 c = search rules
 
-slice-write-out-2 : tie.Need-slice-write-out-2
-slice-write-out-2 c = simp length-set (omega arith)
+bounds-out-1 : tie.Need-bounds-out-1
+bounds-out-1 c = simp length-set (omega arith)
 
-slice-write-out-3 : tie.Need-slice-write-out-3
-slice-write-out-3 c = simp length-set (omega arith)
+bounds-out-2 : tie.Need-bounds-out-2
+bounds-out-2 c = simp length-set (omega arith)
 
-slice-write-out-4 : tie.Need-slice-write-out-4
-slice-write-out-4 c = search rules
+bounds-out-3 : tie.Need-bounds-out-3
+bounds-out-3 c = search rules
 
-same_length : tie.Need-same-length
-same_length c = search rules
+shape_of-out : tie.Need-shape_of-out
+shape_of-out c = search rules
 
 returns : tie.Need-returns
 unfolding laid
 returns c = refl
 
-pub put-tag-spec : {M : Type 1} → statement M
-put-tag-spec =
+pub put_tag_spec : {M : Type 1} → statement M
+put_tag_spec =
     tie.close
     (tie.spec
-    slice-write-out
-    slice-write-out-2
-    slice-write-out-3
-    slice-write-out-4
-    same_length
+    bounds-out-0
+    bounds-out-1
+    bounds-out-2
+    bounds-out-3
+    shape_of-out
     returns)
