@@ -11,4 +11,7 @@ unfolding heads_of heads_from head_at head_of no_line
 returns c = refl
 
 pub clear_spec : {M : Type 1} → statement M
-clear_spec = tie.close (tie.spec returns)
+clear_spec =
+    tie.close
+    (tie.spec
+    returns)

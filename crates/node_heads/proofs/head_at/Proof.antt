@@ -7,41 +7,41 @@ use Rattle.node.specs.Held.{head_numbers, head_at}
 use Rattle.node_heads.proofs.head_at.Statement.{statement}
 use Rattle.node_heads.proofs.head_at.Tie as tie
 
-mul_at : tie.Need-overflow-mul-at
-mul_at c = search rules
+overflow_mul-at : tie.Need-overflow_mul-at
+overflow_mul-at c = search rules
 
-mul-t4 : tie.Need-overflow-mul-t4
-mul-t4 c = search rules
+offset_bounds-heads-at : tie.Need-offset_bounds-heads-at
+offset_bounds-heads-at c = search rules
 
-element-copy-out-t7 : tie.Need-element-copy-out-t7
-element-copy-out-t7 c = search rules
+bounds-heads-at : tie.Need-bounds-heads-at
+bounds-heads-at c = search rules
 
-add-t9 : tie.Need-overflow-add-t9
-add-t9 c = search rules
+overflow_add-result : tie.Need-overflow_add-result
+overflow_add-result c = search rules
 
-mul-t10 : tie.Need-overflow-mul-t10
-mul-t10 c = search rules
+offset_bounds-heads-at-2 : tie.Need-offset_bounds-heads-at-2
+offset_bounds-heads-at-2 c = search rules
 
-element-copy-out-t13 : tie.Need-element-copy-out-t13
-element-copy-out-t13 c = search rules
+bounds-heads-at-2 : tie.Need-bounds-heads-at-2
+bounds-heads-at-2 c = search rules
 
-add-t14 : tie.Need-overflow-add-t14
-add-t14 c = search rules
+overflow_add-result-2 : tie.Need-overflow_add-result-2
+overflow_add-result-2 c = search rules
 
-mul-t15 : tie.Need-overflow-mul-t15
-mul-t15 c = search rules
+offset_bounds-heads-at-3 : tie.Need-offset_bounds-heads-at-3
+offset_bounds-heads-at-3 c = search rules
 
-element-copy-out-t18 : tie.Need-element-copy-out-t18
-element-copy-out-t18 c = search rules
+bounds-heads-at-3 : tie.Need-bounds-heads-at-3
+bounds-heads-at-3 c = search rules
 
-add-t19 : tie.Need-overflow-add-t19
-add-t19 c = search rules
+overflow_add-result-3 : tie.Need-overflow_add-result-3
+overflow_add-result-3 c = search rules
 
-mul-t20 : tie.Need-overflow-mul-t20
-mul-t20 c = search rules
+offset_bounds-heads-at-4 : tie.Need-offset_bounds-heads-at-4
+offset_bounds-heads-at-4 c = search rules
 
-element-copy-out-t23 : tie.Need-element-copy-out-t23
-element-copy-out-t23 c = search rules
+bounds-heads-at-4 : tie.Need-bounds-heads-at-4
+bounds-heads-at-4 c = search rules
 
 returns : tie.Need-returns
 unfolding head_at
@@ -50,20 +50,20 @@ returns c =
     let e : a.i * head_numbers ≡ head_numbers * a.i = omega arith in
     rw e
 
-pub head-at-spec : {M : Type 1} → statement M
-head-at-spec =
+pub head_at_spec : {M : Type 1} → statement M
+head_at_spec =
     tie.close
     (tie.spec
-    mul_at
-    mul-t4
-    element-copy-out-t7
-    add-t9
-    mul-t10
-    element-copy-out-t13
-    add-t14
-    mul-t15
-    element-copy-out-t18
-    add-t19
-    mul-t20
-    element-copy-out-t23
+    overflow_mul-at
+    offset_bounds-heads-at
+    bounds-heads-at
+    overflow_add-result
+    offset_bounds-heads-at-2
+    bounds-heads-at-2
+    overflow_add-result-2
+    offset_bounds-heads-at-3
+    bounds-heads-at-3
+    overflow_add-result-3
+    offset_bounds-heads-at-4
+    bounds-heads-at-4
     returns)

@@ -16,71 +16,71 @@ use Rattle.node_heads.proofs.Heads.{length_heads, kept_at}
 use Rattle.node_heads.proofs.kept_of.Statement.{statement}
 use Rattle.node_heads.proofs.kept_of.Tie as tie
 
-abbrev invariant-loop : tie.invariant-loop
-invariant-loop heads kept₀ i₀ kept i =
+abbrev invariant-loop-i : tie.invariant-loop-i
+invariant-loop-i heads kept₀ i₀ kept i =
     (i ≤ max_lines) × (length kept ≡ max_lines) × (take i kept ≡ map (λ (h : LineHead). h.kept) (take i (heads_of heads)))
 
-abbrev decreases-loop : tie.decreases-loop
-decreases-loop heads kept₀ i₀ kept i = max_lines - i
+abbrev decreases-loop-i : tie.decreases-loop-i
+decreases-loop-i heads kept₀ i₀ kept i = max_lines - i
 
-loop-holds : tie.Need-loop-init invariant-loop decreases-loop
-loop-holds c = (omega arith, search rules, refl)
+loop-i-init : tie.Need-loop-i-init invariant-loop-i decreases-loop-i
+loop-i-init c = (omega arith, search rules, refl)
 
-mul-kept : tie.Need-overflow-mul-kept invariant-loop decreases-loop
-mul-kept c = omega arith
+overflow_mul-kept : tie.Need-overflow_mul-kept invariant-loop-i decreases-loop-i
+overflow_mul-kept c = omega arith
 
-add_kept : tie.Need-overflow-add-kept invariant-loop decreases-loop
-add_kept c = omega arith
+overflow_add-kept : tie.Need-overflow_add-kept invariant-loop-i decreases-loop-i
+overflow_add-kept c = omega arith
 
-mul-kept-2 : tie.Need-overflow-mul-kept-2 invariant-loop decreases-loop
-mul-kept-2 c = omega arith
+offset_bounds-heads-i : tie.Need-offset_bounds-heads-i invariant-loop-i decreases-loop-i
+offset_bounds-heads-i c = omega arith
 
-element-copy-out-kept : tie.Need-element-copy-out-kept invariant-loop decreases-loop
-element-copy-out-kept c = omega arith
+bounds-heads-i : tie.Need-bounds-heads-i invariant-loop-i decreases-loop-i
+bounds-heads-i c = omega arith
 
-mul-kept-3 : tie.Need-overflow-mul-kept-3 invariant-loop decreases-loop
-mul-kept-3 c = omega arith
+offset_bounds-kept-i : tie.Need-offset_bounds-kept-i invariant-loop-i decreases-loop-i
+offset_bounds-kept-i c = omega arith
 
-array-write-kept : tie.Need-array-write-kept invariant-loop decreases-loop
-array-write-kept c = omega arith
+bounds-kept-i : tie.Need-bounds-kept-i invariant-loop-i decreases-loop-i
+bounds-kept-i c = omega arith
 
-add-i : tie.Need-overflow-add-i invariant-loop decreases-loop
-add-i c = omega arith
+overflow_add-i : tie.Need-overflow_add-i invariant-loop-i decreases-loop-i
+overflow_add-i c = omega arith
 
-loop-less : tie.Need-loop-smaller invariant-loop decreases-loop
-loop-less c = omega arith
+loop-i-smaller : tie.Need-loop-i-smaller invariant-loop-i decreases-loop-i
+loop-i-smaller c = omega arith
 
-loop-again : tie.Need-loop-preserved invariant-loop decreases-loop
-loop-again c =
-    let l = c.before.before.loop in
+loop-i-preserved : tie.Need-loop-i-preserved invariant-loop-i decreases-loop-i
+loop-i-preserved c =
+    let l = c.before.before.loop-i in
     let ns = c.before.before.before.args.heads.now in
     rw (add-one, sym (kept_at ns l.i (omega arith))) (
       omega arith,
-      length-set l.auto l.i _ ∙ l.invariant.1,
-      filled_more (λ (h : LineHead). h.kept) (heads_of ns) l.auto l.i l.invariant.2 (head_of no_line) (omega (arith, length_heads ns))
+      length-set l.kept l.i _ ∙ l.invariant.1,
+      filled_more (λ (h : LineHead). h.kept) (heads_of ns) l.kept l.i l.invariant.2 (head_of no_line) (omega (arith, length_heads ns))
           (omega arith),
     )
 
-returns : tie.Need-returns invariant-loop decreases-loop
+returns : tie.Need-returns invariant-loop-i decreases-loop-i
 returns c =
-    let l = c.before.loop in
+    let l = c.before.loop-i in
     let ns = c.before.before.args.heads.now in
-    filled_all (λ (h : LineHead). h.kept) (heads_of ns) l.auto l.i l.invariant.2 (omega (arith, length_heads ns)) (omega arith)
+    filled_all (λ (h : LineHead). h.kept) (heads_of ns) l.kept l.i l.invariant.2 (omega (arith, length_heads ns)) (omega arith)
 
-pub kept-of-spec : {M : Type 1} → statement M
-kept-of-spec =
+pub kept_of_spec : {M : Type 1} → statement M
+kept_of_spec =
     tie.close
     (tie.spec
-    invariant-loop
-    decreases-loop
-    loop-holds
-    mul-kept
-    add_kept
-    mul-kept-2
-    element-copy-out-kept
-    mul-kept-3
-    array-write-kept
-    add-i
-    loop-less
-    loop-again
+    invariant-loop-i
+    decreases-loop-i
+    loop-i-init
+    overflow_mul-kept
+    overflow_add-kept
+    offset_bounds-heads-i
+    bounds-heads-i
+    offset_bounds-kept-i
+    bounds-kept-i
+    overflow_add-i
+    loop-i-smaller
+    loop-i-preserved
     returns)

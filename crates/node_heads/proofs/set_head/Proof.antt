@@ -6,61 +6,61 @@ use Rattle.node_heads.proofs.Laying.{head_laid_lem}
 use Rattle.node_heads.proofs.set_head.Statement.{statement}
 use Rattle.node_heads.proofs.set_head.Tie as tie
 
-mul_at : tie.Need-overflow-mul-at
-mul_at c = search rules
+overflow_mul-at : tie.Need-overflow_mul-at
+overflow_mul-at c = search rules
 
-mul-all : tie.Need-overflow-mul-all
-mul-all c = search rules
+offset_bounds-all-at : tie.Need-offset_bounds-all-at
+offset_bounds-all-at c = search rules
 
-slice-write-all : tie.Need-slice-write-all
-slice-write-all c = search rules
+bounds-all-at : tie.Need-bounds-all-at
+bounds-all-at c = search rules
 
-add-all : tie.Need-overflow-add-all
-add-all c = search rules
+overflow_add-all : tie.Need-overflow_add-all
+overflow_add-all c = search rules
 
-mul-all-2 : tie.Need-overflow-mul-all-2
-mul-all-2 c = search rules
+offset_bounds-all-at-2 : tie.Need-offset_bounds-all-at-2
+offset_bounds-all-at-2 c = search rules
 
-slice-write-all-2 : tie.Need-slice-write-all-2
-slice-write-all-2 c = simp length-set (omega (arith, c.all.given.0.1))
+bounds-all-at-2 : tie.Need-bounds-all-at-2
+bounds-all-at-2 c = simp length-set (omega (arith, c.all-1.given.0.1))
 
-add-all-2 : tie.Need-overflow-add-all-2
-add-all-2 c = search rules
+overflow_add-all-2 : tie.Need-overflow_add-all-2
+overflow_add-all-2 c = search rules
 
-mul-all-3 : tie.Need-overflow-mul-all-3
-mul-all-3 c = search rules
+offset_bounds-all-at-3 : tie.Need-offset_bounds-all-at-3
+offset_bounds-all-at-3 c = search rules
 
-slice-write-all-3 : tie.Need-slice-write-all-3
-slice-write-all-3 c = simp length-set (omega (arith, c.all.given.0.1))
+bounds-all-at-3 : tie.Need-bounds-all-at-3
+bounds-all-at-3 c = simp length-set (omega (arith, c.all-1.given.0.1))
 
-add-all-3 : tie.Need-overflow-add-all-3
-add-all-3 c = search rules
+overflow_add-all-3 : tie.Need-overflow_add-all-3
+overflow_add-all-3 c = search rules
 
-mul-all-4 : tie.Need-overflow-mul-all-4
-mul-all-4 c = search rules
+offset_bounds-all-at-4 : tie.Need-offset_bounds-all-at-4
+offset_bounds-all-at-4 c = search rules
 
-slice-write-all-4 : tie.Need-slice-write-all-4
-slice-write-all-4 c = simp length-set (omega (arith, c.all.given.0.1))
+bounds-all-at-4 : tie.Need-bounds-all-at-4
+bounds-all-at-4 c = simp length-set (omega (arith, c.all-1.given.0.1))
 
 returns : tie.Need-returns
 returns c =
     let a = c.before.args in
-    head_laid_lem a.heads.now a.i a.h c.before.requires c.all.given.0.1
+    head_laid_lem a.heads.now a.i a.h c.before.requires c.all-1.given.0.1
 
-pub set-head-spec : {M : Type 1} → statement M
-set-head-spec =
+pub set_head_spec : {M : Type 1} → statement M
+set_head_spec =
     tie.close
     (tie.spec
-    mul_at
-    mul-all
-    slice-write-all
-    add-all
-    mul-all-2
-    slice-write-all-2
-    add-all-2
-    mul-all-3
-    slice-write-all-3
-    add-all-3
-    mul-all-4
-    slice-write-all-4
+    overflow_mul-at
+    offset_bounds-all-at
+    bounds-all-at
+    overflow_add-all
+    offset_bounds-all-at-2
+    bounds-all-at-2
+    overflow_add-all-2
+    offset_bounds-all-at-3
+    bounds-all-at-3
+    overflow_add-all-3
+    offset_bounds-all-at-4
+    bounds-all-at-4
     returns)
