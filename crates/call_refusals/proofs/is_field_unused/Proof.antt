@@ -17,61 +17,67 @@ use Rattle.call_refusals.proofs.is_field_unused.Tie as tie
 -- ---- what is known at the places on the way; each place names the one that it goes back to
 
 -- the fields that no other kind uses, once they are looked at
-abbrev past : tie.After-struct-told → tie.Else1
+abbrev past : tie.After-struct_told-1 → tie.Else-is_reading
 past t = t.before.before.before
 
-abbrev call : tie.After-struct-told → Call
+abbrev call : tie.After-struct_told-1 → Call
 call t = (past t).before.before.args.k
 
-other : (t : tie.After-struct-told) → is_reading_kind (call t).kind ≡ false
-other t = sym (past t).before.is-reading.ensures ∙ (past t).if1.false
+other : (t : tie.After-struct_told-1) → is_reading_kind (call t).kind ≡ false
+other t = sym (past t).before.is_reading.ensures ∙ (past t).if-is_reading.false
 
-value : (t : tie.After-struct-told) → is_zero (call t).value ≡ eqb (of_z w32 (call t).value) 0
+value : (t : tie.After-struct_told-1) → is_zero (call t).value ≡ eqb (of_z w32 (call t).value) 0
 value t =
-    let values = t.struct_told.given in
+    let values = t.struct_told-1.given in
     let fits : SFits w32 (call t).value = search rules in
     zero_bits (call t).value fits
 
 -- a boundary or not
-abbrev seen : tie.Then2 → tie.After-struct-told
+abbrev seen : tie.Then-k-eq-BOUNDARY → tie.After-struct_told-1
 seen b = b.before.before
 
-abbrev looked : tie.Else2 → tie.After-struct-told
+abbrev looked : tie.Else-k-eq-BOUNDARY → tie.After-struct_told-1
 looked e = e.before.before
 
-no_boundary : (e : tie.Else2) → eqb (call (looked e)).kind letter_b ≡ false
-no_boundary e = ne_eqb (call (looked e)).kind letter_b e.if2.false
+no_boundary : (e : tie.Else-k-eq-BOUNDARY) → eqb (call (looked e)).kind letter_b ≡ false
+no_boundary e = ne_eqb (call (looked e)).kind letter_b e.if-k-eq-BOUNDARY.false
 
 -- ---- the needs
 
-is-reading-requires : tie.Need-is-reading-requires
-is-reading-requires c κs = search rules
+is_reading-requires : tie.Need-is_reading-requires
+is_reading-requires c κs = search rules
 
-returns : tie.Need-returns
-returns c =
+returns-then-is_reading : tie.Need-returns-then-is_reading
+returns-then-is_reading c =
     let k = c.before.before.args.k in
-    rw (sym c.before.is-reading.ensures ∙ c.if1.true) at (unused_field_lem k refl k.kind)
+    rw (sym c.before.is_reading.ensures ∙ c.if-is_reading.true) at (unused_field_lem k refl k.kind)
 
-returns-2 : tie.Need-returns-2
-returns-2 c =
+returns-then-k-eq-BOUNDARY : tie.Need-returns-then-k-eq-BOUNDARY
+returns-then-k-eq-BOUNDARY c =
     let t = seen c.before in
     let k = call t in
-    rw (other t, eq-eqb k.kind letter_b c.before.if2.true) at (unused_field_lem k (value t) k.kind)
+    rw (other t, eq-eqb k.kind letter_b c.before.if-k-eq-BOUNDARY.true) at (unused_field_lem k (value t) k.kind)
 
-returns-3 : tie.Need-returns-3
-returns-3 c =
+returns-then-k-eq-UNDO : tie.Need-returns-then-k-eq-UNDO
+returns-then-k-eq-UNDO c =
     let e = c.before.before.before in
     let t = looked e in
     let k = call t in
-    rw (other t, no_boundary e, eq-eqb k.kind letter_u c.before.if3.true) at (unused_field_lem k (value t) k.kind)
+    rw (other t, no_boundary e, eq-eqb k.kind letter_u c.before.if-k-eq-UNDO.true) at (unused_field_lem k (value t) k.kind)
 
-returns-4 : tie.Need-returns-4
-returns-4 c =
+returns : tie.Need-returns
+returns c =
     let e = c.before.before.before.before in
     let t = looked e in
     let k = call t in
-    rw (other t, no_boundary e, ne_eqb k.kind letter_u c.before.before.if3.false) at (unused_field_lem k (value t) k.kind)
+    rw (other t, no_boundary e, ne_eqb k.kind letter_u c.before.before.if-k-eq-UNDO.false) at (unused_field_lem k (value t) k.kind)
 
-pub is-field-unused-spec : {M : Type 1} → statement M
-is-field-unused-spec =
-    tie.close (tie.spec is-reading-requires returns returns-2 returns-3 returns-4)
+pub is_field_unused_spec : {M : Type 1} → statement M
+is_field_unused_spec =
+    tie.close
+    (tie.spec
+    is_reading-requires
+    returns-then-is_reading
+    returns-then-k-eq-BOUNDARY
+    returns-then-k-eq-UNDO
+    returns)

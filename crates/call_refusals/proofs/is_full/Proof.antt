@@ -4,17 +4,22 @@ use Rattle.call_refusals.proofs.Letters.{full}
 use Rattle.call_refusals.proofs.is_full.Statement.{statement}
 use Rattle.call_refusals.proofs.is_full.Tie as tie
 
-is-reading-requires : tie.Need-is-reading-requires
-is-reading-requires c κs = search rules
+is_reading-requires : tie.Need-is_reading-requires
+is_reading-requires c κs = search rules
 
-cast-result : tie.Need-overflow-cast-result
-cast-result c = search rules
+overflow_cast-result : tie.Need-overflow_cast-result
+overflow_cast-result c = search rules
 
 returns : tie.Need-returns
 returns c =
     λ l e.
     let a = c.before.before.args in
-    rw c.before.is-reading.ensures (full l e a.kind)
+    rw c.before.is_reading.ensures (full l e a.kind)
 
-pub is-full-spec : {M : Type 1} → statement M
-is-full-spec = tie.close (tie.spec is-reading-requires cast-result returns)
+pub is_full_spec : {M : Type 1} → statement M
+is_full_spec =
+    tie.close
+    (tie.spec
+    is_reading-requires
+    overflow_cast-result
+    returns)

@@ -8,5 +8,8 @@ returns : tie.Need-returns
 unfolding is_reading_kind
 returns c = refl
 
-pub is-reading-spec : {M : Type 1} → statement M
-is-reading-spec = tie.close (tie.spec returns)
+pub is_reading_spec : {M : Type 1} → statement M
+is_reading_spec =
+    tie.close
+    (tie.spec
+    returns)

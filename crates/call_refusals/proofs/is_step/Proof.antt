@@ -4,11 +4,15 @@ use Rattle.call_refusals.proofs.Letters.{step_by_letter}
 use Rattle.call_refusals.proofs.is_step.Statement.{statement}
 use Rattle.call_refusals.proofs.is_step.Tie as tie
 
-is-reading-requires : tie.Need-is-reading-requires
-is-reading-requires c κs = search rules
+is_reading-requires : tie.Need-is_reading-requires
+is_reading-requires c κs = search rules
 
 returns : tie.Need-returns
-returns c = rw c.is-reading.ensures (step_by_letter c.before.args.kind)
+returns c = rw c.is_reading.ensures (step_by_letter c.before.args.kind)
 
-pub is-step-spec : {M : Type 1} → statement M
-is-step-spec = tie.close (tie.spec is-reading-requires returns)
+pub is_step_spec : {M : Type 1} → statement M
+is_step_spec =
+    tie.close
+    (tie.spec
+    is_reading-requires
+    returns)

@@ -6,18 +6,23 @@ use Rattle.call_refusals.proofs.Letters.{wrong_line_lem}
 use Rattle.call_refusals.proofs.is_wrong_line.Statement.{statement}
 use Rattle.call_refusals.proofs.is_wrong_line.Tie as tie
 
-is-step-requires : tie.Need-is-step-requires
-is-step-requires c κs = search rules
+is_step-requires : tie.Need-is_step-requires
+is_step-requires c κs = search rules
+
+returns-then-is_step : tie.Need-returns-then-is_step
+returns-then-is_step c =
+    let a = c.before.before.args in
+    rw (sym c.before.is_step.ensures ∙ c.if-is_step.true) at (wrong_line_lem a.s a.line (kind_of a.kind))
 
 returns : tie.Need-returns
 returns c =
-    let a = c.before.before.args in
-    rw (sym c.before.is_step_lem.ensures ∙ c.if1.true) at (wrong_line_lem a.s a.line (kind_of a.kind))
-
-returns-2 : tie.Need-returns-2
-returns-2 c =
     let a = c.before.before.before.args in
-    rw (sym c.before.before.is_step_lem.ensures ∙ c.before.if1.false) at (wrong_line_lem a.s a.line (kind_of a.kind))
+    rw (sym c.before.before.is_step.ensures ∙ c.before.if-is_step.false) at (wrong_line_lem a.s a.line (kind_of a.kind))
 
-pub is-wrong-line-spec : {M : Type 1} → statement M
-is-wrong-line-spec = tie.close (tie.spec is-step-requires returns returns-2)
+pub is_wrong_line_spec : {M : Type 1} → statement M
+is_wrong_line_spec =
+    tie.close
+    (tie.spec
+    is_step-requires
+    returns-then-is_step
+    returns)

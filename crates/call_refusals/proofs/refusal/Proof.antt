@@ -17,25 +17,25 @@ use Rattle.call_refusals.proofs.refusal.Tie as tie
 -- ---- what is known at the places on the way; each place names the one that it goes back to
 
 -- the first half, once it is tested
-abbrev start : tie.After-call-refusal → tie.Start
+abbrev start : tie.After-call_refusal-early → tie.Start
 start f = f.before.before
 
-abbrev entry : tie.Else1 → tie.Start
+abbrev entry : tie.Else-early-ne0 → tie.Start
 entry e = start e.before
 
-none : (e : tie.Else1) →
+none : (e : tie.Else-early-ne0) →
     let a = (entry e).args in first_failed (call_tests a.s a.clock a.k (kind_of a.k.kind)) ≡ 0
-none e = sym e.before.call-refusal.ensures ∙ e.if1.false
+none e = sym e.before.call_refusal-early.ensures ∙ e.if-early-ne0.false
 
 -- the kind
-abbrev past : tie.After-is-step → tie.Else1
+abbrev past : tie.After-is_step → tie.Else-early-ne0
 past i = i.before
 
-step : (t : tie.Then2) → is_step (kind_of (entry (past t.before)).args.k.kind) ≡ true
-step t = sym t.before.is_step_lem.ensures ∙ t.if2.true
+step : (t : tie.Then-is_step) → is_step (kind_of (entry (past t.before)).args.k.kind) ≡ true
+step t = sym t.before.is_step.ensures ∙ t.if-is_step.true
 
 -- a call that is no step names a line
-abbrev whole : tie.Else2 → tie.Start
+abbrev whole : tie.Else-is_step → tie.Start
 whole e = entry (past e.before)
 
 record Named (s : tie.Start) : Type 0 where
@@ -43,33 +43,33 @@ record Named (s : tie.Start) : Type 0 where
   pub last : s.args.k.line ≤ s.args.s.lines
   pub below : s.args.k.line - 1 < s.args.s.lines
 
-named : (e : tie.Else2) → Named (whole e)
+named : (e : tie.Else-is_step) → Named (whole e)
 named e =
     let s = whole e in
     let a = s.args in
-    let other = sym e.before.is_step_lem.ensures ∙ e.if2.false in
+    let other = sym e.before.is_step.ensures ∙ e.if-is_step.false in
     let line = names_line a.s a.clock a.k (kind_of a.k.kind) (none (past e.before)) other in
     record { first = line.0; last = line.1; below = omega (arith, line) }
 
 -- ---- the needs
 
-call-refusal-requires : tie.Need-call-refusal-requires
-call-refusal-requires c κs = search rules
+call_refusal-early-requires : tie.Need-call_refusal-early-requires
+call_refusal-early-requires c κs = search rules
 
-returns : tie.Need-returns
+returns-then-early-ne0 : tie.Need-returns-then-early-ne0
 unfolding view
-returns c =
+returns-then-early-ne0 c =
     λ st x e g h room.
     let a = (start c.before).args in
-    let early = c.before.call-refusal.ensures in
-    early ∙ answer_early a.s a.clock (named_line (view st x) a.k) a.k (kind_of a.k.kind) (λ z. c.if1.true (early ∙ z))
+    let early = c.before.call_refusal-early.ensures in
+    early ∙ answer_early a.s a.clock (named_line (view st x) a.k) a.k (kind_of a.k.kind) (λ z. c.if-early-ne0.true (early ∙ z))
 
-is-step-requires : tie.Need-is-step-requires
-is-step-requires c κs = search rules
+is_step-requires : tie.Need-is_step-requires
+is_step-requires c κs = search rules
 
-returns-2 : tie.Need-returns-2
+returns-then-is_step : tie.Need-returns-then-is_step
 unfolding view
-returns-2 c =
+returns-then-is_step c =
     λ st x e g h room.
     let p = past c.before in
     let a = (entry p).args in
@@ -77,35 +77,35 @@ returns-2 c =
     sym (step_passes line a.k (kind_of a.k.kind) (step c)) ∙
     answer_late a.s a.clock line a.k (kind_of a.k.kind) (none p)
 
-named-line-refusal-requires : tie.Need-named-line-refusal-requires
-named-line-refusal-requires c κs =
+named_line_refusal-requires : tie.Need-named_line_refusal-requires
+named_line_refusal-requires c κs =
     let s = whole c in
     let a = s.args in
     let n = named c in
-    let small = kept_fits a.s.lines a.heads.now (a.k.line - 1) s.pre.2 n.below s.pre.0 in
-    (n.first, omega (arith, n.last, s.pre.0), omega (arith, small, n.below, s.pre.1))
+    let small = kept_fits a.s.lines a.heads.now (a.k.line - 1) s.requires.2 n.below s.requires.0 in
+    (n.first, omega (arith, n.last, s.requires.0), omega (arith, small, n.below, s.requires.1))
 
-returns-3 : tie.Need-returns-3
+returns : tie.Need-returns
 unfolding view named_line
-returns-3 c =
+returns c =
     λ st x e g h room.
     let p = c.before in
     let s = whole p in
     let a = s.args in
     let n = named p in
     let line = named_line (view st x) a.k in
-    c.named-line-refusal.ensures line
-    (viewed_line_stands a.s.lines a.heads.now (a.k.line - 1) s.pre.2 n.below s.pre.0 st x room
+    c.named_line_refusal.ensures line
+    (viewed_line_stands a.s.lines a.heads.now (a.k.line - 1) s.requires.2 n.below s.requires.0 st x room
     (ap (λ (s : Settings). s.lines) e) g h) ∙
     answer_late a.s a.clock line a.k (kind_of a.k.kind) (none (past p.before))
 
-pub refusal-spec : {M : Type 1} → statement M
-refusal-spec =
+pub refusal_spec : {M : Type 1} → statement M
+refusal_spec =
     tie.close
     (tie.spec
-    call-refusal-requires
-    returns
-    is-step-requires
-    returns-2
-    named-line-refusal-requires
-    returns-3)
+    call_refusal-early-requires
+    returns-then-early-ne0
+    is_step-requires
+    returns-then-is_step
+    named_line_refusal-requires
+    returns)
