@@ -16,7 +16,6 @@ use mir.Val.{SFits, bool_byte}
 use Rattle.decimal.specs.Decimal.{digits, decimal}
 use Rattle.decimal.specs.Spelled.{NoDigit, number_at, negated, as_integer, integer_at}
 use Rattle.decimal.specs.declared.Number.{Number}
-use Rattle.decimal.specs.declared.Number.TheVariants as Number
 use Rattle.decimal.specs.declared.Integer.TheVariants as Integer
 use Rattle.decimal.proofs.Runs.{digit_range, head_drop}
 use Rattle.decimal.proofs.NumberText.{number_sound, number_complete, digits_begin}

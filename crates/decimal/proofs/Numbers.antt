@@ -9,7 +9,6 @@ use lib.ListN.{length, get_or, drop, length-drop}
 use borrow.Author.Tests.{eq-eqb, ne_eqb, lt-ltb, le-ltb, eqb-true, eqb-false, ltb-false}
 use Rattle.decimal.specs.Spelled.{run_length, run_value, misspelled, number_at, widened}
 use Rattle.decimal.specs.declared.Number.{Number}
-use Rattle.decimal.specs.declared.Number.TheVariants as Number
 use Rattle.decimal.specs.declared.WideNumber.TheVariants as WideNumber
 use Rattle.decimal.proofs.Runs.{run_short}
 

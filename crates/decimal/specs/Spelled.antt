@@ -1,14 +1,11 @@
 -- What a text spells from a place on: a number as `Decimal` writes it, and the place behind it. A run of digits may go on for ever; past
 -- its width a number is malformed.
-use Rattle.std.specs.Prelude.{ℕ, suc, ◌+◌, ◌-◌, ◌*◌, ◌^◌, ◌≡◌, Bool, false, cond, ◌&&◌, ◌||◌, List, [], ◌∷◌, ltb, leb, eqb, pos, neg_ℤ, length, get_or, drop}
+use Rattle.std.specs.Prelude.{ℕ, suc, ◌+◌, ◌-◌, ◌*◌, ◌^◌, ◌≡◌, Bool, false, cond, ◌&&◌, ◌||◌, List, [], ◌∷◌}
+use Rattle.std.specs.Prelude.{ltb, leb, eqb, pos, neg_ℤ, length, get_or, drop}
 use Rattle.decimal.specs.declared.Number.{Number}
-use Rattle.decimal.specs.declared.Number.TheVariants as Number
 use Rattle.decimal.specs.declared.WideNumber.{WideNumber}
-use Rattle.decimal.specs.declared.WideNumber.TheVariants as WideNumber
 use Rattle.decimal.specs.declared.Run.{Run}
-use Rattle.decimal.specs.declared.Run.TheVariants as Run
 use Rattle.decimal.specs.declared.Integer.{Integer}
-use Rattle.decimal.specs.declared.Integer.TheVariants as Integer
 
 -- an ASCII digit
 unfoldable pub is_digit : ℕ → Bool

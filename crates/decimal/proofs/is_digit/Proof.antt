@@ -8,5 +8,8 @@ returns : tie.Need-returns
 unfolding is_digit
 returns c = refl
 
-pub is-digit-spec : {M : Type 1} → statement M
-is-digit-spec = tie.close (tie.spec returns)
+pub is_digit_spec : {M : Type 1} → statement M
+is_digit_spec =
+    tie.close
+    (tie.spec
+    returns)

@@ -4,14 +4,19 @@ use lib.ListN.{get_or-eq_default}
 use Rattle.decimal.proofs.minus_at.Statement.{statement}
 use Rattle.decimal.proofs.minus_at.Tie as tie
 
-shared-slice-read-result : tie.Need-shared-slice-read-result
-shared-slice-read-result c = c.before.if1.true
+bounds-s-at : tie.Need-bounds-s-at
+bounds-s-at c = c.before.if-at-s.true
 
-returns : tie.Need-returns
-returns c = refl
+returns-then-at-s : tie.Need-returns-then-at-s
+returns-then-at-s c = refl
 
-returns-2 : tie.Need-returns-2
-returns-2 c = rw (get_or-eq_default c.before.args.s.now 0 c.if1.false) refl
+returns-else-at-s : tie.Need-returns-else-at-s
+returns-else-at-s c = rw (get_or-eq_default c.before.args.s.now 0 c.if-at-s.false) refl
 
-pub minus-at-spec : {M : Type 1} → statement M
-minus-at-spec = tie.close (tie.spec shared-slice-read-result returns returns-2)
+pub minus_at_spec : {M : Type 1} → statement M
+minus_at_spec =
+    tie.close
+    (tie.spec
+    bounds-s-at
+    returns-then-at-s
+    returns-else-at-s)

@@ -10,28 +10,35 @@ use Rattle.decimal.specs.Spelled.{negated}
 use Rattle.decimal.proofs.negative.Statement.{statement}
 use Rattle.decimal.proofs.negative.Tie as tie
 
-returns : tie.Need-returns
+returns-then-m-eq0 : tie.Need-returns-then-m-eq0
 unfolding negated
-returns c = simp (eq-eqb c.before.args.m 0 (omega arith))
+returns-then-m-eq0 c = simp (eq-eqb c.before.args.m 0 (omega arith))
 
-cast-t4 : tie.Need-overflow-cast-t4
-cast-t4 c = search rules
+overflow_cast-result : tie.Need-overflow_cast-result
+overflow_cast-result c = search rules
 
 -- far from the end of 64 bits
-small : (c : tie.Else1) → c.before.args.m < 2 ^ 63
+small : (c : tie.Else-m-eq0) → c.before.args.m < 2 ^ 63
 small c = omega arith
 
-sub-t5 : tie.Need-overflow-sub-t5
-sub-t5 c = minus_fits w64 (small c)
+overflow_sub-result : tie.Need-overflow_sub-result
+overflow_sub-result c = minus_fits w64 (small c)
 
-cast-t6 : tie.Need-overflow-cast-t6
-cast-t6 c = rw (to_z-of_z (sub-t5 c), minus w64 (small c)) (neg_fits c.before.args.m c.before.requires)
+overflow_cast-result-2 : tie.Need-overflow_cast-result-2
+overflow_cast-result-2 c = rw (to_z-of_z (overflow_sub-result c), minus w64 (small c)) (neg_fits c.before.args.m c.before.requires)
 
-returns-2 : tie.Need-returns-2
+returns : tie.Need-returns
 unfolding negated
-returns-2 c =
+returns c =
     let m = c.before.args.m in
-    rw (to_z-of_z (sub-t5 c), minus w64 (small c), to_z-of_z (neg_fits {w = w32} m c.before.requires), ne_eqb m 0 (λ q. omega arith))
+    rw (to_z-of_z (overflow_sub-result c), minus w64 (small c), to_z-of_z (neg_fits {w = w32} m c.before.requires), ne_eqb m 0 (λ q. omega arith))
 
-pub negative-spec : {M : Type 1} → statement M
-negative-spec = tie.close (tie.spec returns cast-t4 sub-t5 cast-t6 returns-2)
+pub negative_spec : {M : Type 1} → statement M
+negative_spec =
+    tie.close
+    (tie.spec
+    returns-then-m-eq0
+    overflow_cast-result
+    overflow_sub-result
+    overflow_cast-result-2
+    returns)

@@ -11,23 +11,29 @@ use Rattle.decimal.proofs.with_sign.Statement.{statement}
 use Rattle.decimal.proofs.with_sign.Tie as tie
 
 negative-requires : tie.Need-negative-requires
-negative-requires c κs = rw c.if1.true at c.before.requires
+negative-requires c κs = rw c.if-minus.true at c.before.requires
 
 -- what fits without a minus
-small : (c : tie.Else1) → c.before.args.m ≤ 2 ^ 31 - 1
-small c = rw c.if1.false at c.before.requires
+small : (c : tie.Else-minus) → c.before.args.m ≤ 2 ^ 31 - 1
+small c = rw c.if-minus.false at c.before.requires
 
-cast-t6 : tie.Need-overflow-cast-t6
-cast-t6 c = let m = small c in record { sfits = omega arith }
+overflow_cast-result : tie.Need-overflow_cast-result
+overflow_cast-result c = let m = small c in record { sfits = omega arith }
 
-returns : tie.Need-returns
-returns c = rw c.before.if1.true c.negative.ensures
+returns-then-minus : tie.Need-returns-then-minus
+returns-then-minus c = rw c.before.if-minus.true c.negative.ensures
 
-returns-2 : tie.Need-returns-2
+returns-else-minus : tie.Need-returns-else-minus
 unfolding as_integer
-returns-2 c =
+returns-else-minus c =
     let m = small c in
-    rw c.if1.false (ap (λ (z : ℤ). Integer.Value z c.before.args.end) (to_z_pos w32 (omega arith)))
+    rw c.if-minus.false (ap (λ (z : ℤ). Integer.Value z c.before.args.end) (to_z_pos w32 (omega arith)))
 
-pub with-sign-spec : {M : Type 1} → statement M
-with-sign-spec = tie.close (tie.spec negative-requires cast-t6 returns returns-2)
+pub with_sign_spec : {M : Type 1} → statement M
+with_sign_spec =
+    tie.close
+    (tie.spec
+    negative-requires
+    overflow_cast-result
+    returns-then-minus
+    returns-else-minus)
