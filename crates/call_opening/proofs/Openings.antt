@@ -8,7 +8,6 @@ use lib.ListN.{length, replicate, length-replicate}
 use lib.Seq.{sets}
 use Rattle.settings.specs.declared.Settings.{Settings}
 use Rattle.settings.specs.declared.SettingsRead.{SettingsRead}
-use Rattle.settings.specs.declared.SettingsRead.TheVariants as SettingsRead
 use Rattle.settings.specs.SettingsLine.{settings_answer}
 use Rattle.settings.specs.ReadLine.{settings_of}
 use Rattle.store.specs.Sizes.{readings_per_line}

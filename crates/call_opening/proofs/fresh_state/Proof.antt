@@ -6,5 +6,8 @@ use Rattle.call_opening.proofs.fresh_state.Tie as tie
 returns : tie.Need-returns
 returns c = fresh_held c.args.s
 
-pub fresh-state-spec : {M : Type 1} → statement M
-fresh-state-spec = tie.close (tie.spec returns)
+pub fresh_state_spec : {M : Type 1} → statement M
+fresh_state_spec =
+    tie.close
+    (tie.spec
+    returns)
