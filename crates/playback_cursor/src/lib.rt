@@ -7,31 +7,49 @@ ghost use Rattle.fields.specs.Line.{holds_line};
 ghost use Rattle.playback_cursor.specs.Cut.{unread, all_read, replied, Ready, Fetched, Followed};
 ghost use Rattle.playback_cursor.specs.Step.{Roomy, LinesEnd, Advanced};
 
-// Whether a read or a write that moved no byte is to be tried again: a signal interrupted it, or the other side is not ready, for which the
+use arrayvec::ArrayString;
+use std::fmt::Write as _;
+use std::io::{ErrorKind, Read, Write};
+use std::{io, thread};
+
+// Whether a read or a write that failed so is to be tried again: a signal interrupted it, or the other side is not ready, for which the
 // program waits and lets others run.
-fn may_try_again() -> bool {
-    let error = os::errno();
-    if error == libc::EAGAIN {
-        libc::sched_yield();
+fn may_try_again(error: io::Error) -> bool {
+    let kind = error.kind();
+    if kind == ErrorKind::WouldBlock {
+        thread::yield_now();
         return true;
     }
-    error == libc::EINTR
+    kind == ErrorKind::Interrupted
+}
+
+// Says on standard error what cannot be done, and why: the system's words, without its number of the error.
+fn say(rt: HostRuntime, what: &str, error: io::Error) {
+    let mut text = ArrayString::<256>::new();
+    let _ = write!(text, "{error}");
+    let words = text.as_str();
+    let reason = match words.split_once(" (os error ") {
+        Some((reason, _)) => reason,
+        None => words,
+    };
+    let _ = eprintln!(rt; "{what}: {reason}");
 }
 
 // Says on standard error that output is lost, and why.
-fn say_unwritten() {
-    os::fail(b"cannot write standard output");
+fn say_unwritten(rt: HostRuntime, error: io::Error) {
+    say(rt, "cannot write standard output", error);
 }
 
 // Says on standard error that no more input is read, and why.
-fn say_unread() {
-    os::fail(b"cannot read standard input");
+fn say_unread(rt: HostRuntime, error: io::Error) {
+    say(rt, "cannot read standard input", error);
 }
 
 // Writes all these bytes out; answers whether they were taken, as no bytes always are.
-fn write_out(bytes: &[u8]) -> bool
+fn write_out(rt: HostRuntime, bytes: &[u8]) -> bool
     ensures { not result ≡ true → 0 < length bytes.now }
 {
+    let mut stdout = rt.stdout();
     let mut done = 0;
     let mut turns = u64::MAX;
     while done < bytes.len() {
@@ -39,36 +57,38 @@ fn write_out(bytes: &[u8]) -> bool
             return false;
         }
         turns -= 1;
-        let rest = &bytes[done..];
-        let took = io::count(libc::write(1, rest), rest);
-        if took == 0 {
-            if !may_try_again() {
-                say_unwritten();
+        match stdout.write(&bytes[done..]) {
+            Ok(0) => {
+                say_unwritten(rt, io::Error::from(ErrorKind::WriteZero));
                 return false;
             }
+            Ok(took) => done += took,
+            Err(error) => {
+                if !may_try_again(error) {
+                    say_unwritten(rt, error);
+                    return false;
+                }
+            }
         }
-        done += took;
     }
     true
 }
 
 // Reads once into this room; answers how many bytes came, 0 at the end of the input or where reading fails.
-fn read_in(room: &mut [u8]) -> usize
+fn read_in(rt: HostRuntime, room: &mut [u8]) -> usize
     ensures { result ≤ length room.old }
 {
+    let mut stdin = rt.stdin();
     let mut turns = u64::MAX;
     while turns > 0 {
-        let got = libc::read(0, room);
-        let n = io::count(got, room);
-        if 0 < n {
-            return n;
-        }
-        if got == 0 {
-            return 0;
-        }
-        if !may_try_again() {
-            say_unread();
-            return 0;
+        match stdin.read(room) {
+            Ok(got) => return got,
+            Err(error) => {
+                if !may_try_again(error) {
+                    say_unread(rt, error);
+                    return 0;
+                }
+            }
         }
         turns -= 1;
     }
@@ -95,7 +115,7 @@ struct Room {
 }
 
 // Makes room in the output for one more reply: where it might not fit, all that is there is written out first.
-fn with_room(out: &[u8], used: usize) -> Room
+fn with_room(rt: HostRuntime, out: &[u8], used: usize) -> Room
     requires { (used ≤ length out.now) × (longest_reply ≤ length out.now) }
     ensures { Roomy used (length out.now) result }
 {
@@ -105,7 +125,7 @@ fn with_room(out: &[u8], used: usize) -> Room
             failed: false,
         };
     }
-    let written = write_out(&out[0..used]);
+    let written = write_out(rt, &out[0..used]);
     Room {
         used: 0,
         failed: !written,
@@ -181,12 +201,12 @@ fn bytes_left(at: usize, have: usize, passing: bool) -> usize
 // Reads on behind what is left, which holds no whole line, after all output so far is written. A text that fills the buffer is played, as
 // no text of the form does, and the rest of its line passed over. At the end of the input a text without 0A is played, and settings that
 // never came.
-fn refill(cursor: Cursor, opened: bool, buf: &mut [u8], out: &[u8]) -> Cursor
+fn refill(rt: HostRuntime, cursor: Cursor, opened: bool, buf: &mut [u8], out: &[u8]) -> Cursor
     requires { Ready buf.old (length out.now) cursor × (holds_line (unread buf.old cursor) ≡ false) }
     ensures { Advanced opened cursor buf.old result buf.new (length out.now) }
 {
     let used = cursor.used;
-    if !write_out(&out[0..used]) {
+    if !write_out(rt, &out[0..used]) {
         return ended();
     }
     let at = cursor.at;
@@ -196,7 +216,7 @@ fn refill(cursor: Cursor, opened: bool, buf: &mut [u8], out: &[u8]) -> Cursor
         return all_read(left, true, true, false);
     }
     shift(buf, at, left);
-    let got = read_in(&mut buf[left..]);
+    let got = read_in(rt, &mut buf[left..]);
     if got == 0 {
         return all_read(left, !passing & ((0 < left) | !opened), false, true);
     }
@@ -214,7 +234,7 @@ fn refill(cursor: Cursor, opened: bool, buf: &mut [u8], out: &[u8]) -> Cursor
 }
 
 // Goes on to the next whole line of the buffer, which is the end of a line to pass over, or the next text; or reads on where there is none.
-fn advance(cursor: Cursor, opened: bool, buf: &mut [u8], out: &[u8]) -> Cursor
+fn advance(rt: HostRuntime, cursor: Cursor, opened: bool, buf: &mut [u8], out: &[u8]) -> Cursor
     requires { Ready buf.old (length out.now) cursor }
     ensures { Advanced opened cursor buf.old result buf.new (length out.now) }
 {
@@ -223,7 +243,7 @@ fn advance(cursor: Cursor, opened: bool, buf: &mut [u8], out: &[u8]) -> Cursor
     let have = cursor.have;
     let used = cursor.used;
     if at == whole {
-        return refill(cursor, opened, buf, out);
+        return refill(rt, cursor, opened, buf, out);
     }
     if cursor.passing {
         let line = fields::next_line(&buf[at..whole]);
@@ -238,7 +258,7 @@ fn advance(cursor: Cursor, opened: bool, buf: &mut [u8], out: &[u8]) -> Cursor
             last: false,
         };
     }
-    let room = with_room(out, used);
+    let room = with_room(rt, out, used);
     Cursor {
         at: at,
         whole: whole,
@@ -251,13 +271,19 @@ fn advance(cursor: Cursor, opened: bool, buf: &mut [u8], out: &[u8]) -> Cursor
 }
 
 // Goes on to the next text to play, or to the end. Before the settings are played, the end of the input is a text too.
-pub fn fetch(mut cursor: Cursor, opened: bool, buf: &mut [u8], out: &[u8]) -> Cursor
+pub fn fetch(
+    rt: HostRuntime,
+    mut cursor: Cursor,
+    opened: bool,
+    buf: &mut [u8],
+    out: &[u8],
+) -> Cursor
     requires { Ready buf.old (length out.now) cursor }
     ensures { Fetched opened cursor buf.old result buf.new (length out.now) }
 {
     let mut turns = u64::MAX;
     while turns > 0 {
-        cursor = advance(cursor, opened, buf, out);
+        cursor = advance(rt, cursor, opened, buf, out);
         if cursor.plays | cursor.last {
             return cursor;
         }
@@ -268,7 +294,14 @@ pub fn fetch(mut cursor: Cursor, opened: bool, buf: &mut [u8], out: &[u8]) -> Cu
 
 // Goes on after a text of `text` bytes is played and its reply of `reply` bytes laid behind what the output holds; behind the last, only
 // what the output holds is still to be written. Mostly the next line is in the buffer and its reply has room: that is tried first.
-pub fn onward(mut cursor: Cursor, text: usize, reply: usize, buf: &mut [u8], out: &[u8]) -> Cursor
+pub fn onward(
+    rt: HostRuntime,
+    mut cursor: Cursor,
+    text: usize,
+    reply: usize,
+    buf: &mut [u8],
+    out: &[u8],
+) -> Cursor
     requires { Ready buf.old (length out.now) (replied cursor text reply) }
     ensures { Followed cursor text reply buf.old result buf.new (length out.now) }
 {
@@ -282,8 +315,8 @@ pub fn onward(mut cursor: Cursor, text: usize, reply: usize, buf: &mut [u8], out
             cursor.plays = true;
             return cursor;
         }
-        return fetch(cursor, true, buf, out);
+        return fetch(rt, cursor, true, buf, out);
     }
-    write_out(&out[0..used]);
+    write_out(rt, &out[0..used]);
     ended()
 }

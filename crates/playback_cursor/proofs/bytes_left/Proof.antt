@@ -4,14 +4,19 @@ use borrow.Author.Rules.{rules}
 use Rattle.playback_cursor.proofs.bytes_left.Statement.{statement}
 use Rattle.playback_cursor.proofs.bytes_left.Tie as tie
 
-sub-result : tie.Need-overflow-sub-result
-sub-result c = search rules
+overflow_sub-result : tie.Need-overflow_sub-result
+overflow_sub-result c = search rules
 
-returns : tie.Need-returns
-returns c = search rules
+returns-then-passing : tie.Need-returns-then-passing
+returns-then-passing c = search rules
 
-returns-2 : tie.Need-returns-2
-returns-2 c = (omega arith, rw c.if1.false)
+returns-else-passing : tie.Need-returns-else-passing
+returns-else-passing c = (omega arith, rw c.if-passing.false)
 
-pub bytes-left-spec : {M : Type 1} → statement M
-bytes-left-spec = tie.close (tie.spec sub-result returns returns-2)
+pub bytes_left_spec : {M : Type 1} → statement M
+bytes_left_spec =
+    tie.close
+    (tie.spec
+    overflow_sub-result
+    returns-then-passing
+    returns-else-passing)

@@ -2,9 +2,9 @@
 use native.Mathlib.Omega.{arith}
 use mathlib.Core.Path.{◌≡◌}
 use mathlib.Core.Bool.{false}
-use Prim.Native.Nat.{ℕ, ◌-◌, ◌≤◌}
+use Prim.Native.Nat.{◌-◌, ◌≤◌}
 use borrow.Author.Tests.{eq-eqb}
-use lib.ListN.{length, take, drop, get_or}
+use lib.ListN.{get_or}
 use Rattle.fields.specs.Line.{holds_line}
 use Rattle.fields.specs.Field.{ends_line}
 use Rattle.playback_cursor.specs.Cut.{part}
@@ -12,42 +12,42 @@ use Rattle.playback_cursor.proofs.WholeLines.{none_behind, none_back}
 use Rattle.playback_cursor.proofs.lines_end.Statement.{statement}
 use Rattle.playback_cursor.proofs.lines_end.Tie as tie
 
-abbrev invariant-loop : tie.invariant-loop
-invariant-loop s n i₀ i = (i ≤ n) × (holds_line (part s i n) ≡ false)
+abbrev invariant-loop-i : tie.invariant-loop-i
+invariant-loop-i s n i₀ i = (i ≤ n) × (holds_line (part s i n) ≡ false)
 
-abbrev decreases-loop : tie.decreases-loop
-decreases-loop s n i₀ i = i
+abbrev decreases-loop-i : tie.decreases-loop-i
+decreases-loop-i s n i₀ i = i
 
-loop-holds : tie.Need-loop-init invariant-loop decreases-loop
-loop-holds c = (omega arith, none_behind c.args.s.now c.args.n)
+loop-i-init : tie.Need-loop-i-init invariant-loop-i decreases-loop-i
+loop-i-init c = (omega arith, none_behind c.args.s.now c.args.n)
 
-sub-if1 : tie.Need-overflow-sub-if1 invariant-loop decreases-loop
-sub-if1 c = omega arith
+overflow_sub-i : tie.Need-overflow_sub-i invariant-loop-i decreases-loop-i
+overflow_sub-i c = omega arith
 
-shared-slice-read-if1 : tie.Need-shared-slice-read-if1 invariant-loop decreases-loop
-shared-slice-read-if1 c = let l = c.before.before in omega (arith, l.loop.invariant.0, l.before.requires)
+bounds-s-i : tie.Need-bounds-s-i invariant-loop-i decreases-loop-i
+bounds-s-i c = let l = c.before.before in omega (arith, l.loop-i.invariant.0, l.before.requires)
 
-returns : tie.Need-returns invariant-loop decreases-loop
+returns-then-s-i-eq10 : tie.Need-returns-then-s-i-eq10 invariant-loop-i decreases-loop-i
 unfolding ends_line
-returns c =
-    let l = c.before.before.before.loop in
-    record { within = l.invariant.0; ends = λ _. eq-eqb (get_or c.before.before.before.before.args.s.now (l.i - 1) 0) 10 c.if1.true; none = l.invariant.1 }
+returns-then-s-i-eq10 c =
+    let l = c.before.before.before.loop-i in
+    record { within = l.invariant.0; ends = λ _. eq-eqb (get_or c.before.before.before.before.args.s.now (l.i - 1) 0) 10 c.if-s-i-eq10.true; none = l.invariant.1 }
 
-sub-i : tie.Need-overflow-sub-i invariant-loop decreases-loop
-sub-i c = omega arith
+overflow_sub-i-in-loop-i : tie.Need-overflow_sub-i-in-loop-i invariant-loop-i decreases-loop-i
+overflow_sub-i-in-loop-i c = omega arith
 
-loop-less : tie.Need-loop-smaller invariant-loop decreases-loop
-loop-less c = omega arith
+loop-i-smaller : tie.Need-loop-i-smaller invariant-loop-i decreases-loop-i
+loop-i-smaller c = omega arith
 
-loop-again : tie.Need-loop-preserved invariant-loop decreases-loop
-loop-again c =
+loop-i-preserved : tie.Need-loop-i-preserved invariant-loop-i decreases-loop-i
+loop-i-preserved c =
     let s = c.before.before.before.before in
-    let l = c.before.before.before.loop in
-    (omega (arith, l.invariant.0), none_back s.args.s.now s.args.n l.i (omega arith) l.invariant.0 s.requires c.if1.false l.invariant.1)
+    let l = c.before.before.before.loop-i in
+    (omega (arith, l.invariant.0), none_back s.args.s.now s.args.n l.i (omega arith) l.invariant.0 s.requires c.if-s-i-eq10.false l.invariant.1)
 
-returns-2 : tie.Need-returns-2 invariant-loop decreases-loop
-returns-2 c =
-    let l = c.before.loop in
+returns : tie.Need-returns invariant-loop-i decreases-loop-i
+returns c =
+    let l = c.before.loop-i in
     let z : l.i ≡ 0 = omega arith in
     record {
       within = omega arith;
@@ -55,17 +55,17 @@ returns-2 c =
       none = rw z at l.invariant.1;
     }
 
-pub lines-end-spec : {M : Type 1} → statement M
-lines-end-spec =
+pub lines_end_spec : {M : Type 1} → statement M
+lines_end_spec =
     tie.close
     (tie.spec
-    invariant-loop
-    decreases-loop
-    loop-holds
-    sub-if1
-    shared-slice-read-if1
-    returns
-    sub-i
-    loop-less
-    loop-again
-    returns-2)
+    invariant-loop-i
+    decreases-loop-i
+    loop-i-init
+    overflow_sub-i
+    bounds-s-i
+    returns-then-s-i-eq10
+    overflow_sub-i-in-loop-i
+    loop-i-smaller
+    loop-i-preserved
+    returns)

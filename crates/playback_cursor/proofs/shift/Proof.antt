@@ -9,58 +9,58 @@ use Rattle.playback_cursor.proofs.Shifted.{Shifted, shifted_more}
 use Rattle.playback_cursor.proofs.shift.Statement.{statement}
 use Rattle.playback_cursor.proofs.shift.Tie as tie
 
-abbrev invariant-loop : tie.invariant-loop
-invariant-loop buf₀ at n i₀ buf i = (i ≤ n) × (at + n ≤ length buf) × (length buf ≡ length buf₀) × Shifted buf₀ at i buf
+abbrev invariant-loop-i : tie.invariant-loop-i
+invariant-loop-i buf₀ at n i₀ buf i = (i ≤ n) × (at + n ≤ length buf) × (length buf ≡ length buf₀) × Shifted buf₀ at i buf
 
-abbrev decreases-loop : tie.decreases-loop
-decreases-loop buf₀ at n i₀ buf i = n - i
+abbrev decreases-loop-i : tie.decreases-loop-i
+decreases-loop-i buf₀ at n i₀ buf i = n - i
 
-loop-holds : tie.Need-loop-init invariant-loop decreases-loop
-loop-holds c = search rules
+loop-i-init : tie.Need-loop-i-init invariant-loop-i decreases-loop-i
+loop-i-init c = search rules
 
-add-buf : tie.Need-overflow-add-buf invariant-loop decreases-loop
-add-buf c = search rules
+overflow_add-buf : tie.Need-overflow_add-buf invariant-loop-i decreases-loop-i
+overflow_add-buf c = search rules
 
-slice-read-buf : tie.Need-slice-read-buf invariant-loop decreases-loop
-slice-read-buf c = search rules
+bounds-buf-at : tie.Need-bounds-buf-at invariant-loop-i decreases-loop-i
+bounds-buf-at c = search rules
 
-slice-write-buf : tie.Need-slice-write-buf invariant-loop decreases-loop
-slice-write-buf c = search rules
+bounds-buf-i : tie.Need-bounds-buf-i invariant-loop-i decreases-loop-i
+bounds-buf-i c = search rules
 
-add-i : tie.Need-overflow-add-i invariant-loop decreases-loop
-add-i c = search rules
+overflow_add-i : tie.Need-overflow_add-i invariant-loop-i decreases-loop-i
+overflow_add-i c = search rules
 
-loop-less : tie.Need-loop-smaller invariant-loop decreases-loop
-loop-less c = search rules
+loop-i-smaller : tie.Need-loop-i-smaller invariant-loop-i decreases-loop-i
+loop-i-smaller c = search rules
 
-loop-again : tie.Need-loop-preserved invariant-loop decreases-loop
-loop-again c =
+loop-i-preserved : tie.Need-loop-i-preserved invariant-loop-i decreases-loop-i
+loop-i-preserved c =
     let a = c.before.before.before.args in
-    let l = c.before.before.loop in
+    let l = c.before.before.loop-i in
     rw add-one
     (omega arith, simp length-set (omega arith), simp length-set (omega arith), shifted_more a.buf.now a.at l.i l.buf (omega arith) (omega arith) l.invariant.3)
 
-same_length : tie.Need-same-length invariant-loop decreases-loop
-same_length c = search rules
+shape_of-buf : tie.Need-shape_of-buf invariant-loop-i decreases-loop-i
+shape_of-buf c = search rules
 
-returns : tie.Need-returns invariant-loop decreases-loop
+returns : tie.Need-returns invariant-loop-i decreases-loop-i
 returns c =
-    let l = c.before.loop in
+    let l = c.before.loop-i in
     let end : l.i ≡ c.before.before.args.n = omega arith in
     rw end at l.invariant.3.0
 
-pub shift-spec : {M : Type 1} → statement M
-shift-spec =
+pub shift_spec : {M : Type 1} → statement M
+shift_spec =
     tie.close
     (tie.spec
-    invariant-loop
-    decreases-loop
-    loop-holds
-    add-buf
-    slice-read-buf
-    slice-write-buf
-    add-i
-    loop-less
-    loop-again
-    same_length
+    invariant-loop-i
+    decreases-loop-i
+    loop-i-init
+    overflow_add-buf
+    bounds-buf-at
+    bounds-buf-i
+    overflow_add-i
+    loop-i-smaller
+    loop-i-preserved
+    shape_of-buf
     returns)
