@@ -13,7 +13,6 @@ use Rattle.decimal.proofs.Digits.{digits_short}
 use Rattle.decimal.proofs.Decimals.{unsigned32_short}
 use Rattle.endian.proofs.LittleEndian.{AreBytes}
 use Rattle.protocol.specs.declared.Phase.{Phase}
-use Rattle.protocol.specs.declared.Phase.TheVariants as Phase
 use Rattle.node.specs.Sizes.{records_per_call}
 use Rattle.fields.specs.Line.{field, line_of}
 use Rattle.playback_reply.specs.Sizes.{longest_answer, longest_reply}

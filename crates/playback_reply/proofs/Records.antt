@@ -10,7 +10,6 @@ use Rattle.area.proofs.Runs.{LaidTo}
 use Rattle.endian.proofs.LittleEndian.{are_bytes_take, are_bytes_drop, AreBytes}
 use Rattle.record.specs.Sizes.{record_bytes}
 use Rattle.record.specs.declared.Decoded.{Decoded}
-use Rattle.record.specs.declared.Decoded.TheVariants as Decoded
 use Rattle.record.specs.Decoded.{decoded}
 use Rattle.record.proofs.Decoding.{decoded_only}
 use Rattle.record_text.specs.Sizes.{longest_record_text}

@@ -6,7 +6,6 @@ use Rattle.record.specs.Sizes.{record_bytes}
 use Rattle.record.specs.Decoded.{decoded}
 use Rattle.record_text.specs.RecordText.{text_of}
 use Rattle.protocol.specs.declared.Phase.{Phase}
-use Rattle.protocol.specs.declared.Phase.TheVariants as Phase
 use Rattle.node.specs.Opening.{Opened}
 use Rattle.node.specs.Calls.{Called}
 pub use Rattle.playback_reply.specs.Sizes.{longest_answer, longest_reply}

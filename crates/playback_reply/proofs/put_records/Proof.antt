@@ -15,88 +15,88 @@ use Rattle.playback_reply.proofs.Records.{room_more, laid_more}
 use Rattle.playback_reply.proofs.put_records.Statement.{statement}
 use Rattle.playback_reply.proofs.put_records.Tie as tie
 
-abbrev invariant-loop : tie.invariant-loop
-invariant-loop out₀ at area n place₀ i₀ out place i =
+abbrev invariant-loop-i : tie.invariant-loop-i
+invariant-loop-i out₀ at area n place₀ i₀ out place i =
     (i ≤ n) × (n * record_bytes ≤ length area) × (at + n * longest_record_text ≤ length out) × (length out ≡ length out₀) × LaidTo out₀ at (record_lines i area) place out
 
-abbrev decreases-loop : tie.decreases-loop
-decreases-loop out₀ at area n place₀ i₀ out place i = n - i
+abbrev decreases-loop-i : tie.decreases-loop-i
+decreases-loop-i out₀ at area n place₀ i₀ out place i = n - i
 
 -- the places on the way, each from the one behind it; the area's numbers are bytes
-abbrev start : tie.At-loop invariant-loop decreases-loop → tie.Start invariant-loop decreases-loop
+abbrev start : tie.At-loop-i invariant-loop-i decreases-loop-i → tie.Start invariant-loop-i decreases-loop-i
 start c = c.before.before.before
 
-abbrev turn : tie.After-put-record-arg2 invariant-loop decreases-loop → tie.At-loop invariant-loop decreases-loop
+abbrev turn : tie.After-put_record-arg-in-loop-i-1 invariant-loop-i decreases-loop-i → tie.At-loop-i invariant-loop-i decreases-loop-i
 turn c = c.before.before.before
 
-bounded : (c : tie.At-loop invariant-loop decreases-loop) → AreBytes (start c).args.area.now
-bounded c = λ i. omega (arith, c.before.shared-slice-known.given i)
+bounded : (c : tie.At-loop-i invariant-loop-i decreases-loop-i) → AreBytes (start c).args.area.now
+bounded c = λ i. omega (arith, c.before.shared_slice_known-1.given i)
 
-loop-holds : tie.Need-loop-init invariant-loop decreases-loop
+loop-i-init : tie.Need-loop-i-init invariant-loop-i decreases-loop-i
 unfolding record_lines
-loop-holds c =
+loop-i-init c =
     let s = c.before.before in
     (omega arith, s.requires.0, s.requires.1, refl, (omega arith, sym (laid_none s.args.out.now s.args.at)))
 
-mul-start : tie.Need-overflow-mul-start invariant-loop decreases-loop
-mul-start c = omega arith
+overflow_mul-start : tie.Need-overflow_mul-start invariant-loop-i decreases-loop-i
+overflow_mul-start c = omega arith
 
-add-end : tie.Need-overflow-add-end invariant-loop decreases-loop
-add-end c = omega arith
+overflow_add-end : tie.Need-overflow_add-end invariant-loop-i decreases-loop-i
+overflow_add-end c = omega arith
 
-sub-put-record : tie.Need-overflow-sub-put-record invariant-loop decreases-loop
-sub-put-record c = omega arith
+slice_bounds-put_record-count : tie.Need-slice_bounds-put_record-count invariant-loop-i decreases-loop-i
+slice_bounds-put_record-count c = omega arith
 
-part-put-record-start : tie.Need-slice-bounds-put-record-start invariant-loop decreases-loop
-part-put-record-start c = search rules
-
-part-put-record-end : tie.Need-slice-bounds-put-record-end invariant-loop decreases-loop
-part-put-record-end c = omega arith
-
-put-record-requires : tie.Need-put-record-requires invariant-loop decreases-loop
-put-record-requires c κs =
-    let l = (turn c).loop in
+put_record-place-requires : tie.Need-put_record-place-requires invariant-loop-i decreases-loop-i
+put_record-place-requires c κs =
+    let l = (turn c).loop-i in
     let a = (start (turn c)).args in
-    room_more a.area.now l.out a.at l.i a.n _ (bounded (turn c)) (omega arith) l.inv.2 l.inv.4.0
+    room_more a.area.now l.out a.at l.i a.n _ (bounded (turn c)) (omega arith) l.invariant.2 l.invariant.4.0
 
-add-i : tie.Need-overflow-add-i invariant-loop decreases-loop
-add-i c = omega arith
+overflow_add-i : tie.Need-overflow_add-i invariant-loop-i decreases-loop-i
+overflow_add-i c = omega arith
 
-loop-less : tie.Need-loop-smaller invariant-loop decreases-loop
-loop-less c = omega arith
+loop-i-smaller : tie.Need-loop-i-smaller invariant-loop-i decreases-loop-i
+loop-i-smaller c = omega arith
 
-loop-again : tie.Need-loop-preserved invariant-loop decreases-loop
-loop-again c =
+loop-i-preserved : tie.Need-loop-i-preserved invariant-loop-i decreases-loop-i
+loop-i-preserved c =
     let p = c.before.before in
-    let l = (turn p.before).loop in
+    let l = (turn p.before).loop-i in
     let a = (start (turn p.before)).args in
-    let more = laid_more a.out.now a.area.now a.at l.i l.inv.4 p.put_record.ensures in
-    rw add-one (omega arith, l.inv.1, omega (arith, p.put_record.auto.0), omega (arith, p.put_record.auto.0), more)
+    let more = laid_more a.out.now a.area.now a.at l.i l.invariant.4 p.put_record-place.ensures in
+    rw add-one (omega arith, l.invariant.1, omega (arith, p.put_record-place.auto.out), omega (arith, p.put_record-place.auto.out), more)
 
-same_length : tie.Need-same-length invariant-loop decreases-loop
-same_length c = omega arith
+shape_of-out : tie.Need-shape_of-out invariant-loop-i decreases-loop-i
+shape_of-out c = omega arith
 
-returns : tie.Need-returns invariant-loop decreases-loop
+returns : tie.Need-returns invariant-loop-i decreases-loop-i
 returns c =
-    let l = c.before.loop in
+    let l = c.before.loop-i in
     let end : l.i ≡ (start c.before).args.n = omega arith in
     rw end at l.invariant.4
 
-pub put-records-spec : {M : Type 1} → statement M
-put-records-spec =
+slice_bounds-put_record-start : tie.Need-slice_bounds-put_record-start invariant-loop-i decreases-loop-i
+slice_bounds-put_record-start c = search rules
+
+slice_bounds-put_record-end : tie.Need-slice_bounds-put_record-end invariant-loop-i decreases-loop-i
+slice_bounds-put_record-end c = search rules
+
+pub put_records_spec : {M : Type 1} → statement M
+put_records_spec =
     tie.close
     (tie.spec
-    invariant-loop
-    decreases-loop
-    loop-holds
-    mul-start
-    add-end
-    sub-put-record
-    part-put-record-start
-    part-put-record-end
-    put-record-requires
-    add-i
-    loop-less
-    loop-again
-    same_length
+    invariant-loop-i
+    decreases-loop-i
+    loop-i-init
+    overflow_mul-start
+    overflow_add-end
+    slice_bounds-put_record-count
+    slice_bounds-put_record-start
+    slice_bounds-put_record-end
+    put_record-place-requires
+    overflow_add-i
+    loop-i-smaller
+    loop-i-preserved
+    shape_of-out
     returns)
