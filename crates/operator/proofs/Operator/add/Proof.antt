@@ -4,7 +4,6 @@ use Prim.Native.Nat.{ℕ, ◌+◌, ◌-◌, ◌*◌, ◌<◌, ◌≤◌}
 use mathlib.Core.Path.{◌≡◌, sym, ◌∙◌, ap₂, subst⁻¹}
 use mathlib.Core.Bool.{true, ◌&&◌}
 use mathlib.Core.List.{List}
-use mathlib.Core.Logic.{⊎_elim}
 use native.Mathlib.Omega.{arith}
 use borrow.Author.Rules.{rules}
 use lib.Dec.{eqb}
@@ -35,37 +34,38 @@ use Rattle.operator.proofs.Entered.{passing, Long, with_sum_long, counted_at, en
 use Rattle.operator.proofs.KnownMeters.{meter_known}
 use Rattle.operator.proofs.Operator.add.Statement.{statement}
 use Rattle.operator.proofs.Operator.add.Tie as tie
+use Rattle.operator.proofs.Operator.add.Lts.{then-inside-is_counted+then-newest-m, then-inside-is_counted+else-newest-m, else-inside-is_counted}
 
-abbrev invariant-loop : tie.invariant-loop
-invariant-loop s times values meters j o₀ kept newest₀ i₀ o newest i =
+abbrev invariant-loop-i : tie.invariant-loop-i
+invariant-loop-i s times values meters j o₀ kept newest₀ i₀ o newest i =
     Lines s j times values meters (take s.lines kept) (operator_of o₀) (passing o newest) i × Long o
 
-abbrev decreases-loop : tie.decreases-loop
-decreases-loop s times values meters j o₀ kept newest₀ i₀ o newest i = s.lines - i
+abbrev decreases-loop-i : tie.decreases-loop-i
+decreases-loop-i s times values meters j o₀ kept newest₀ i₀ o newest i = s.lines - i
 
-abbrev invariant-loop2 : tie.invariant-loop2
-invariant-loop2 s times values meters j o₀ kept newest₀ i at₀ end o newest at =
+abbrev invariant-loop-at : tie.invariant-loop-at
+invariant-loop-at s times values meters j o₀ kept newest₀ i at₀ end o newest at =
     Turn s j times values meters (passing o₀ newest₀) (passing o newest) at₀ at end × Long o
 
-abbrev decreases-loop2 : tie.decreases-loop2
-decreases-loop2 s times values meters j o₀ kept newest₀ i at₀ end o newest at = end - at
+abbrev decreases-loop-at : tie.decreases-loop-at
+decreases-loop-at s times values meters j o₀ kept newest₀ i at₀ end o newest at = end - at
 
 -- ---- the places on the way: the pass begins, a line is taken up, a place is visited, its value is read, its reading is tested, it has its
 -- meter, its sum is made, its count is read
 
 abbrev Begin : Type 0
-Begin = tie.Start invariant-loop2 decreases-loop2 invariant-loop decreases-loop
+Begin = tie.Start invariant-loop-at decreases-loop-at invariant-loop-i decreases-loop-i
 
 abbrev Line : Type 0
-Line = tie.Then1 invariant-loop2 decreases-loop2 invariant-loop decreases-loop
+Line = tie.In-loop-i invariant-loop-at decreases-loop-at invariant-loop-i decreases-loop-i
 
 abbrev Visit : Type 0
-Visit = tie.In-loop2 invariant-loop2 decreases-loop2 invariant-loop decreases-loop
+Visit = tie.In-loop-at invariant-loop-at decreases-loop-at invariant-loop-i decreases-loop-i
 
 abbrev Read : Type 0
-Read = tie.After-value invariant-loop2 decreases-loop2 invariant-loop decreases-loop
+Read = tie.After-value-1 invariant-loop-at decreases-loop-at invariant-loop-i decreases-loop-i
 
-abbrev begin : tie.At-loop invariant-loop2 decreases-loop2 invariant-loop decreases-loop → Begin
+abbrev begin : tie.At-loop-i invariant-loop-at decreases-loop-at invariant-loop-i decreases-loop-i → Begin
 begin l = l.before.before.before
 
 abbrev start : Line → Begin
@@ -77,58 +77,58 @@ line v = v.before.before
 abbrev visit : Read → Visit
 visit w = w.before.before
 
-abbrev tested : tie.After-is-counted invariant-loop2 decreases-loop2 invariant-loop decreases-loop → Read
+abbrev tested : tie.After-is_counted invariant-loop-at decreases-loop-at invariant-loop-i decreases-loop-i → Read
 tested c = c.before.before
 
-abbrev metered : tie.After-shared-slice-known4 invariant-loop2 decreases-loop2 invariant-loop decreases-loop → Read
+abbrev metered : tie.After-shared_slice_known-then-inside-is_counted-1 invariant-loop-at decreases-loop-at invariant-loop-i decreases-loop-i → Read
 metered c = tested c.before.before
 
-abbrev summed : tie.After-sum invariant-loop2 decreases-loop2 invariant-loop decreases-loop → Read
+abbrev summed : tie.After-sum-1 invariant-loop-at decreases-loop-at invariant-loop-i decreases-loop-i → Read
 summed c = metered c.before
 
-abbrev counted : tie.After-self invariant-loop2 decreases-loop2 invariant-loop decreases-loop → Read
+abbrev counted : tie.After-self-1 invariant-loop-at decreases-loop-at invariant-loop-i decreases-loop-i → Read
 counted c = summed c.before
 
 -- ---- a line that is taken up
 
 -- how many readings the lines keep
 abbrev kept_by : Begin → List ℕ
-kept_by b = take b.args.s.lines b.args.t3
+kept_by b = take b.args.s.lines b.args.kept
 
-all_kept : (b : Begin) → length b.args.t3 ≡ max_lines
-all_kept b = let owned = b.good.1.1.0 in search rules
+all_kept : (b : Begin) → length b.args.kept ≡ max_lines
+all_kept b = let owned = b.well_formed.1.1.0 in search rules
 
 all_lines : (b : Begin) → length (kept_by b) ≡ b.args.s.lines
-all_lines b = omega (arith, length-take b.args.s.lines b.args.t3, all_kept b, b.pre.0)
+all_lines b = omega (arith, length-take b.args.s.lines b.args.kept, all_kept b, b.requires.0)
 
-all_meters : (b : Begin) → Long b.args.t1
+all_meters : (b : Begin) → Long b.args.self
 all_meters b =
-    let sums = b.good.0.1.1.0 in
-    let counts = b.good.0.1.1.1.0 in
-    let lasts = b.good.0.1.1.1.1.0 in
+    let sums = b.well_formed.0.1.1.0 in
+    let counts = b.well_formed.0.1.1.1.0 in
+    let lasts = b.well_formed.0.1.1.1.1.0 in
     record { sums = search rules; counts = search rules; lasts = search rules }
 
 abbrev line_of : Line → ℕ
-line_of t = t.before.before.loop.i
+line_of t = t.before.before.loop-i.i
 
 some_line : (t : Line) → line_of t < length (kept_by (start t))
-some_line t = omega (arith, all_lines (start t), t.if1.taken)
+some_line t = omega (arith, all_lines (start t), t.loop-i-test.true)
 
 -- what the line keeps, as the code reads it
-kept_told : (t : Line) → get_or (kept_by (start t)) (line_of t) 0 ≡ get_or (start t).args.t3 (line_of t) 0
-kept_told t = get_or-take (start t).args.s.lines (start t).args.t3 (line_of t) 0 t.if1.taken
+kept_told : (t : Line) → get_or (kept_by (start t)) (line_of t) 0 ≡ get_or (start t).args.kept (line_of t) 0
+kept_told t = get_or-take (start t).args.s.lines (start t).args.kept (line_of t) 0 t.loop-i-test.true
 
 few : (t : Line) → get_or (kept_by (start t)) (line_of t) 0 ≤ readings_per_line
-few t = every_index (λ n. n ≤ readings_per_line) (kept_by (start t)) (line_of t) 0 (some_line t) (start t).pre.1.small
+few t = every_index (λ n. n ≤ readings_per_line) (kept_by (start t)) (line_of t) 0 (some_line t) (start t).requires.1.small
 
 -- its share lies in the column of times
-all_times : (t : Line) → line_of t * readings_per_line + get_or (start t).args.t3 (line_of t) 0 ≤ length (start t).args.times.now
-all_times t = omega (arith, some_line t, few t, kept_told t, (start t).pre.1.of_times)
+all_times : (t : Line) → line_of t * readings_per_line + get_or (start t).args.kept (line_of t) 0 ≤ length (start t).args.times.now
+all_times t = omega (arith, some_line t, few t, kept_told t, (start t).requires.1.of_times)
 
 -- ---- a place that is visited, and what stands there
 
 abbrev place : Visit → ℕ
-place v = v.before.loop2.at
+place v = v.before.loop-at.at
 
 abbrev time_at : Visit → ℕ
 time_at v = get_or (start (line v)).args.times.now (place v) 0
@@ -141,30 +141,30 @@ meter_of v = get_or (start (line v)).args.meters.now (place v) 0
 
 -- the sum of its meter
 abbrev sum_at : Visit → ℤ
-sum_at v = get_or v.before.loop2.self.sums (meter_of v) (pos 0)
+sum_at v = get_or v.before.loop-at.self.sums (meter_of v) (pos 0)
 
 below : (v : Visit) → place v < length (kept_by (start (line v))) * readings_per_line
-below v = omega (arith, some_line (line v), few (line v), kept_told (line v), v.loop2-test.taken)
+below v = omega (arith, some_line (line v), few (line v), kept_told (line v), v.loop-at-test.true)
 
 known : (v : Visit) → meter_of v < meter_count
 known v =
     let t = line v in
     let b = start t in
     let base = line_of t * readings_per_line in
-    let behind = v.before.loop2.inv.0.behind in
+    let behind = v.before.loop-at.invariant.0.behind in
     let e : 0 + base + (place v - base) ≡ place v = omega (arith, behind) in
     rw e at
-    (meter_known b.args.meters.now 0 (kept_by b) (line_of t) (place v - base) b.pre.1.known (some_line t)
-    (omega (arith, behind, kept_told t, v.loop2-test.taken)) (omega (arith, some_line t, few t, b.pre.1.of_meters)))
+    (meter_known b.args.meters.now 0 (kept_by b) (line_of t) (place v - base) b.requires.1.known (some_line t)
+    (omega (arith, behind, kept_told t, v.loop-at-test.true)) (omega (arith, some_line t, few t, b.requires.1.of_meters)))
 
 -- the count of its meter has room for one more, and the sum is one of so many values
 within :
-    (v : Visit) → let count = get_or v.before.loop2.self.counts (meter_of v) 0 in
+    (v : Visit) → let count = get_or v.before.loop-at.self.counts (meter_of v) 0 in
     (count ≤ count_limit + max_lines * readings_per_line) × InRange (sum_at v) count
 within v =
-    let l = v.before.loop2 in
-    let (count, range) = counted_at l.self (count_limit + place v) (meter_of v) (known v) l.inv.0.counted in
-    (omega (arith, below v, (start (line v)).pre.1.lines), range)
+    let l = v.before.loop-at in
+    let (count, range) = counted_at l.self (count_limit + place v) (meter_of v) (known v) l.invariant.0.counted in
+    (omega (arith, below v, (start (line v)).requires.1.lines), range)
 
 value_fits : (w : Read) → SFits w32 (value_at (visit w))
 value_fits w = search rules
@@ -190,7 +190,7 @@ sum_stored w =
 -- ---- what a visit leaves
 
 abbrev Left : Type 0
-Left = tie.Joined2 invariant-loop2 decreases-loop2 invariant-loop decreases-loop
+Left = tie.Joined-inside-is_counted invariant-loop-at decreases-loop-at invariant-loop-i decreases-loop-i
 
 abbrev visited : Left → Visit
 visited c = visit (tested c.before)
@@ -198,306 +198,311 @@ visited c = visit (tested c.before)
 -- the test of bucket and value
 test_told :
     (c : Left) → let v = visited c in let a = (start (line v)).args in
-    c.before.before.is-in.result && c.before.is-counted.result ≡
+    c.before.before.is_in-inside.result && c.before.is_counted.result ≡
     eqb (bucket_of a.s.bucket (record { 0 = time_at v })) a.j && is_counted a.s (value_at v)
 test_told c =
-    ap₂ ◌&&◌ c.before.before.is-in.ensures (rw (to_z-of_z (value_fits (tested c.before))) at c.before.is-counted.ensures)
+    ap₂ ◌&&◌ c.before.before.is_in-inside.ensures (rw (to_z-of_z (value_fits (tested c.before))) at c.before.is_counted.ensures)
 
 -- the reading is entered as the newest of its meter or as an older one, or passed over
 goes_on :
-    (c : Left) → let v = visited c in let a = (start (line v)).args in let l = v.before.loop2 in
-    passing c.if2.self c.if2.newest ≡ after_visit a.s a.j (passing l.self l.newest) (time_at v) (value_at v) (meter_of v)
+    (c : Left) → let v = visited c in let a = (start (line v)).args in let l = v.before.loop-at in
+    passing c.if-inside-is_counted.self c.if-inside-is_counted.newest ≡ after_visit a.s a.j (passing l.self l.newest) (time_at v) (value_at v) (meter_of v)
 goes_on c =
     let w = tested c.before in
     let v = visit w in
     let a = (start (line v)).args in
-    let l = v.before.loop2 in
+    let l = v.before.loop-at in
     let p : Passing = passing l.self l.newest in
-    ⊎_elim
-    (λ e.
-    (λ i. passing (e.5 i) (e.6 i)) ∙
-    entered_newest l.self l.newest (time_at v) (value_at v) (meter_of v) l.inv.1 (known v) _ (sum_stored w) _ (to_z-of_z (value_fits w))
-    (omega (arith, e.4.taken)) ∙
-    sym (visit_enters a.s a.j p (time_at v) (value_at v) (meter_of v) (sym (test_told c) ∙ e.0.taken)))
-    (⊎_elim
-    (λ e.
-    (λ i. passing (e.5 i) (e.6 i)) ∙
-    entered_older l.self l.newest (time_at v) (value_at v) (meter_of v) l.inv.1 (known v) _ (sum_stored w)
-    (omega (arith, e.4.left)) ∙
-    sym (visit_enters a.s a.j p (time_at v) (value_at v) (meter_of v) (sym (test_told c) ∙ e.0.taken)))
-    (λ e.
-    (λ i. passing (e.1 i) (e.2 i)) ∙
-    sym (visit_passes a.s a.j p (time_at v) (value_at v) (meter_of v) (sym (test_told c) ∙ e.0.left))))
-    c.if2.branch
+    elim c.if-inside-is_counted.branch [
+      | then-inside-is_counted+then-newest-m e ↦
+          (λ i. passing (e.self-is i) (e.newest-is i)) ∙
+          entered_newest l.self l.newest (time_at v) (value_at v) (meter_of v) l.invariant.1 (known v) _ (sum_stored w) _
+          (to_z-of_z (value_fits w)) (omega (arith, e.if-newest-m.true)) ∙
+          sym (visit_enters a.s a.j p (time_at v) (value_at v) (meter_of v) (sym (test_told c) ∙ e.if-inside-is_counted.true))
+      | then-inside-is_counted+else-newest-m e ↦
+          (λ i. passing (e.self-is i) (e.newest-is i)) ∙
+          entered_older l.self l.newest (time_at v) (value_at v) (meter_of v) l.invariant.1 (known v) _ (sum_stored w)
+          (omega (arith, e.if-newest-m.false)) ∙
+          sym (visit_enters a.s a.j p (time_at v) (value_at v) (meter_of v) (sym (test_told c) ∙ e.if-inside-is_counted.true))
+      | else-inside-is_counted e ↦
+          (λ i. passing (e.self-is i) (e.newest-is i)) ∙
+          sym (visit_passes a.s a.j p (time_at v) (value_at v) (meter_of v) (sym (test_told c) ∙ e.if-inside-is_counted.false))
+    ]
 
 -- and the columns keep their places
-long_yet : (c : Left) → Long c.if2.self
+long_yet : (c : Left) → Long c.if-inside-is_counted.self
 long_yet c =
     let m = meter_of (visited c) in
-    let l = (visited c).before.loop2 in
-    let long = l.inv.1 in
-    ⊎_elim
-    (λ e. subst⁻¹ Long e.5 (with_sum_long l.self m _ _ long (length-set l.self.lasts m _ ∙ long.lasts)))
-    (⊎_elim
-    (λ e. subst⁻¹ Long e.5 (with_sum_long l.self m _ _ long long.lasts))
-    (λ e. subst⁻¹ Long e.1 long))
-    c.if2.branch
+    let l = (visited c).before.loop-at in
+    let long = l.invariant.1 in
+    elim c.if-inside-is_counted.branch [
+      | then-inside-is_counted+then-newest-m e ↦
+          subst⁻¹ Long e.self-is (with_sum_long l.self m _ _ long (length-set l.self.lasts m _ ∙ long.lasts))
+      | then-inside-is_counted+else-newest-m e ↦ subst⁻¹ Long e.self-is (with_sum_long l.self m _ _ long long.lasts)
+      | else-inside-is_counted e ↦ subst⁻¹ Long e.self-is long
+    ]
 
 -- so the pass has met one place more
 turns :
     (c : Left) → let v = visited c in
     let t = line v in
     let a = (start t).args in
-    let l₀ = t.before.before.loop in
+    let l₀ = t.before.before.loop-i in
     Turn a.s a.j a.times.now a.values.now a.meters.now (passing l₀.self l₀.newest)
-    (passing c.if2.self c.if2.newest) (line_of t * readings_per_line) (place v + 1)
-    (line_of t * readings_per_line + get_or a.t3 (line_of t) 0)
+    (passing c.if-inside-is_counted.self c.if-inside-is_counted.newest) (line_of t * readings_per_line) (place v + 1)
+    (line_of t * readings_per_line + get_or a.kept (line_of t) 0)
 turns c =
     let w = tested c.before in
     let v = visit w in
     let t = line v in
     let a = (start t).args in
-    let l₀ = t.before.before.loop in
-    let l = v.before.loop2 in
+    let l₀ = t.before.before.loop-i in
+    let l = v.before.loop-at in
     rw (goes_on c)
     (turn_more a.s a.j a.times.now a.values.now a.meters.now (passing l₀.self l₀.newest) (passing l.self l.newest)
-    (line_of t * readings_per_line) (place v) _ l.inv.0 v.loop2-test.taken (all_times t) (value_fits w).sfits)
+    (line_of t * readings_per_line) (place v) _ l.invariant.0 v.loop-at-test.true (all_times t) (value_fits w).sfits)
 
 -- ---- the needs
 
-loop-holds : tie.Need-loop-init invariant-loop2 decreases-loop2 invariant-loop decreases-loop
+loop-i-init : tie.Need-loop-i-init invariant-loop-at decreases-loop-at invariant-loop-i decreases-loop-i
 unfolding started
-loop-holds c =
+loop-i-init c =
     let b = c.before.before in
     let a = b.args in (
-      lines_start a.s a.j a.times.now a.values.now a.meters.now (kept_by b) (operator_of a.t1)
-          (meters_ok (operator_of a.t1).meters b.requires.1.bounds),
+      lines_start a.s a.j a.times.now a.values.now a.meters.now (kept_by b) (operator_of a.self)
+          (meters_ok (operator_of a.self).meters b.requires.1.bounds),
       all_meters b,
     )
 
-cast-if1 : tie.Need-overflow-cast-if1 invariant-loop2 decreases-loop2 invariant-loop decreases-loop
-cast-if1 c = omega (arith, (begin c.before).pre.0)
+overflow_cast-s : tie.Need-overflow_cast-s invariant-loop-at decreases-loop-at invariant-loop-i decreases-loop-i
+overflow_cast-s c = omega (arith, (begin c.before).requires.0)
 
-mul_at : tie.Need-overflow-mul-at invariant-loop2 decreases-loop2 invariant-loop decreases-loop
-mul_at c = omega (arith, some_line c, (start c).requires.1.lines)
+overflow_mul-at : tie.Need-overflow_mul-at invariant-loop-at decreases-loop-at invariant-loop-i decreases-loop-i
+overflow_mul-at c =
+    let b = begin c.before.before in
+    omega (arith, all_lines b, c.loop-i-test.true, b.requires.1.lines)
 
-mul-end : tie.Need-overflow-mul-end invariant-loop2 decreases-loop2 invariant-loop decreases-loop
-mul-end c = omega (arith, some_line c, (start c).requires.1.lines)
+offset_bounds-kept-i : tie.Need-offset_bounds-kept-i invariant-loop-at decreases-loop-at invariant-loop-i decreases-loop-i
+offset_bounds-kept-i c =
+    let b = begin c.before.before in
+    omega (arith, all_lines b, c.loop-i-test.true, b.requires.1.lines)
 
-array-read-end : tie.Need-array-read-end invariant-loop2 decreases-loop2 invariant-loop decreases-loop
-array-read-end c = omega (arith, some_line c, (start c).requires.1.lines)
+bounds-kept-i : tie.Need-bounds-kept-i invariant-loop-at decreases-loop-at invariant-loop-i decreases-loop-i
+bounds-kept-i c =
+    let b = begin c.before.before in
+    omega (arith, all_lines b, c.loop-i-test.true, b.requires.1.lines)
 
-cast-end : tie.Need-overflow-cast-end invariant-loop2 decreases-loop2 invariant-loop decreases-loop
-cast-end c = omega (arith, few c, kept_told c)
+overflow_cast-end : tie.Need-overflow_cast-end invariant-loop-at decreases-loop-at invariant-loop-i decreases-loop-i
+overflow_cast-end c = omega (arith, few c, kept_told c)
 
-add-end : tie.Need-overflow-add-end invariant-loop2 decreases-loop2 invariant-loop decreases-loop
-add-end c = omega (arith, some_line c, (start c).requires.1.lines, few c, kept_told c)
+overflow_add-end : tie.Need-overflow_add-end invariant-loop-at decreases-loop-at invariant-loop-i decreases-loop-i
+overflow_add-end c = omega (arith, some_line c, (start c).requires.1.lines, few c, kept_told c)
 
-loop2-holds : tie.Need-loop2-init invariant-loop2 decreases-loop2 invariant-loop decreases-loop
-loop2-holds c =
+loop-at-init : tie.Need-loop-at-init invariant-loop-at decreases-loop-at invariant-loop-i decreases-loop-i
+loop-at-init c =
     let a = (start c).args in
-    let l = c.before.before.loop in (
+    let l = c.before.before.loop-i in (
       turn_start a.s a.j a.times.now a.values.now a.meters.now (passing l.self l.newest) (l.i * readings_per_line) _
           (omega arith) l.invariant.0.counted,
       l.invariant.1,
     )
 
-mul-time : tie.Need-overflow-mul-time invariant-loop2 decreases-loop2 invariant-loop decreases-loop
-mul-time c = omega (arith, below c, (start (line c)).pre.1.lines)
+offset_bounds-times-at : tie.Need-offset_bounds-times-at invariant-loop-at decreases-loop-at invariant-loop-i decreases-loop-i
+offset_bounds-times-at c = omega (arith, below c, (start (line c)).requires.1.lines)
 
-shared-slice-read-time : tie.Need-shared-slice-read-time invariant-loop2 decreases-loop2 invariant-loop decreases-loop
-shared-slice-read-time c = omega (arith, below c.before, (start (line c.before)).pre.1.of_times)
+bounds-times-at : tie.Need-bounds-times-at invariant-loop-at decreases-loop-at invariant-loop-i decreases-loop-i
+bounds-times-at c = omega (arith, below c.before, (start (line c.before)).requires.1.of_times)
 
-mul-value : tie.Need-overflow-mul-value invariant-loop2 decreases-loop2 invariant-loop decreases-loop
-mul-value c = omega (arith, below c.before, (start (line c.before)).pre.1.lines)
+offset_bounds-values-at : tie.Need-offset_bounds-values-at invariant-loop-at decreases-loop-at invariant-loop-i decreases-loop-i
+offset_bounds-values-at c = omega (arith, below c.before, (start (line c.before)).requires.1.lines)
 
-shared-slice-copy-out-value : tie.Need-shared-slice-copy-out-value invariant-loop2 decreases-loop2 invariant-loop decreases-loop
-shared-slice-copy-out-value c = omega (arith, below c.before, (start (line c.before)).pre.1.of_values)
+bounds-values-at : tie.Need-bounds-values-at invariant-loop-at decreases-loop-at invariant-loop-i decreases-loop-i
+bounds-values-at c = omega (arith, below c.before, (start (line c.before)).requires.1.of_values)
 
-is-in-requires : tie.Need-is-in-requires invariant-loop2 decreases-loop2 invariant-loop decreases-loop
-is-in-requires c κs = (start (line (visit c))).pre.1.bucket
+is_in-inside-requires : tie.Need-is_in-inside-requires invariant-loop-at decreases-loop-at invariant-loop-i decreases-loop-i
+is_in-inside-requires c κs = (start (line (visit c))).requires.1.bucket
 
-is-counted-requires : tie.Need-is-counted-requires invariant-loop2 decreases-loop2 invariant-loop decreases-loop
-is-counted-requires c κs = tt
+is_counted-requires : tie.Need-is_counted-requires invariant-loop-at decreases-loop-at invariant-loop-i decreases-loop-i
+is_counted-requires c κs = tt
 
-shared-slice-read-m : tie.Need-shared-slice-read-m invariant-loop2 decreases-loop2 invariant-loop decreases-loop
-shared-slice-read-m c = omega (arith, below (visit (metered c)), (start (line (visit (metered c)))).pre.1.of_meters)
+bounds-meters-at : tie.Need-bounds-meters-at invariant-loop-at decreases-loop-at invariant-loop-i decreases-loop-i
+bounds-meters-at c = let v = visit (tested c.before.before) in omega (arith, below v, (start (line v)).requires.1.of_meters)
 
-cast-m : tie.Need-overflow-cast-m invariant-loop2 decreases-loop2 invariant-loop decreases-loop
-cast-m c = omega (arith, known (visit (metered c)))
+overflow_cast-m : tie.Need-overflow_cast-m invariant-loop-at decreases-loop-at invariant-loop-i decreases-loop-i
+overflow_cast-m c = omega (arith, known (visit (metered c)))
 
-mul-sum : tie.Need-overflow-mul-sum invariant-loop2 decreases-loop2 invariant-loop decreases-loop
-mul-sum c = omega (arith, known (visit (metered c)))
+offset_bounds-self-m : tie.Need-offset_bounds-self-m invariant-loop-at decreases-loop-at invariant-loop-i decreases-loop-i
+offset_bounds-self-m c = omega (arith, known (visit (metered c)))
 
-element-copy-out-sum : tie.Need-element-copy-out-sum invariant-loop2 decreases-loop2 invariant-loop decreases-loop
-element-copy-out-sum c = known (visit (metered c))
+bounds-self-m : tie.Need-bounds-self-m invariant-loop-at decreases-loop-at invariant-loop-i decreases-loop-i
+bounds-self-m c = known (visit (metered c))
 
-cast-sum : tie.Need-overflow-cast-sum invariant-loop2 decreases-loop2 invariant-loop decreases-loop
-cast-sum c = let fits = value_fits (summed c) in rw (to_z-of_z fits) (sfits_widen tt fits)
+overflow_cast-sum : tie.Need-overflow_cast-sum invariant-loop-at decreases-loop-at invariant-loop-i decreases-loop-i
+overflow_cast-sum c = let fits = value_fits (summed c) in rw (to_z-of_z fits) (sfits_widen tt fits)
 
-add-sum : tie.Need-overflow-add-sum invariant-loop2 decreases-loop2 invariant-loop decreases-loop
-add-sum c =
+overflow_add-sum : tie.Need-overflow_add-sum invariant-loop-at decreases-loop-at invariant-loop-i decreases-loop-i
+overflow_add-sum c =
     let w = summed c in
     let fits = value_fits w in
     rw (to_z-of_z (sum_fits (visit w)), to_z-of_z fits, to_z-of_z (sfits_widen tt fits)) (next_fits w)
 
-mul-sum-2 : tie.Need-overflow-mul-sum-2 invariant-loop2 decreases-loop2 invariant-loop decreases-loop
-mul-sum-2 c = omega (arith, known (visit (summed c)))
+offset_bounds-self-m-then-inside-is_counted : tie.Need-offset_bounds-self-m-then-inside-is_counted invariant-loop-at decreases-loop-at invariant-loop-i decreases-loop-i
+offset_bounds-self-m-then-inside-is_counted c = omega (arith, known (visit (summed c)))
 
-element-set-from-sum : tie.Need-element-set-from-sum invariant-loop2 decreases-loop2 invariant-loop decreases-loop
-element-set-from-sum c = known (visit (summed c))
+bounds-self-m-then-inside-is_counted : tie.Need-bounds-self-m-then-inside-is_counted invariant-loop-at decreases-loop-at invariant-loop-i decreases-loop-i
+bounds-self-m-then-inside-is_counted c = known (visit (summed c))
 
-mul-self : tie.Need-overflow-mul-self invariant-loop2 decreases-loop2 invariant-loop decreases-loop
-mul-self c = omega (arith, known (visit (summed c)))
+offset_bounds-self-m-then-inside-is_counted-2 : tie.Need-offset_bounds-self-m-then-inside-is_counted-2 invariant-loop-at decreases-loop-at invariant-loop-i decreases-loop-i
+offset_bounds-self-m-then-inside-is_counted-2 c = omega (arith, known (visit (summed c)))
 
-element-copy-out-self : tie.Need-element-copy-out-self invariant-loop2 decreases-loop2 invariant-loop decreases-loop
-element-copy-out-self c = known (visit (summed c))
+bounds-self-m-then-inside-is_counted-2 : tie.Need-bounds-self-m-then-inside-is_counted-2 invariant-loop-at decreases-loop-at invariant-loop-i decreases-loop-i
+bounds-self-m-then-inside-is_counted-2 c = known (visit (summed c))
 
-add-self : tie.Need-overflow-add-self invariant-loop2 decreases-loop2 invariant-loop decreases-loop
-add-self c = let (count, range) = within (visit (counted c)) in omega arith
+overflow_add-self : tie.Need-overflow_add-self invariant-loop-at decreases-loop-at invariant-loop-i decreases-loop-i
+overflow_add-self c = let (count, range) = within (visit (summed c.before)) in omega arith
 
-mul-self-2 : tie.Need-overflow-mul-self-2 invariant-loop2 decreases-loop2 invariant-loop decreases-loop
-mul-self-2 c = omega (arith, known (visit (counted c)))
+offset_bounds-self-m-then-inside-is_counted-3 : tie.Need-offset_bounds-self-m-then-inside-is_counted-3 invariant-loop-at decreases-loop-at invariant-loop-i decreases-loop-i
+offset_bounds-self-m-then-inside-is_counted-3 c = omega (arith, known (visit (summed c.before)))
 
-element-write-self : tie.Need-element-write-self invariant-loop2 decreases-loop2 invariant-loop decreases-loop
-element-write-self c = known (visit (counted c))
+bounds-self-m-then-inside-is_counted-3 : tie.Need-bounds-self-m-then-inside-is_counted-3 invariant-loop-at decreases-loop-at invariant-loop-i decreases-loop-i
+bounds-self-m-then-inside-is_counted-3 c = known (visit (summed c.before))
 
-mul-if3 : tie.Need-overflow-mul-if3 invariant-loop2 decreases-loop2 invariant-loop decreases-loop
-mul-if3 c = omega (arith, known (visit (counted c)))
+offset_bounds-newest-m : tie.Need-offset_bounds-newest-m invariant-loop-at decreases-loop-at invariant-loop-i decreases-loop-i
+offset_bounds-newest-m c = omega (arith, known (visit (summed c.before)))
 
-array-read-if3 : tie.Need-array-read-if3 invariant-loop2 decreases-loop2 invariant-loop decreases-loop
-array-read-if3 c = known (visit (counted c))
+bounds-newest-m : tie.Need-bounds-newest-m invariant-loop-at decreases-loop-at invariant-loop-i decreases-loop-i
+bounds-newest-m c = known (visit (summed c.before))
 
-mul-value-2 : tie.Need-overflow-mul-value-2 invariant-loop2 decreases-loop2 invariant-loop decreases-loop
-mul-value-2 c = omega (arith, known (visit (counted c.before)))
+offset_bounds-self-m-then-newest-m : tie.Need-offset_bounds-self-m-then-newest-m invariant-loop-at decreases-loop-at invariant-loop-i decreases-loop-i
+offset_bounds-self-m-then-newest-m c = omega (arith, known (visit (counted c.before)))
 
-element-set-from-value : tie.Need-element-set-from-value invariant-loop2 decreases-loop2 invariant-loop decreases-loop
-element-set-from-value c = known (visit (counted c.before))
+bounds-self-m-then-newest-m : tie.Need-bounds-self-m-then-newest-m invariant-loop-at decreases-loop-at invariant-loop-i decreases-loop-i
+bounds-self-m-then-newest-m c = known (visit (counted c.before))
 
-mul-newest : tie.Need-overflow-mul-newest invariant-loop2 decreases-loop2 invariant-loop decreases-loop
-mul-newest c = omega (arith, known (visit (counted c.before)))
+offset_bounds-newest-m-then-newest-m : tie.Need-offset_bounds-newest-m-then-newest-m invariant-loop-at decreases-loop-at invariant-loop-i decreases-loop-i
+offset_bounds-newest-m-then-newest-m c = omega (arith, known (visit (counted c.before)))
 
-array-write-newest : tie.Need-array-write-newest invariant-loop2 decreases-loop2 invariant-loop decreases-loop
-array-write-newest c = known (visit (counted c.before))
+bounds-newest-m-then-newest-m : tie.Need-bounds-newest-m-then-newest-m invariant-loop-at decreases-loop-at invariant-loop-i decreases-loop-i
+bounds-newest-m-then-newest-m c = known (visit (counted c.before))
 
-add_at : tie.Need-overflow-add-at invariant-loop2 decreases-loop2 invariant-loop decreases-loop
-add_at c = let t = visit (tested c.before) in omega (arith, below t, (start (line t)).pre.1.lines)
+overflow_add-at : tie.Need-overflow_add-at invariant-loop-at decreases-loop-at invariant-loop-i decreases-loop-i
+overflow_add-at c = let t = visit (tested c.before) in omega (arith, below t, (start (line t)).requires.1.lines)
 
-next-in-requires : tie.Need-next-in-requires invariant-loop2 decreases-loop2 invariant-loop decreases-loop
-next-in-requires c κs =
+next_in-at-requires : tie.Need-next_in-at-requires invariant-loop-at decreases-loop-at invariant-loop-i decreases-loop-i
+next_in-at-requires c κs =
     let v = visited c.before in
-    ((start (line v)).pre.1.bucket, omega (arith, v.loop2-test.taken), all_times (line v))
+    ((start (line v)).requires.1.bucket, omega (arith, v.loop-at-test.true), all_times (line v))
 
-loop2-less : tie.Need-loop2-smaller invariant-loop2 decreases-loop2 invariant-loop decreases-loop
-loop2-less c =
+loop-at-smaller-then-not-inside : tie.Need-loop-at-smaller-then-not-inside invariant-loop-at decreases-loop-at invariant-loop-i decreases-loop-i
+loop-at-smaller-then-not-inside c =
     let d = c.before.before in
     let v = visited d in
     let a = (start (line v)).args in
     omega (
       arith,
-      v.loop2-test.taken,
-      c.next-in.ensures,
+      v.loop-at-test.true,
+      c.next_in-at.ensures,
       first_within (is_time_of true a.s.bucket a.j) (place v + 1) _ a.times.now (turns d).within,
     )
 
-loop2-again : tie.Need-loop2-preserved invariant-loop2 decreases-loop2 invariant-loop decreases-loop
-loop2-again c =
+loop-at-preserved-then-not-inside : tie.Need-loop-at-preserved-then-not-inside invariant-loop-at decreases-loop-at invariant-loop-i decreases-loop-i
+loop-at-preserved-then-not-inside c =
     let d = c.before.before in
     let v = visited d in
     let t = line v in
     let a = (start t).args in
-    let l₀ = t.before.before.loop in (
+    let l₀ = t.before.before.loop-i in (
       turn_skips a.s a.j a.times.now a.values.now a.meters.now (passing l₀.self l₀.newest)
-          (passing d.if2.self d.if2.newest) (line_of t * readings_per_line) (place v + 1) _ (turns d) c.next-in.result
-          c.next-in.ensures (all_times t),
+          (passing d.if-inside-is_counted.self d.if-inside-is_counted.newest) (line_of t * readings_per_line) (place v + 1) _ (turns d) c.next_in-at.result
+          c.next_in-at.ensures (all_times t),
       long_yet d,
     )
 
-loop2-less-2 : tie.Need-loop2-smaller-2 invariant-loop2 decreases-loop2 invariant-loop decreases-loop
-loop2-less-2 c = omega (arith, (visited c.before).loop2-test.taken)
+loop-at-smaller : tie.Need-loop-at-smaller invariant-loop-at decreases-loop-at invariant-loop-i decreases-loop-i
+loop-at-smaller c = omega (arith, (visited c.before).loop-at-test.true)
 
-loop2-again-2 : tie.Need-loop2-preserved-2 invariant-loop2 decreases-loop2 invariant-loop decreases-loop
-loop2-again-2 c = (turns c.before, long_yet c.before)
+loop-at-preserved : tie.Need-loop-at-preserved invariant-loop-at decreases-loop-at invariant-loop-i decreases-loop-i
+loop-at-preserved c = (turns c.before, long_yet c.before)
 
-add-i : tie.Need-overflow-add-i invariant-loop2 decreases-loop2 invariant-loop decreases-loop
-add-i c = let t = c.before.before in omega (arith, some_line t, (start t).requires.1.lines)
+overflow_add-i : tie.Need-overflow_add-i invariant-loop-at decreases-loop-at invariant-loop-i decreases-loop-i
+overflow_add-i c = let t = c.before.before in omega (arith, some_line t, (start t).requires.1.lines)
 
-loop-less : tie.Need-loop-smaller invariant-loop2 decreases-loop2 invariant-loop decreases-loop
-loop-less c = omega (arith, c.before.before.if1.true)
+loop-i-smaller : tie.Need-loop-i-smaller invariant-loop-at decreases-loop-at invariant-loop-i decreases-loop-i
+loop-i-smaller c = omega (arith, c.before.before.loop-i-test.true)
 
-loop-again : tie.Need-loop-preserved invariant-loop2 decreases-loop2 invariant-loop decreases-loop
-loop-again c =
+loop-i-preserved : tie.Need-loop-i-preserved invariant-loop-at decreases-loop-at invariant-loop-i decreases-loop-i
+loop-i-preserved c =
     let t = c.before.before in
     let b = start t in
     let a = b.args in
-    let l = t.before.before.loop in
-    let l2 = c.before.loop2 in (
-      lines_more a.s a.j a.times.now a.values.now a.meters.now (kept_by b) (operator_of a.t1)
+    let l = t.before.before.loop-i in
+    let l2 = c.before.loop-at in (
+      lines_more a.s a.j a.times.now a.values.now a.meters.now (kept_by b) (operator_of a.self)
           (passing l.self l.newest) l.i l.invariant.0 (passing l2.self l2.newest) l2.at _ (some_line t) (few t)
-          (omega (arith, kept_told t)) l2.invariant.0 c.loop2-test.false,
+          (omega (arith, kept_told t)) l2.invariant.0 c.loop-at-test.false,
       l2.invariant.1,
     )
 
-returns : tie.Need-returns invariant-loop2 decreases-loop2 invariant-loop decreases-loop
+returns : tie.Need-returns invariant-loop-at decreases-loop-at invariant-loop-i decreases-loop-i
 returns c =
-    let l = c.before.before.loop in
+    let l = c.before.before.loop-i in
     let b = begin c.before.before in
     let a = b.args in
-    let o = operator_of a.t1 in
+    let o = operator_of a.self in
     let p : Passing = passing l.self l.newest in (
       lines_in_range a.s a.j a.times.now a.values.now a.meters.now (kept_by b) o p l.i l.invariant.0,
       lines_end a.s a.j a.times.now a.values.now a.meters.now (kept_by b) o p l.i l.invariant.0
-          (omega (arith, all_lines b, c.if1.false)) (length_meters a.t1.counts a.t1.sums a.t1.lasts) b.pre.1.small,
+          (omega (arith, all_lines b, c.loop-i-test.false)) (length_meters a.self.counts a.self.sums a.self.lasts) b.requires.1.small,
     )
 
 pub add_spec : {M : Type 1} → statement M
 add_spec =
     tie.close
     (tie.spec
-    invariant-loop2
-    decreases-loop2
-    invariant-loop
-    decreases-loop
-    loop-holds
-    cast-if1
-    mul_at
-    mul-end
-    array-read-end
-    cast-end
-    add-end
-    loop2-holds
-    mul-time
-    shared-slice-read-time
-    mul-value
-    shared-slice-copy-out-value
-    is-in-requires
-    is-counted-requires
-    shared-slice-read-m
-    cast-m
-    mul-sum
-    element-copy-out-sum
-    cast-sum
-    add-sum
-    mul-sum-2
-    element-set-from-sum
-    mul-self
-    element-copy-out-self
-    add-self
-    mul-self-2
-    element-write-self
-    mul-if3
-    array-read-if3
-    mul-value-2
-    element-set-from-value
-    mul-newest
-    array-write-newest
-    add_at
-    next-in-requires
-    loop2-less
-    loop2-again
-    loop2-less-2
-    loop2-again-2
-    add-i
-    loop-less
-    loop-again
+    invariant-loop-at
+    decreases-loop-at
+    invariant-loop-i
+    decreases-loop-i
+    loop-i-init
+    overflow_cast-s
+    overflow_mul-at
+    offset_bounds-kept-i
+    bounds-kept-i
+    overflow_cast-end
+    overflow_add-end
+    loop-at-init
+    offset_bounds-times-at
+    bounds-times-at
+    offset_bounds-values-at
+    bounds-values-at
+    is_in-inside-requires
+    is_counted-requires
+    bounds-meters-at
+    overflow_cast-m
+    offset_bounds-self-m
+    bounds-self-m
+    overflow_cast-sum
+    overflow_add-sum
+    offset_bounds-self-m-then-inside-is_counted
+    bounds-self-m-then-inside-is_counted
+    offset_bounds-self-m-then-inside-is_counted-2
+    bounds-self-m-then-inside-is_counted-2
+    overflow_add-self
+    offset_bounds-self-m-then-inside-is_counted-3
+    bounds-self-m-then-inside-is_counted-3
+    offset_bounds-newest-m
+    bounds-newest-m
+    offset_bounds-self-m-then-newest-m
+    bounds-self-m-then-newest-m
+    offset_bounds-newest-m-then-newest-m
+    bounds-newest-m-then-newest-m
+    overflow_add-at
+    next_in-at-requires
+    loop-at-smaller-then-not-inside
+    loop-at-preserved-then-not-inside
+    loop-at-smaller
+    loop-at-preserved
+    overflow_add-i
+    loop-i-smaller
+    loop-i-preserved
     returns)

@@ -11,4 +11,7 @@ unfolding clear no_meter meters_of meters_from meter_at
 returns c = refl
 
 pub clear_spec : {M : Type 1} → statement M
-clear_spec = tie.close (tie.spec returns)
+clear_spec =
+    tie.close
+    (tie.spec
+    returns)

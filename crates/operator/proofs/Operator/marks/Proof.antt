@@ -9,15 +9,19 @@ use Rattle.operator.proofs.FromColumns.{tests_of}
 use Rattle.operator.proofs.Operator.marks.Statement.{statement}
 use Rattle.operator.proofs.Operator.marks.Tie as tie
 
-marks-of-requires : tie.Need-marks-of-requires
-marks-of-requires c κs = tt
+marks_of-requires : tie.Need-marks_of-requires
+marks_of-requires c κs = tt
 
 returns : tie.Need-returns
 unfolding marks_of
 returns c =
     let o = c.before.before.args.self in
     let sized : length o.counts ≡ meter_count = search rules in
-    c.marks-of.ensures ∙ ap (words_of word_count) (tests_of o.counts o.sums o.lasts sized)
+    c.marks_of.ensures ∙ ap (words_of word_count) (tests_of o.counts o.sums o.lasts sized)
 
-pub marks-spec : {M : Type 1} → statement M
-marks-spec = tie.close (tie.spec marks-of-requires returns)
+pub marks_spec : {M : Type 1} → statement M
+marks_spec =
+    tie.close
+    (tie.spec
+    marks_of-requires
+    returns)

@@ -9,20 +9,25 @@ use Rattle.operator.proofs.NextResults.{marked_givers}
 use Rattle.operator.proofs.Operator.results_ahead.Statement.{statement}
 use Rattle.operator.proofs.Operator.results_ahead.Tie as tie
 
-marks-requires : tie.Need-marks-requires
-marks-requires c κs = tt
+marks-marked-requires : tie.Need-marks-marked-requires
+marks-marked-requires c κs = tt
 
-marked-count-requires : tie.Need-marked-count-requires
-marked-count-requires c κs = tt
+marked_count-requires : tie.Need-marked_count-requires
+marked_count-requires c κs = tt
 
 returns : tie.Need-returns
 unfolding close
 returns c s kind j =
     let o = c.before.before.args.self in
-    c.marked-count.ensures ∙
-    ap marked_count c.before.marks.ensures ∙
+    c.marked_count.ensures ∙
+    ap marked_count c.before.marks-marked.ensures ∙
     marked_givers (operator_of o).meters (length_meters o.counts o.sums o.lasts) ∙
     sym (window_results_length s kind j (operator_of o))
 
-pub results-ahead-spec : {M : Type 1} → statement M
-results-ahead-spec = tie.close (tie.spec marks-requires marked-count-requires returns)
+pub results_ahead_spec : {M : Type 1} → statement M
+results_ahead_spec =
+    tie.close
+    (tie.spec
+    marks-marked-requires
+    marked_count-requires
+    returns)
