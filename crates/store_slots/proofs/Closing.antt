@@ -5,8 +5,9 @@ use mathlib.Core.Bool.{Bool, true, false, cond}
 use mathlib.Core.List.{List, [], ◌∷◌, ◌++◌, append_assoc, append-nil}
 use Prim.Native.Nat.{ℕ, suc, ◌+◌, ◌-◌, ◌<◌, ◌≤◌}
 use native.Mathlib.Omega.{arith}
+use native.Mathlib.Numerals.{add-one}
 use lib.ListN.{length, get_or, set, take, drop, replicate, length-append, length-replicate, length-drop}
-use lib.Seq.{sets, length-sets, take-suc, get_or-drop}
+use lib.Seq.{sets, take-suc, get_or-drop}
 use Rattle.store.specs.Lists.{keep}
 use Rattle.store.specs.Parts.{share}
 use Rattle.store.proofs.Keeping.{keep_append, length_keep_share}
@@ -32,9 +33,6 @@ module _ {A : Type 0} (test : A → Bool) where
 
     length_run : (i : ℕ) → length (kept i ++ replicate (i - length (kept i)) blank) ≡ i
     length_run i = omega (arith, length-append (kept i) (replicate (i - length (kept i)) blank), length-replicate (i - length (kept i)) blank, kept_at_most i)
-
-    pub length_closed : (i : ℕ) → length (closed_run i) ≡ length ys
-    length_closed i = length-sets ys base (kept i ++ replicate (i - length (kept i)) blank)
 
     -- the next reading is still in its place
     closed_next : (i : ℕ) → get_or (closed_run i) (base + i) blank ≡ get_or ys (base + i) blank
@@ -106,3 +104,14 @@ module _ {A : Type 0} (test : A → Bool) where
       count_stays e =
           let r = get_or ys (base + i) blank in
           omega (arith, length-append (kept i) (r ∷ []), ap length (kept_stays i within (ap test (sym (closed_next i)) ∙ e)))
+
+    -- a turn, by what is known of the list and of the count before it
+    module _ (i k : ℕ) (l : List A) (within : base + i < length ys) (e : k ≡ length (kept i)) (f : l ≡ closed_run i) where
+      pub turn_stays :
+          test (get_or l (base + i) blank) ≡ true →
+          (k + 1 ≡ length (kept (i + 1))) × (set (set l (base + i) blank) (base + k) (get_or l (base + i) blank) ≡ closed_run (i + 1))
+      turn_stays t = let told = rw f at t in rw (add-one i, e, f) (count_stays i within told, closed_stays i within told)
+
+      pub turn_goes :
+          test (get_or l (base + i) blank) ≡ false → (k ≡ length (kept (i + 1))) × (set l (base + i) blank ≡ closed_run (i + 1))
+      turn_goes t = let told = rw f at t in rw (add-one i, e, f) (count_goes i within told, closed_goes i within told)

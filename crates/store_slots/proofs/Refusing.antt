@@ -1,13 +1,11 @@
 -- When close_up finds a share, and what it owes then and where it refuses; how the code's test of a bucket is the definition's. By the
 -- tests' values.
-use mathlib.Core.Path.{◌≡◌, refl}
+use mathlib.Core.Path.{◌≡◌, refl, sym, ◌∙◌}
 use mathlib.Core.Bool.{Bool, true, false, not}
 use mathlib.Core.List.{List}
-use Prim.Native.Nat.{ℕ, zero, suc, ◌-◌, ◌<◌, ◌≤◌}
-use native.Mathlib.Omega.{arith}
-use lib.Dec.{T, eqb, eqb→eq}
+use Prim.Native.Nat.{ℕ, ◌-◌, ◌<◌, ◌≤◌}
 use lib.ListN.{length}
-use borrow.Author.Tests.{lt-ltb, le-leb, lt-leb}
+use borrow.Author.Tests.{lt-ltb, le-leb, lt-leb, ne_eqb, eq-eqb}
 use Rattle.clock.specs.Buckets.{bucket_of}
 use Rattle.store.specs.declared.Reading.{Reading}
 use Rattle.store.specs.Order.{is_in}
@@ -20,34 +18,22 @@ use Rattle.store_slots.proofs.Closing.{kept, closed_run}
 abbrev pub is_other : ℕ → ℕ → Reading → Bool
 is_other bucket j r = not (is_in bucket j r)
 
-true_of : (b : Bool) → T b → b ≡ true
-true_of true t = refl
-true_of false t = absurd t
-
-false_of : (b : Bool) → T (not b) → b ≡ false
-false_of true t = absurd t
-false_of false t = refl
-
-pub other_told : (bucket j : ℕ) (r : Reading) → T (not (eqb (bucket_of bucket r.time) j)) → is_other bucket j r ≡ true
+pub other_told : (bucket j : ℕ) (r : Reading) (b : ℕ) → b ≡ bucket_of bucket r.time → (b ≡ j → ⊥) → is_other bucket j r ≡ true
 unfolding is_in
-other_told bucket j r t = true_of (not (eqb (bucket_of bucket r.time) j)) t
+other_told bucket j r b e other = rw (ne_eqb (bucket_of bucket r.time) j (λ f. other (e ∙ f))) refl
 
-pub same_told : (bucket j : ℕ) (r : Reading) → T (not (not (eqb (bucket_of bucket r.time) j))) → is_other bucket j r ≡ false
+pub same_told : (bucket j : ℕ) (r : Reading) (b : ℕ) → b ≡ bucket_of bucket r.time → b ≡ j → is_other bucket j r ≡ false
 unfolding is_in
-same_told bucket j r t = false_of (not (eqb (bucket_of bucket r.time) j)) t
-
-pub some_length : (bucket : ℕ) → T (not (eqb bucket 0)) → 0 < bucket
-some_length zero t = absurd t
-some_length (suc bucket) t = omega arith
+same_told bucket j r b e same = rw (eq-eqb (bucket_of bucket r.time) j (sym e ∙ same)) refl
 
 module _ (base n bucket : ℕ) (ys : List Reading) where
   pub has_share_lem : 0 < bucket → base ≤ length ys → n ≤ length ys - base → has_share base n bucket ys ≡ true
   unfolding has_share
   has_share_lem l h m = rw (lt-ltb 0 bucket l, le-leb base (length ys) h, le-leb n (length ys - base) m) refl
 
-  pub no_length : T (eqb bucket 0) → has_share base n bucket ys ≡ false
+  pub no_length : bucket ≡ 0 → has_share base n bucket ys ≡ false
   unfolding has_share
-  no_length t = let none : bucket ≡ 0 = eqb→eq bucket 0 t in rw none refl
+  no_length none = rw none refl
 
   pub no_base : 0 < bucket → length ys < base → has_share base n bucket ys ≡ false
   unfolding has_share

@@ -7,7 +7,6 @@ use Rattle.store.specs.Order.{is_in}
 use Rattle.store.specs.Columns.{zeroed}
 use Rattle.store.specs.Parts.{share}
 use Rattle.store_slots.specs.declared.ClosedUp.{ClosedUp}
-use Rattle.store_slots.specs.declared.ClosedUp.TheVariants as ClosedUp
 
 -- the slots have the place `at`
 unfoldable pub has_place : ℕ → List Reading → Bool
