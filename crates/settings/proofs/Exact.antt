@@ -15,9 +15,7 @@ use Rattle.settings.specs.SettingsLine.{settings_text, limited, settings_answer,
 use Rattle.settings.specs.ReadLine.{settings_at, judged, settings_of}
 use Rattle.settings.specs.declared.Settings.{Settings}
 use Rattle.settings.specs.declared.SettingsAt.{SettingsAt}
-use Rattle.settings.specs.declared.SettingsAt.TheVariants as SettingsAt
 use Rattle.settings.specs.declared.SettingsRead.{SettingsRead}
-use Rattle.settings.specs.declared.SettingsRead.TheVariants as SettingsRead
 use Rattle.settings.proofs.SettingsLines.{settings_sound, settings_complete}
 
 settings_line : (text : List ℕ) (s : Settings) → SettingsFit s → text ≡ settings_text s → settings_of text ≡ limited s

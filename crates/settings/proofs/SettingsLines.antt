@@ -18,7 +18,6 @@ use Rattle.settings.specs.SettingsLine.{settings_text}
 use Rattle.settings.specs.ReadLine.{settings_at}
 use Rattle.settings.specs.declared.Settings.{Settings}
 use Rattle.settings.specs.declared.SettingsAt.{SettingsAt}
-use Rattle.settings.specs.declared.SettingsAt.TheVariants as SettingsAt
 
 -- the line as the stretches that its fields are read from
 unfoldable pub stretches : Settings → List ℕ

@@ -4,9 +4,7 @@ use Rattle.fields.specs.Keys.{lines_key, bucket_key, window_key, hold_key, low_k
 use Rattle.fields.specs.Field.{first, later, ends_line, number_field, integer_field, with_number, with_integer}
 use Rattle.settings.specs.SettingsLine.{limited}
 use Rattle.settings.specs.declared.SettingsAt.{SettingsAt}
-use Rattle.settings.specs.declared.SettingsAt.TheVariants as SettingsAt
 use Rattle.settings.specs.declared.SettingsRead.{SettingsRead}
-use Rattle.settings.specs.declared.SettingsRead.TheVariants as SettingsRead
 
 -- what the text s has from `at` on: a settings line, with the place behind it, or none
 unfoldable pub settings_at : List ℕ → ℕ → SettingsAt

@@ -7,7 +7,6 @@ use Rattle.fields.specs.Keys.{lines_key, bucket_key, window_key, hold_key, low_k
 use Rattle.settings.specs.Limits.{within_limits, SettingsFit}
 use Rattle.settings.specs.declared.Settings.{Settings}
 use Rattle.settings.specs.declared.SettingsRead.{SettingsRead}
-use Rattle.settings.specs.declared.SettingsRead.TheVariants as SettingsRead
 
 -- the line of the settings
 unfoldable pub settings_text : Settings → List ℕ

@@ -8,17 +8,20 @@ use Rattle.settings.proofs.within_limits.Statement.{statement}
 use Rattle.settings.proofs.within_limits.Tie as tie
 
 -- the start, from the place where the bounds of the signed numbers are told
-abbrev start : tie.After-struct-told → tie.Start
+abbrev start : tie.After-struct_told-1 → tie.Start
 start c = c.before.before.before.before.before.before.before.before.before
 
 returns : tie.Need-returns
 unfolding within_limits
 returns c =
     let s = (start c.before.before).args.s in
-    let told = c.before.before.struct_told.given in
+    let told = c.before.before.struct_told-1.given in
     let low : SFits w32 s.low = search rules in
     let high : SFits w32 s.high = search rules in
     rw (to_z-of_z low, to_z-of_z high)
 
-pub within-limits-spec : {M : Type 1} → statement M
-within-limits-spec = tie.close (tie.spec returns)
+pub within_limits_spec : {M : Type 1} → statement M
+within_limits_spec =
+    tie.close
+    (tie.spec
+    returns)
