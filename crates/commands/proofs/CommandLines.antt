@@ -1,9 +1,9 @@
 -- A line with a display and an id is read exactly if the text is it: each stretch of the text is a field's, and stretches join to the line.
 use mathlib.Core.Path.{◌≡◌, refl, ap, subst, ◌∙◌}
 use mathlib.Core.Logic.{◌↔◌}
-use mathlib.Core.Bool.{true, ◌&&◌, and-eq-true_iff}
+use mathlib.Core.Bool.{◌&&◌, and-eq-true_iff}
 use mathlib.Core.List.{List, [], ◌∷◌, ◌++◌, append_assoc}
-use Prim.Native.Nat.{ℕ, ◌+◌, ◌-◌, ◌<◌, ◌^◌}
+use Prim.Native.Nat.{ℕ, ◌+◌, ◌-◌, ◌^◌}
 use native.Mathlib.Omega.{arith}
 use borrow.Author.Tests.{eq-eqb, eqb-true}
 use lib.Dec.{eqb}
@@ -18,7 +18,6 @@ use Rattle.fields.proofs.Fields.{picked, number_field_sound, number_field_comple
 use Rattle.commands.specs.CommandLine.{display_text, IsLine}
 use Rattle.commands.specs.ReadLine.{widest_id, display_line_of}
 use Rattle.commands.specs.declared.DisplayLine.{DisplayLine}
-use Rattle.commands.specs.declared.DisplayLine.TheVariants as DisplayLine
 
 module _ (word : List ℕ) where
   -- the line up to the display's number

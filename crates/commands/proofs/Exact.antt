@@ -14,9 +14,7 @@ use Rattle.fields.proofs.Fields.{line_ends}
 use Rattle.commands.specs.CommandLine.{ack_word, fetch_word, display_text, acknowledge_text, fetch_text, IsLine, ExactCommand}
 use Rattle.commands.specs.ReadLine.{display_line_of, or_else, command_of}
 use Rattle.commands.specs.declared.Command.{Command}
-use Rattle.commands.specs.declared.Command.TheVariants as Command
 use Rattle.commands.specs.declared.DisplayLine.{DisplayLine}
-use Rattle.commands.specs.declared.DisplayLine.TheVariants as DisplayLine
 use Rattle.commands.proofs.CommandLines.{line_exact}
 
 -- the command of the two lines that may have been read

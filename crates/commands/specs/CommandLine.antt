@@ -4,7 +4,6 @@ use Rattle.decimal.specs.Decimal.{decimal}
 use Rattle.fields.specs.Keys.{display_key, id_key}
 use Rattle.fields.specs.Line.{field, line_of}
 use Rattle.commands.specs.declared.Command.{Command}
-use Rattle.commands.specs.declared.Command.TheVariants as Command
 
 -- the words that the lines begin with, in ASCII
 abbrev pub ack_word : List ℕ

@@ -4,9 +4,7 @@ use Rattle.fields.specs.Keys.{display_key, id_key}
 use Rattle.fields.specs.Field.{later, ends_line, number_field, with_number}
 use Rattle.commands.specs.CommandLine.{ack_word, fetch_word}
 use Rattle.commands.specs.declared.Command.{Command}
-use Rattle.commands.specs.declared.Command.TheVariants as Command
 use Rattle.commands.specs.declared.DisplayLine.{DisplayLine}
-use Rattle.commands.specs.declared.DisplayLine.TheVariants as DisplayLine
 
 -- the widest id that is read
 abbrev pub widest_id : ℕ
