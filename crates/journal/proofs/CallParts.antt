@@ -7,16 +7,13 @@ use native.Mathlib.Omega.{arith}
 use lib.IntN.{ℤ}
 use lib.ListN.{length, length-append, length-drop}
 use Rattle.decimal.specs.declared.Number.{Number}
-use Rattle.decimal.specs.declared.Number.TheVariants as Number
 use Rattle.decimal.specs.declared.Integer.{Integer}
-use Rattle.decimal.specs.declared.Integer.TheVariants as Integer
 use Rattle.fields.specs.Keys.{now_key, line_key, kind_key, id_key, time_key, meter_key, value_key}
 use Rattle.fields.specs.Field.{first, later, ends_line, number_field, integer_field, with_number, with_integer}
 use Rattle.fields.proofs.Fields.{number_field_sound, number_field_within, integer_field_within}
 use Rattle.journal.specs.NumberParts.{is_value, value_of, end_of, is_integer, integer_value, integer_end}
 use Rattle.journal.specs.ReadLine.{letter_field, call_at}
 use Rattle.journal.specs.declared.CallAt.{CallAt}
-use Rattle.journal.specs.declared.CallAt.TheVariants as CallAt
 use Rattle.journal.proofs.Letters.{letter_byte, letter_field_sound}
 
 -- behind tests that all hold, a field is one test more, and so is a test

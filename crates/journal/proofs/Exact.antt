@@ -14,9 +14,7 @@ use Rattle.journal.specs.JournalLine.{line_text, call_answer, CallFits, ExactCal
 use Rattle.journal.specs.ReadLine.{call_at, whole, call_of}
 use Rattle.journal.specs.declared.Call.{Call}
 use Rattle.journal.specs.declared.CallAt.{CallAt}
-use Rattle.journal.specs.declared.CallAt.TheVariants as CallAt
 use Rattle.journal.specs.declared.CallRead.{CallRead}
-use Rattle.journal.specs.declared.CallRead.TheVariants as CallRead
 use Rattle.journal.proofs.JournalLines.{call_sound, call_complete}
 
 call_line : (text : List ℕ) (c : Call) → CallFits c → text ≡ line_text c → call_of text ≡ CallRead.Accepted c

@@ -19,7 +19,6 @@ use Rattle.journal.specs.ReadLine.{call_at}
 use Rattle.journal.specs.JournalParts.{call_head, call_tail}
 use Rattle.journal.specs.declared.Call.{Call}
 use Rattle.journal.specs.declared.CallAt.{CallAt}
-use Rattle.journal.specs.declared.CallAt.TheVariants as CallAt
 use Rattle.journal.proofs.Letters.{letter_field_sound, letter_field_complete}
 
 -- the line as its two parts

@@ -10,7 +10,6 @@ use Rattle.journal.specs.Kinds.{is_letter}
 use Rattle.journal.specs.ReadLine.{call_of}
 use Rattle.journal.specs.declared.Call.{Call}
 use Rattle.journal.specs.declared.CallRead.{CallRead}
-use Rattle.journal.specs.declared.CallRead.TheVariants as CallRead
 
 -- the line of a call
 unfoldable pub line_text : Call → List ℕ

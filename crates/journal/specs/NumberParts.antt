@@ -1,9 +1,7 @@
 -- The parts of a number that was read: whether it is one, its value and the place behind it; 0 where it is malformed.
 use Rattle.std.specs.Prelude.{ℕ, Bool, true, false, ℤ, pos}
 use Rattle.decimal.specs.declared.Number.{Number}
-use Rattle.decimal.specs.declared.Number.TheVariants as Number
 use Rattle.decimal.specs.declared.Integer.{Integer}
-use Rattle.decimal.specs.declared.Integer.TheVariants as Integer
 
 abbrev pub is_value : Number → Bool
 is_value (Number.Value v e) = true

@@ -1,14 +1,11 @@
 -- What a text is read as: how a journal line is read from a place on, field by field. That it is read exactly fixes it (`ExactCall`).
 use Rattle.std.specs.Prelude.{ℕ, ◌+◌, ◌-◌, ◌^◌, cond, List, eqb, length, get_or, drop}
 use Rattle.decimal.specs.declared.Number.{Number}
-use Rattle.decimal.specs.declared.Number.TheVariants as Number
 use Rattle.fields.specs.Keys.{now_key, line_key, kind_key, id_key, time_key, meter_key, value_key}
 use Rattle.fields.specs.Field.{first, later, starts_with, ends_line, number_field, integer_field, with_number, with_integer}
 use Rattle.journal.specs.Kinds.{is_letter}
 use Rattle.journal.specs.declared.CallAt.{CallAt}
-use Rattle.journal.specs.declared.CallAt.TheVariants as CallAt
 use Rattle.journal.specs.declared.CallRead.{CallRead}
-use Rattle.journal.specs.declared.CallRead.TheVariants as CallRead
 
 -- the letter that s has at a place, and the one of the field that s has from `at` on
 unfoldable pub letter_at : List ℕ → ℕ → Number

@@ -8,5 +8,8 @@ returns : tie.Need-returns
 unfolding is_letter
 returns c = refl
 
-pub is-letter-spec : {M : Type 1} → statement M
-is-letter-spec = tie.close (tie.spec returns)
+pub is_letter_spec : {M : Type 1} → statement M
+is_letter_spec =
+    tie.close
+    (tie.spec
+    returns)

@@ -7,41 +7,41 @@ use Rattle.journal.proofs.Letters.{letter_past}
 use Rattle.journal.proofs.letter_at.Statement.{statement}
 use Rattle.journal.proofs.letter_at.Tie as tie
 
-returns : tie.Need-returns
-returns c =
+returns-then-s-at : tie.Need-returns-then-s-at
+returns-then-s-at c =
     let a = c.before.before.args in
-    sym (letter_past a.s.now a.at c.if1.true)
+    sym (letter_past a.s.now a.at c.if-s-at.true)
 
-shared-slice-read-letter : tie.Need-shared-slice-read-letter
-shared-slice-read-letter c = search rules
+bounds-s-at : tie.Need-bounds-s-at
+bounds-s-at c = search rules
 
-is-letter-requires : tie.Need-is-letter-requires
-is-letter-requires c κs = tt
+is_letter-requires : tie.Need-is_letter-requires
+is_letter-requires c κs = tt
 
-cast-t10 : tie.Need-overflow-cast-t10
-cast-t10 c =
+overflow_cast-result : tie.Need-overflow_cast-result
+overflow_cast-result c =
     let k = c.before.before in
-    omega (arith, k.shared-slice-known2.given k.before.before.before.args.at)
+    omega (arith, k.shared_slice_known-2-1.given k.before.before.before.args.at)
 
-add-t11 : tie.Need-overflow-add-t11
-add-t11 c = search rules
+overflow_add-result : tie.Need-overflow_add-result
+overflow_add-result c = search rules
 
-returns-2 : tie.Need-returns-2
+returns-then-is_letter : tie.Need-returns-then-is_letter
 unfolding letter_at
-returns-2 c = rw (sym c.before.is-letter.ensures ∙ c.if2.true)
+returns-then-is_letter c = rw (sym c.before.is_letter.ensures ∙ c.if-is_letter.true)
 
-returns-3 : tie.Need-returns-3
+returns-else-is_letter : tie.Need-returns-else-is_letter
 unfolding letter_at
-returns-3 c = rw (sym c.before.is-letter.ensures ∙ c.if2.false)
+returns-else-is_letter c = rw (sym c.before.is_letter.ensures ∙ c.if-is_letter.false)
 
-pub letter-at-spec : {M : Type 1} → statement M
-letter-at-spec =
+pub letter_at_spec : {M : Type 1} → statement M
+letter_at_spec =
     tie.close
     (tie.spec
-    returns
-    shared-slice-read-letter
-    is-letter-requires
-    cast-t10
-    add-t11
-    returns-2
-    returns-3)
+    returns-then-s-at
+    bounds-s-at
+    is_letter-requires
+    overflow_cast-result
+    overflow_add-result
+    returns-then-is_letter
+    returns-else-is_letter)

@@ -9,33 +9,40 @@ use Rattle.fields.proofs.Keys.{starts_room}
 use Rattle.journal.proofs.letter_field.Statement.{statement}
 use Rattle.journal.proofs.letter_field.Tie as tie
 
-has-key-requires : tie.Need-has-key-requires
-has-key-requires c κs =
+has_key-requires : tie.Need-has_key-requires
+has_key-requires c κs =
     let start = c.before.before in
     (start.requires.0, start.requires.1)
 
-add-letter-at : tie.Need-overflow-add-letter-at
-add-letter-at c =
+overflow_add-at : tie.Need-overflow_add-at
+overflow_add-at c =
     let a = c.before.before.before.before.args in
-    let stands : starts_with a.key.now (drop a.at a.s.now) ≡ true = sym c.before.has_key_lem.ensures ∙ c.if1.true in
+    let stands : starts_with a.key.now (drop a.at a.s.now) ≡ true = sym c.before.has_key.ensures ∙ c.if-has_key.true in
     omega (arith, starts_room a.key.now (drop a.at a.s.now) stands, length-drop a.at a.s.now)
 
-letter-at-requires : tie.Need-letter-at-requires
-letter-at-requires c κs = tt
+letter_at-requires : tie.Need-letter_at-requires
+letter_at-requires c κs = tt
 
-returns : tie.Need-returns
+returns-then-has_key : tie.Need-returns-then-has_key
 unfolding letter_field
-returns c =
+returns-then-has_key c =
     let a = c.before.before.before.before.before.args in
-    let stands : starts_with a.key.now (drop a.at a.s.now) ≡ true = sym c.before.before.has_key_lem.ensures ∙ c.before.if1.true in
+    let stands : starts_with a.key.now (drop a.at a.s.now) ≡ true = sym c.before.before.has_key.ensures ∙ c.before.if-has_key.true in
     rw stands c.letter_at.ensures
 
-returns-2 : tie.Need-returns-2
+returns-else-has_key : tie.Need-returns-else-has_key
 unfolding letter_field
-returns-2 c =
+returns-else-has_key c =
     let a = c.before.before.before.before.args in
-    let fails : starts_with a.key.now (drop a.at a.s.now) ≡ false = sym c.before.has_key_lem.ensures ∙ c.if1.false in
+    let fails : starts_with a.key.now (drop a.at a.s.now) ≡ false = sym c.before.has_key.ensures ∙ c.if-has_key.false in
     rw fails
 
-pub letter-field-spec : {M : Type 1} → statement M
-letter-field-spec = tie.close (tie.spec has-key-requires add-letter-at letter-at-requires returns returns-2)
+pub letter_field_spec : {M : Type 1} → statement M
+letter_field_spec =
+    tie.close
+    (tie.spec
+    has_key-requires
+    overflow_add-at
+    letter_at-requires
+    returns-then-has_key
+    returns-else-has_key)
