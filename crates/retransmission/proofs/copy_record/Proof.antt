@@ -9,39 +9,39 @@ use Rattle.record.specs.Sizes.{record_bytes}
 use Rattle.retransmission.proofs.copy_record.Statement.{statement}
 use Rattle.retransmission.proofs.copy_record.Tie as tie
 
-add-put-bytes : tie.Need-overflow-add-put-bytes
-add-put-bytes c = search rules
+overflow_add-from : tie.Need-overflow_add-from
+overflow_add-from c = search rules
 
-sub-put-bytes : tie.Need-overflow-sub-put-bytes
-sub-put-bytes c = search rules
+slice_bounds-put_bytes-count : tie.Need-slice_bounds-put_bytes-count
+slice_bounds-put_bytes-count c = search rules
 
-part-put-bytes-start : tie.Need-slice-bounds-put-bytes-start
-part-put-bytes-start c = search rules
+put_bytes-requires : tie.Need-put_bytes-requires
+put_bytes-requires c κs = search rules
 
-part-put-bytes-end : tie.Need-slice-bounds-put-bytes-end
-part-put-bytes-end c = search rules
-
-put-bytes-requires : tie.Need-put-bytes-requires
-put-bytes-requires c κs = search rules
-
-same_length : tie.Need-same-length
-same_length c = search rules
+shape_of-out : tie.Need-shape_of-out
+shape_of-out c = search rules
 
 returns : tie.Need-returns
 returns c =
     let a = c.before.before.before.before.before.before.before.args in
     let size : a.from + record_bytes - a.from ≡ record_bytes = omega arith in
-    c.before.before.put-bytes.ensures.1 ∙
+    c.before.before.put_bytes.ensures.1 ∙
     ap (λ (m : ℕ). laid a.out.now a.to (take m (drop a.from a.source.now))) size
 
-pub copy-record-spec : {M : Type 1} → statement M
-copy-record-spec =
+slice_bounds-put_bytes-start : tie.Need-slice_bounds-put_bytes-start
+slice_bounds-put_bytes-start c = search rules
+
+slice_bounds-put_bytes-end : tie.Need-slice_bounds-put_bytes-end
+slice_bounds-put_bytes-end c = search rules
+
+pub copy_record_spec : {M : Type 1} → statement M
+copy_record_spec =
     tie.close
     (tie.spec
-    add-put-bytes
-    sub-put-bytes
-    part-put-bytes-start
-    part-put-bytes-end
-    put-bytes-requires
-    same_length
+    overflow_add-from
+    slice_bounds-put_bytes-count
+    slice_bounds-put_bytes-start
+    slice_bounds-put_bytes-end
+    put_bytes-requires
+    shape_of-out
     returns)

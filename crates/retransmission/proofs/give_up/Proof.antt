@@ -5,70 +5,70 @@ use Rattle.retransmission.proofs.GivingUp.{GivingUp, giving_start, giving_on, gi
 use Rattle.retransmission.proofs.give_up.Statement.{statement}
 use Rattle.retransmission.proofs.give_up.Tie as tie
 
-abbrev invariant-loop : tie.invariant-loop
-invariant-loop sent₀ from to n₀ sent n = GivingUp sent₀ from to sent n
+abbrev invariant-loop-n : tie.invariant-loop-n
+invariant-loop-n sent₀ from to n₀ sent n = GivingUp sent₀ from to sent n
 
-abbrev decreases-loop : tie.decreases-loop
-decreases-loop sent₀ from to n₀ sent n = to - n
+abbrev decreases-loop-n : tie.decreases-loop-n
+decreases-loop-n sent₀ from to n₀ sent n = to - n
 
 -- the start, seen from the loop's head; the head, seen from the call's argument; the call, seen from the turn's end
-abbrev entered : tie.At-loop invariant-loop decreases-loop → tie.Start invariant-loop decreases-loop
+abbrev entered : tie.At-loop-n invariant-loop-n decreases-loop-n → tie.Start invariant-loop-n decreases-loop-n
 entered l = l.before.before
 
-abbrev looped : tie.After-zero-u8-arg invariant-loop decreases-loop → tie.At-loop invariant-loop decreases-loop
+abbrev looped : tie.After-zero_u8-arg-1 invariant-loop-n decreases-loop-n → tie.At-loop-n invariant-loop-n decreases-loop-n
 looped c = c.before.before
 
-abbrev zeroed : tie.After-slice-known2 invariant-loop decreases-loop → tie.After-zero-u8 invariant-loop decreases-loop
+abbrev zeroed : tie.After-slice_known-in-loop-n-1 invariant-loop-n decreases-loop-n → tie.After-zero_u8 invariant-loop-n decreases-loop-n
 zeroed c = c.before.before
 
-loop-holds : tie.Need-loop-init invariant-loop decreases-loop
-loop-holds c = let a = c.before.args in giving_start a.sent.now a.from a.to
+loop-n-init : tie.Need-loop-n-init invariant-loop-n decreases-loop-n
+loop-n-init c = let a = c.before.args in giving_start a.sent.now a.from a.to
 
-mul_at : tie.Need-overflow-mul-at invariant-loop decreases-loop
-mul_at c = omega arith
+overflow_mul-at : tie.Need-overflow_mul-at invariant-loop-n decreases-loop-n
+overflow_mul-at c = omega arith
 
-add-zero-u8 : tie.Need-overflow-add-zero-u8 invariant-loop decreases-loop
-add-zero-u8 c = omega arith
+overflow_add-at : tie.Need-overflow_add-at invariant-loop-n decreases-loop-n
+overflow_add-at c = omega arith
 
-zero-u8-requires : tie.Need-zero-u8-requires invariant-loop decreases-loop
-zero-u8-requires c κs = omega (arith, (looped c).loop.invariant.size)
+zero_u8-requires : tie.Need-zero_u8-requires invariant-loop-n decreases-loop-n
+zero_u8-requires c κs = omega (arith, (looped c).loop-n.invariant.size)
 
-add-n : tie.Need-overflow-add-n invariant-loop decreases-loop
-add-n c = omega arith
+overflow_add-n : tie.Need-overflow_add-n invariant-loop-n decreases-loop-n
+overflow_add-n c = omega arith
 
-loop-less : tie.Need-loop-smaller invariant-loop decreases-loop
-loop-less c = omega arith
+loop-n-smaller : tie.Need-loop-n-smaller invariant-loop-n decreases-loop-n
+loop-n-smaller c = omega arith
 
-loop-again : tie.Need-loop-preserved invariant-loop decreases-loop
-loop-again c =
+loop-n-preserved : tie.Need-loop-n-preserved invariant-loop-n decreases-loop-n
+loop-n-preserved c =
     let head = looped (zeroed c).before in
-    let l = head.loop in
+    let l = head.loop-n in
     let start = entered head in
     let a = start.args in
-    giving_on a.sent.now a.from a.to l.sent l.n _ start.pre l.inv (omega arith) (zeroed c).zero-u8.ensures
+    giving_on a.sent.now a.from a.to l.sent l.n _ start.requires l.invariant (omega arith) (zeroed c).zero_u8.ensures
 
-same_length : tie.Need-same-length invariant-loop decreases-loop
-same_length c = c.before.loop.invariant.size
+shape_of-sent : tie.Need-shape_of-sent invariant-loop-n decreases-loop-n
+shape_of-sent c = c.before.loop-n.invariant.size
 
-returns : tie.Need-returns invariant-loop decreases-loop
+returns : tie.Need-returns invariant-loop-n decreases-loop-n
 returns c =
     let start = entered c.before in
     let a = start.args in
-    let l = c.before.loop in
-    giving_end a.sent.now a.from a.to l.sent l.n start.pre l.invariant (omega arith)
+    let l = c.before.loop-n in
+    giving_end a.sent.now a.from a.to l.sent l.n start.requires l.invariant (omega arith)
 
-pub give-up-spec : {M : Type 1} → statement M
-give-up-spec =
+pub give_up_spec : {M : Type 1} → statement M
+give_up_spec =
     tie.close
     (tie.spec
-    invariant-loop
-    decreases-loop
-    loop-holds
-    mul_at
-    add-zero-u8
-    zero-u8-requires
-    add-n
-    loop-less
-    loop-again
-    same_length
+    invariant-loop-n
+    decreases-loop-n
+    loop-n-init
+    overflow_mul-at
+    overflow_add-at
+    zero_u8-requires
+    overflow_add-n
+    loop-n-smaller
+    loop-n-preserved
+    shape_of-sent
     returns)

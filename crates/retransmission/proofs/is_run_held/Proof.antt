@@ -1,4 +1,6 @@
 -- `retransmission::is_run_held` meets its contract: the places looked at so far pass, or one that does not is found.
+use mathlib.Core.Path.{ap}
+use mathlib.Core.Bool.{not}
 use Prim.Native.Nat.{◌-◌}
 use native.Mathlib.Omega.{arith}
 use borrow.Author.Rules.{rules}
@@ -6,119 +8,119 @@ use Rattle.retransmission.proofs.Passing.{Passing, passing_start, passing_end, k
 use Rattle.retransmission.proofs.is_run_held.Statement.{statement}
 use Rattle.retransmission.proofs.is_run_held.Tie as tie
 
-abbrev invariant-loop : tie.invariant-loop
-invariant-loop sent before n id₀ at₀ end id at = Passing sent before n at id
+abbrev invariant-loop-at : tie.invariant-loop-at
+invariant-loop-at sent before n id₀ at₀ end id at = Passing sent before n at id
 
-abbrev decreases-loop : tie.decreases-loop
-decreases-loop sent before n id₀ at₀ end id at = end - at
+abbrev decreases-loop-at : tie.decreases-loop-at
+decreases-loop-at sent before n id₀ at₀ end id at = end - at
 
 -- the start, seen from the loop's head; the head, seen from the two tests of a place
-abbrev entered : tie.At-loop invariant-loop decreases-loop → tie.Start invariant-loop decreases-loop
+abbrev entered : tie.At-loop-at invariant-loop-at decreases-loop-at → tie.Start invariant-loop-at decreases-loop-at
 entered l = l.before.before
 
-abbrev kind : tie.After-is-stable invariant-loop decreases-loop → tie.At-loop invariant-loop decreases-loop
+abbrev kind : tie.After-is_stable invariant-loop-at decreases-loop-at → tie.At-loop-at invariant-loop-at decreases-loop-at
 kind c = c.before.before.before
 
-abbrev id : tie.After-get4 invariant-loop decreases-loop → tie.After-is-stable invariant-loop decreases-loop
+abbrev id : tie.After-get4 invariant-loop-at decreases-loop-at → tie.After-is_stable invariant-loop-at decreases-loop-at
 id c = c.before.before
 
-mul_at : tie.Need-overflow-mul-at invariant-loop decreases-loop
-mul_at c = omega arith
+overflow_mul-at : tie.Need-overflow_mul-at invariant-loop-at decreases-loop-at
+overflow_mul-at c = omega arith
 
-mul-end : tie.Need-overflow-mul-end invariant-loop decreases-loop
-mul-end c = omega (arith, c.before.requires)
+overflow_mul-end : tie.Need-overflow_mul-end invariant-loop-at decreases-loop-at
+overflow_mul-end c = omega (arith, c.before.requires)
 
-add-end : tie.Need-overflow-add-end invariant-loop decreases-loop
-add-end c = omega (arith, c.before.requires)
+overflow_add-end : tie.Need-overflow_add-end invariant-loop-at decreases-loop-at
+overflow_add-end c = omega (arith, c.before.requires)
 
-loop-holds : tie.Need-loop-init invariant-loop decreases-loop
-loop-holds c =
+loop-at-init : tie.Need-loop-at-init invariant-loop-at decreases-loop-at
+loop-at-init c =
     let start = c.before in
     let a = start.args in
     passing_start a.sent.now a.before a.n start.requires.1
 
-add-id : tie.Need-overflow-add-id invariant-loop decreases-loop
-add-id c =
-    let v = c.before.loop.invariant in
-    omega (arith, v.place, v.from, v.to, (entered c.before).pre)
+overflow_add-id : tie.Need-overflow_add-id invariant-loop-at decreases-loop-at
+overflow_add-id c =
+    let v = c.before.loop-at.invariant in
+    omega (arith, v.place, v.from, v.to, (entered c.before).requires)
 
-shared-slice-read-is-stable : tie.Need-shared-slice-read-is-stable invariant-loop decreases-loop
-shared-slice-read-is-stable c = omega (arith, (entered c.before.before).pre)
+bounds-sent-at : tie.Need-bounds-sent-at invariant-loop-at decreases-loop-at
+bounds-sent-at c = omega (arith, (entered c.before.before).requires)
 
-is-stable-requires : tie.Need-is-stable-requires invariant-loop decreases-loop
-is-stable-requires c κs = tt
+is_stable-requires : tie.Need-is_stable-requires invariant-loop-at decreases-loop-at
+is_stable-requires c κs = tt
 
-returns : tie.Need-returns invariant-loop decreases-loop
-returns c =
+returns-then-not-is_stable : tie.Need-returns-then-not-is_stable invariant-loop-at decreases-loop-at
+returns-then-not-is_stable c =
     let head = kind c.before in
     let start = entered head in
     let a = start.args in
-    let l = head.loop in
-    kind_fails a.sent.now a.before a.n start.pre.1 l.at l.id l.inv (omega arith) _ c.before.is-stable.ensures
-    c.if1.true
+    let l = head.loop-at in
+    kind_fails a.sent.now a.before a.n start.requires.1 l.at l.id l.invariant (omega arith) _ c.before.is_stable.ensures
+    (ap not c.if-not-is_stable.true)
 
-add-get4 : tie.Need-overflow-add-get4 invariant-loop decreases-loop
-add-get4 c = omega (arith, (entered (kind c.before)).pre)
+overflow_add-at : tie.Need-overflow_add-at invariant-loop-at decreases-loop-at
+overflow_add-at c = omega (arith, (entered (kind c.before)).requires)
 
-get4-requires : tie.Need-get4-requires invariant-loop decreases-loop
+get4-requires : tie.Need-get4-requires invariant-loop-at decreases-loop-at
 get4-requires c κs =
     let head = kind c.before in
-    let v = head.loop.inv in
-    omega (arith, v.place, v.from, v.to, (entered head).pre)
+    let v = head.loop-at.invariant in
+    omega (arith, v.place, v.from, v.to, (entered head).requires)
 
-cast-if2 : tie.Need-overflow-cast-if2 invariant-loop decreases-loop
-cast-if2 c = search rules
+overflow_cast-get4 : tie.Need-overflow_cast-get4 invariant-loop-at decreases-loop-at
+overflow_cast-get4 c = search rules
 
-returns-2 : tie.Need-returns-2 invariant-loop decreases-loop
-returns-2 c =
+returns-then-get4-id : tie.Need-returns-then-get4-id invariant-loop-at decreases-loop-at
+returns-then-get4-id c =
     let stable = id c.before in
     let start = entered (kind stable) in
     let a = start.args in
-    let l = (kind stable).loop in
-    id_fails a.sent.now a.before a.n start.pre.1 l.at l.id l.inv (omega arith) _
-    stable.is-stable.ensures c.before.before.if1.false _ c.before.get4.ensures c.if2.true
+    let l = (kind stable).loop-at in
+    id_fails a.sent.now a.before a.n start.requires.1 l.at l.id l.invariant (omega arith) _
+    stable.is_stable.ensures (ap not c.before.before.if-not-is_stable.false) _ c.before.get4.ensures c.if-get4-id.true
 
-add_at : tie.Need-overflow-add-at invariant-loop decreases-loop
-add_at c = omega (arith, (entered (kind (id c.before))).pre)
+overflow_add-at-in-loop-at : tie.Need-overflow_add-at-in-loop-at invariant-loop-at decreases-loop-at
+overflow_add-at-in-loop-at c = omega (arith, (entered (kind (id c.before))).requires)
 
-loop-less : tie.Need-loop-smaller invariant-loop decreases-loop
-loop-less c = omega arith
+loop-at-smaller : tie.Need-loop-at-smaller invariant-loop-at decreases-loop-at
+loop-at-smaller c = omega arith
 
-loop-again : tie.Need-loop-preserved invariant-loop decreases-loop
-loop-again c =
+loop-at-preserved : tie.Need-loop-at-preserved invariant-loop-at decreases-loop-at
+loop-at-preserved c =
     let stable = id c.before in
     let start = entered (kind stable) in
     let a = start.args in
-    let l = (kind stable).loop in
-    passing_turn a.sent.now a.before a.n start.pre.1 l.at l.id l.inv (omega arith) _
-    stable.is-stable.ensures c.before.before.if1.false _ c.before.get4.ensures c.if2.false
+    let l = (kind stable).loop-at in
+    passing_turn a.sent.now a.before a.n start.requires.1 l.at l.id l.invariant (omega arith) _
+    stable.is_stable.ensures (ap not c.before.before.if-not-is_stable.false) _ c.before.get4.ensures c.if-get4-id.false
 
-returns-3 : tie.Need-returns-3 invariant-loop decreases-loop
-returns-3 c =
+returns : tie.Need-returns invariant-loop-at decreases-loop-at
+returns c =
     let start = entered c.before in
     let a = start.args in
-    let l = c.before.loop in
-    passing_end a.sent.now a.before a.n start.pre.1 l.at l.id l.invariant (omega arith)
+    let l = c.before.loop-at in
+    passing_end a.sent.now a.before a.n start.requires.1 l.at l.id l.invariant (omega arith)
 
-pub is-run-held-spec : {M : Type 1} → statement M
-is-run-held-spec =
+pub is_run_held_spec : {M : Type 1} → statement M
+is_run_held_spec =
     tie.close
     (tie.spec
-    invariant-loop
-    decreases-loop
-    mul_at
-    mul-end
-    add-end
-    loop-holds
-    add-id
-    shared-slice-read-is-stable
-    is-stable-requires
-    returns
-    add-get4
+    invariant-loop-at
+    decreases-loop-at
+    overflow_mul-at
+    overflow_mul-end
+    overflow_add-end
+    loop-at-init
+    overflow_add-id
+    bounds-sent-at
+    is_stable-requires
+    returns-then-not-is_stable
+    overflow_add-at
     get4-requires
-    cast-if2
-    returns-2
-    add_at
-    loop-less
-    loop-again
-    returns-3)
+    overflow_cast-get4
+    returns-then-get4-id
+    overflow_add-at-in-loop-at
+    loop-at-smaller
+    loop-at-preserved
+    returns)

@@ -13,59 +13,59 @@ use Rattle.retransmission.proofs.Fetching.{record_there}
 use Rattle.retransmission.proofs.lay_record.Statement.{statement}
 use Rattle.retransmission.proofs.lay_record.Tie as tie
 
-add-fields-of : tie.Need-overflow-add-fields-of
-add-fields-of c = search rules
+overflow_add-from : tie.Need-overflow_add-from
+overflow_add-from c = search rules
 
-sub-fields-of : tie.Need-overflow-sub-fields-of
-sub-fields-of c = search rules
+slice_bounds-fields_of-count : tie.Need-slice_bounds-fields_of-count
+slice_bounds-fields_of-count c = search rules
 
-part-fields-of-start : tie.Need-slice-bounds-fields-of-start
-part-fields-of-start c = search rules
+fields_of-held-requires : tie.Need-fields_of-held-requires
+fields_of-held-requires c κs = search rules
 
-part-fields-of-end : tie.Need-slice-bounds-fields-of-end
-part-fields-of-end c = search rules
+slice_bounds-put_record-count : tie.Need-slice_bounds-put_record-count
+slice_bounds-put_record-count c = search rules
 
-fields-of-requires : tie.Need-fields-of-requires
-fields-of-requires c κs = search rules
+put_record-requires : tie.Need-put_record-requires
+put_record-requires c κs = search rules
 
-sub-put-record : tie.Need-overflow-sub-put-record
-sub-put-record c = search rules
-
-part-put-record-start : tie.Need-slice-bounds-put-record-start
-part-put-record-start c = search rules
-
-part-put-record-end : tie.Need-slice-bounds-put-record-end
-part-put-record-end c = search rules
-
-put-record-requires : tie.Need-put-record-requires
-put-record-requires c κs = search rules
-
-same_length : tie.Need-same-length
-same_length c = search rules
+shape_of-area : tie.Need-shape_of-area
+shape_of-area c = search rules
 
 returns : tie.Need-returns
 returns c =
     let start = c.before.before.before.before.before.before.before.before in
     let a = start.args in
-    let held = c.before.before.before.before.fields-of in
+    let held = c.before.before.before.before.fields_of-held in
     let put = c.before.before.put_record in
     let size : a.from + record_bytes - a.from ≡ record_bytes = omega arith in
-    record_there a.area.now put.new.0 held.result a.to start.requires.1 put.ensures ∙
+    record_there a.area.now put.new.out held.result a.to start.requires.1 put.ensures ∙
     ap (λ (r : Record). laid a.area.now a.to (bytes_of r))
     (held.ensures ∙ ap (λ (m : ℕ). fields_of (take m (drop a.from a.sent.now))) size)
 
-pub lay-record-spec : {M : Type 1} → statement M
-lay-record-spec =
+slice_bounds-fields_of-start : tie.Need-slice_bounds-fields_of-start
+slice_bounds-fields_of-start c = search rules
+
+slice_bounds-fields_of-end : tie.Need-slice_bounds-fields_of-end
+slice_bounds-fields_of-end c = search rules
+
+slice_bounds-put_record-start : tie.Need-slice_bounds-put_record-start
+slice_bounds-put_record-start c = search rules
+
+slice_bounds-put_record-end : tie.Need-slice_bounds-put_record-end
+slice_bounds-put_record-end c = search rules
+
+pub lay_record_spec : {M : Type 1} → statement M
+lay_record_spec =
     tie.close
     (tie.spec
-    add-fields-of
-    sub-fields-of
-    part-fields-of-start
-    part-fields-of-end
-    fields-of-requires
-    sub-put-record
-    part-put-record-start
-    part-put-record-end
-    put-record-requires
-    same_length
+    overflow_add-from
+    slice_bounds-fields_of-count
+    slice_bounds-fields_of-start
+    slice_bounds-fields_of-end
+    fields_of-held-requires
+    slice_bounds-put_record-count
+    slice_bounds-put_record-start
+    slice_bounds-put_record-end
+    put_record-requires
+    shape_of-area
     returns)
