@@ -8,7 +8,6 @@ use borrow.Author.Tests.{lt-ltb, le-ltb}
 use Rattle.area.specs.Laid.{in_front}
 use Rattle.fields.specs.Written.{written_answer, written_length}
 use Rattle.fields.specs.declared.Written.{Written}
-use Rattle.fields.specs.declared.Written.TheVariants as Written
 use Rattle.journal.specs.Kinds.{is_letter}
 use Rattle.journal.specs.JournalLine.{line_text}
 use Rattle.journal.specs.declared.Call.{Call}
