@@ -13,6 +13,9 @@ use operator::METERS;
 use operator_rows::ROWS;
 use playback_cursor::Cursor;
 
+// The bytes of the buffers: a read or a write moves at most so many.
+const BUFFER_BYTES: usize = 65536;
+
 // One turn fewer is left, and none where no text is to be played.
 fn turns_left(plays: bool, turns: u64) -> u64
     requires { 0 < turns }
@@ -23,6 +26,7 @@ fn turns_left(plays: bool, turns: u64) -> u64
 
 // Plays the lines to the end of the input, from the text at the cursor on; answers the state that the last one leaves.
 fn play_lines(
+    rt: HostRuntime,
     mixed: bool,
     acknowledging: bool,
     mut state: State,
@@ -62,6 +66,7 @@ fn play_lines(
     let mut turns = turns_left(cursor.plays, u64::MAX);
     while turns > 0 {
         let turned = playback_turn::play_turn(
+            rt,
             mixed,
             acknowledging,
             state,
@@ -91,7 +96,7 @@ fn play_lines(
 // Plays standard input to standard output: first the settings line, then the lines after it, to the end; answers the last state. `mixed`
 // says whether displays' lines may stand among the journal lines, `acknowledging` whether the displays acknowledge what is new after each
 // journal line.
-pub fn run(mixed: bool, acknowledging: bool) -> State
+pub fn run(rt: HostRuntime, mixed: bool, acknowledging: bool) -> State
     ensures { Finished mixed acknowledging result }
 {
     let mut counts = [[0u32; METERS]; ROWS];
@@ -106,9 +111,10 @@ pub fn run(mixed: bool, acknowledging: bool) -> State
     let mut meters = [0u8; store::MOST_PLACES];
     let mut sent = [0u8; call_shape::HELD_BYTES];
     let mut area = [0u8; call_shape::AREA_BYTES];
-    let mut buf = io::large_buffer();
-    let mut out = io::large_buffer();
+    let mut buf = [0u8; BUFFER_BYTES];
+    let mut out = [0u8; BUFFER_BYTES];
     let started = playback_start::start(
+        rt,
         &mut counts,
         &mut sums,
         &mut lasts,
@@ -124,6 +130,7 @@ pub fn run(mixed: bool, acknowledging: bool) -> State
         &mut out,
     );
     play_lines(
+        rt,
         mixed,
         acknowledging,
         started.state,

@@ -76,6 +76,7 @@ fn play_settings(
 
 // Plays the settings on the state before the first opening, and goes on to the first journal line; where they are refused, to the end.
 pub fn start(
+    rt: HostRuntime,
     counts: &mut [[u32; METERS]; ROWS],
     sums: &mut [[i64; METERS]; ROWS],
     lasts: &mut [[i32; METERS]; ROWS],
@@ -106,7 +107,7 @@ pub fn start(
         Begun buf.old out.old before result buf.new out.new arrays' after }
 {
     let begin = playback_cursor::begin();
-    let mut cursor = playback_cursor::fetch(begin, false, buf, out);
+    let mut cursor = playback_cursor::fetch(rt, begin, false, buf, out);
     let at = cursor.at;
     let whole = cursor.whole;
     let used = cursor.used;
@@ -132,7 +133,7 @@ pub fn start(
     let state = opened.state;
     let settings = state.settings;
     cursor.last = cursor.last | (settings.lines == 0);
-    let first = playback_cursor::onward(cursor, length, opened.used, buf, out);
+    let first = playback_cursor::onward(rt, cursor, length, opened.used, buf, out);
     Started {
         state: state,
         cursor: first,

@@ -91,6 +91,7 @@ fn play_line(
 
 // Plays the text at the cursor: its call is made, the reply laid behind what the output holds, and the cursor goes on to the next text.
 pub fn play_turn(
+    rt: HostRuntime,
     mixed: bool,
     acknowledging: bool,
     state: State,
@@ -153,7 +154,7 @@ pub fn play_turn(
         &mut out[used..],
     );
     let left = played.state;
-    let onward = playback_cursor::onward(cursor, length, played.used, buf, out);
+    let onward = playback_cursor::onward(rt, cursor, length, played.used, buf, out);
     Started {
         state: left,
         cursor: onward,

@@ -3,8 +3,8 @@
 // Plays a journal that gets every refusal a journal line can, then goes to the limits: eight lines, of which the last has its 256 places
 // taken (one more is refused until a bucket is worked), and windows of 16 buckets. The first gives the most records that a step can, of
 // all 64 meters; the second comes tentatively, is withdrawn and comes again.
-fn main() {
+fn main(rt: HostRuntime) {
     let mixed = false;
     let acknowledging = false;
-    playback::run(mixed, acknowledging);
+    playback::run(rt, mixed, acknowledging);
 }
