@@ -11,10 +11,8 @@ use Rattle.area.specs.Laid.{laid, in_front}
 use Rattle.area.proofs.Laid.{laid_front}
 use Rattle.fields.specs.Written.{written_answer, written_length}
 use Rattle.fields.specs.declared.Written.{Written}
-use Rattle.fields.specs.declared.Written.TheVariants as Written
 use Rattle.record.specs.declared.Record.{Record}
 use Rattle.record.specs.declared.Decoded.{Decoded}
-use Rattle.record.specs.declared.Decoded.TheVariants as Decoded
 use Rattle.record_text.specs.RecordText.{record_text, text_of, text_answer, text_written}
 
 -- the answer w, and what is left of the area, are those of the definitions

@@ -6,7 +6,6 @@ use Rattle.fields.specs.Keys.{kind_key, id_key, time_key, meter_key, count_key, 
 use Rattle.fields.specs.Line.{field, line_of}
 use Rattle.record.specs.declared.Record.{Record}
 use Rattle.record.specs.declared.Decoded.{Decoded}
-use Rattle.record.specs.declared.Decoded.TheVariants as Decoded
 
 -- the line of a record
 unfoldable pub record_text : Record → List ℕ

@@ -1,6 +1,6 @@
 -- `record_text::put_tail` meets its contract: four fields, each laid behind the one before, are the second part of the text.
 use borrow.Author.Rules.{rules}
-use mathlib.Core.Path.{refl, ◌∙◌}
+use mathlib.Core.Path.{◌∙◌}
 use mathlib.Core.List.{List, [], ◌∷◌, ◌++◌}
 use Prim.Native.Nat.{ℕ}
 use lib.IntN.{pos}
@@ -32,98 +32,86 @@ last r = later last_key ++ (decimal r.last ++ 10 ∷ [])
 
 -- ---- the places on the way, each from the one behind it, and what is known there
 
-abbrev first : tie.After-put-u32 → tie.Start
-first c = c.before.before.before.before
+abbrev first : tie.After-put_u32-sum → tie.Start
+first c = c.before.before.before.before.before
 
-abbrev second : tie.After-struct-told → tie.After-put-u32
-second c = c.before.before.before.before.before
+abbrev second : tie.After-struct_told-1 → tie.After-put_u32-sum
+second c = c.before.before.before.before.before.before
 
-abbrev third : tie.After-struct-told2 → tie.After-put-i64
-third c = c.before.before.before.before.before
+abbrev third : tie.After-struct_told-2-1 → tie.After-put_i64-mean
+third c = c.before.before.before.before.before.before
 
-abbrev fourth : tie.After-struct-told3 → tie.After-put-i32
-fourth c = c.before.before.before.before.before
+abbrev fourth : tie.After-struct_told-3-1 → tie.After-put_i32-last
+fourth c = c.before.before.before.before.before.before
 
 -- the signed numbers are within their widths
-sum_fits : (c : tie.After-struct-told) → SFits w64 (first (second c)).args.r.sum
+sum_fits : (c : tie.After-struct_told-1) → SFits w64 (first (second c)).args.r.sum
 sum_fits c = search rules
 
-mean_fits : (c : tie.After-struct-told2) → SFits w32 (first (second (third c).before)).args.r.mean
+mean_fits : (c : tie.After-struct_told-2-1) → SFits w32 (first (second (third c).before)).args.r.mean
 mean_fits c = search rules
 
-last_fits : (c : tie.After-struct-told3) → SFits w32 (first (second (third (fourth c).before).before)).args.r.last
+last_fits : (c : tie.After-struct_told-3-1) → SFits w32 (first (second (third (fourth c).before).before)).args.r.last
 last_fits c = search rules
 
 -- the sum is laid behind the count, and the mean behind the sum
 sum_laid :
-    (c : tie.After-put-i64) →
+    (c : tie.After-put_i64-mean) →
     let p = second c.before in
-    LaidTo p.put-u32.last.0 p.put-u32.result (sum (first p).args.r) c.put-i64.result c.put-i64.new.0
-sum_laid c = rw (to_z-of_z (sum_fits c.before)) at c.put-i64.ensures
+    LaidTo p.put_u32-sum.new.out p.put_u32-sum.result (sum (first p).args.r) c.put_i64-mean.result c.put_i64-mean.new.out
+sum_laid c = rw (to_z-of_z (sum_fits c.before)) at c.put_i64-mean.ensures
 
 mean_laid :
-    (c : tie.After-put-i32) →
+    (c : tie.After-put_i32-last) →
     let q = third c.before in
-    LaidTo q.put-i64.last.0 q.put-i64.result (mean (first (second q.before)).args.r) c.put-i32.result c.put-i32.new.0
-mean_laid c = rw (to_z-of_z (mean_fits c.before)) at c.put-i32.ensures
+    LaidTo q.put_i64-mean.new.out q.put_i64-mean.result (mean (first (second q.before)).args.r) c.put_i32-last.result c.put_i32-last.new.out
+mean_laid c = rw (to_z-of_z (mean_fits c.before)) at c.put_i32-last.ensures
 
 -- ---- the needs
 
-slice-aggregate-put-u32 : tie.Need-slice-aggregate-put-u32
-slice-aggregate-put-u32 c = refl
-
-put-u32-requires : tie.Need-put-u32-requires
+put_u32-sum-requires : tie.Need-put_u32-sum-requires
 unfolding text_tail
-put-u32-requires c κs =
+put_u32-sum-requires c κs =
     let s = c.before.before.before in
     let r = s.args.r in
     room_first s.args.out.now s.args.at (count r) (sum r) (mean r) (last r) s.requires
 
-slice-aggregate-put-i64 : tie.Need-slice-aggregate-put-i64
-slice-aggregate-put-i64 c = refl
-
-put-i64-requires : tie.Need-put-i64-requires
+put_i64-mean-requires : tie.Need-put_i64-mean-requires
 unfolding text_tail
-put-i64-requires c κs =
+put_i64-mean-requires c κs =
     let p = second c in
     let s = first p in
     let r = s.args.r in
     rw (to_z-of_z (sum_fits c))
-    (room_second s.args.out.now s.args.at (count r) (sum r) (mean r) (last r) s.pre p.put-u32.ensures)
+    (room_second s.args.out.now s.args.at (count r) (sum r) (mean r) (last r) s.requires p.put_u32-sum.ensures)
 
-slice-aggregate-put-i32 : tie.Need-slice-aggregate-put-i32
-slice-aggregate-put-i32 c = refl
-
-put-i32-requires : tie.Need-put-i32-requires
+put_i32-last-requires : tie.Need-put_i32-last-requires
 unfolding text_tail
-put-i32-requires c κs =
+put_i32-last-requires c κs =
     let q = third c in
     let p = second q.before in
     let s = first p in
     let r = s.args.r in
     rw (to_z-of_z (mean_fits c))
-    (room_third s.args.out.now s.args.at (count r) (sum r) (mean r) (last r) s.pre p.put-u32.ensures (sum_laid q))
+    (room_third s.args.out.now s.args.at (count r) (sum r) (mean r) (last r) s.requires p.put_u32-sum.ensures (sum_laid q))
 
-slice-aggregate-put-last : tie.Need-slice-aggregate-put-last
-slice-aggregate-put-last c = refl
-
-put-last-requires : tie.Need-put-last-requires
+put_last-requires : tie.Need-put_last-requires
 unfolding text_tail
-put-last-requires c κs =
+put_last-requires c κs =
     let o = fourth c in
     let q = third o.before in
     let p = second q.before in
     let s = first p in
     let r = s.args.r in
     rw (to_z-of_z (last_fits c))
-    (room_fourth s.args.out.now s.args.at (count r) (sum r) (mean r) (last r) s.pre p.put-u32.ensures (sum_laid q)
+    (room_fourth s.args.out.now s.args.at (count r) (sum r) (mean r) (last r) s.requires p.put_u32-sum.ensures (sum_laid q)
     (mean_laid o))
 
-same_length : tie.Need-same-length
-same_length c =
+shape_of-out : tie.Need-shape_of-out
+shape_of-out c =
     let o = fourth c.before.before.before in
     let q = third o.before in
-    c.before.before.put_last.auto.0 ∙ o.put-i32.kept.0 ∙ q.put-i64.kept.0 ∙ (second q.before).put-u32.auto.0
+    c.before.before.put_last.auto.out ∙ o.put_i32-last.auto.out ∙ q.put_i64-mean.auto.out ∙ (second q.before).put_u32-sum.auto.out
 
 returns : tie.Need-returns
 unfolding text_tail
@@ -134,20 +122,16 @@ returns c =
     let p = second q.before in
     let s = first p in
     let r = s.args.r in
-    runs_four s.args.out.now s.args.at (count r) (sum r) (mean r) (last r) p.put-u32.ensures (sum_laid q) (mean_laid o)
+    runs_four s.args.out.now s.args.at (count r) (sum r) (mean r) (last r) p.put_u32-sum.ensures (sum_laid q) (mean_laid o)
     (rw (to_z-of_z (last_fits t)) at c.before.before.put_last.ensures)
 
-pub put-tail-spec : {M : Type 1} → statement M
-put-tail-spec =
+pub put_tail_spec : {M : Type 1} → statement M
+put_tail_spec =
     tie.close
     (tie.spec
-    slice-aggregate-put-u32
-    put-u32-requires
-    slice-aggregate-put-i64
-    put-i64-requires
-    slice-aggregate-put-i32
-    put-i32-requires
-    slice-aggregate-put-last
-    put-last-requires
-    same_length
+    put_u32-sum-requires
+    put_i64-mean-requires
+    put_i32-last-requires
+    put_last-requires
+    shape_of-out
     returns)
