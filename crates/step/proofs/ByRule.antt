@@ -8,7 +8,6 @@ use Rattle.clock.specs.declared.ArrivalTick.{ArrivalTick}
 use Rattle.record.specs.Layout.{all_bytes}
 use Rattle.store.specs.Columns.{Columns}
 use Rattle.protocol.specs.declared.Rule.{Rule}
-use Rattle.protocol.specs.declared.Rule.TheVariants as Rule
 use Rattle.protocol.specs.Rules.{rule_of, act}
 use Rattle.node.specs.Held.{Held}
 use Rattle.node.specs.View.{view}

@@ -13,7 +13,6 @@ use Rattle.store.specs.Sizes.{readings_per_line}
 use Rattle.store.specs.Lists.{Every}
 use Rattle.store.specs.Columns.{Columns, row_at, rows_from, rows}
 use Rattle.protocol.specs.declared.Rule.{Rule}
-use Rattle.protocol.specs.declared.Rule.TheVariants as Rule
 use Rattle.protocol.specs.Rules.{first_rule, rule_of}
 use Rattle.node.specs.declared.LineHead.{LineHead}
 use Rattle.node.specs.Held.{Held}
