@@ -35,8 +35,9 @@ BEGIN {
 
 {
     blank = 0
-    if (!match($0, /^[a-z_0-9]+:/)) refuse(NR, "not 'NAME: the crates that it uses'")
+    if (!match($0, /^[a-z_0-9]+( staticlib)?:/)) refuse(NR, "not 'NAME: the crates that it uses'")
     crate = substr($0, 1, RLENGTH - 1)
+    sub(/ .*/, "", crate)
     if (crate in number) refuse(NR, crate " is listed twice")
     if (!floors) refuse(NR, crate " stands on no floor")
     number[crate] = ++crates
