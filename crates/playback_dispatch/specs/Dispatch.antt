@@ -2,7 +2,6 @@
 -- display whose line it is.
 use Rattle.std.specs.Prelude.{ℕ, zero, suc, Bool, cond, ◌&&◌, List, ltb, get_or}
 use Rattle.commands.specs.declared.Command.{Command}
-use Rattle.commands.specs.declared.Command.TheVariants as Command
 use Rattle.commands.specs.ReadLine.{command_of}
 use Rattle.settings.specs.Limits.{max_displays}
 use Rattle.node.specs.Held.{Held}
