@@ -1,5 +1,6 @@
 -- `store_removal::remove_bucket` meets its contract: run by run, the readings that stay of those that are left make the same store.
 use Rattle.std.proofs.Common.{◌+◌, ◌<◌, refl, arith}
+use Rattle.store.specs.Columns.{columns_of}
 use Rattle.store.proofs.Columns.{room}
 use Rattle.store_removal.proofs.Removed.{room_yet, run_within, next_on, removing_turn}
 use Rattle.store_removal.proofs.Removed.{removed_count, removed_rows}
@@ -45,15 +46,19 @@ next_out-from-requires c =
 pub loop-from-smaller : goal.loop-from-smaller
 loop-from-smaller c =
     let a = c.args in
+    let x = c.move_run.new in
     let on : c.loop-from.from < c.next_out-from.result =
-    next_on a.bucket a.j _ a.base (a.base + a.n) _ _ _ c.loop-from.invariant c.requires.3 c.next_in-run.result c.next_in-run.ensures _
+    next_on a.bucket a.j _ a.base (a.base + a.n) _ _ _ c.loop-from.invariant c.requires.3 c.next_in-run.result c.next_in-run.ensures
+    (columns_of x.ids x.times x.values x.arrivals x.kinds x.meters)
     c.move_run.ensures c.next_out-from.result c.next_out-from.ensures c.loop-from-test.true in
     omega arith
 
 pub loop-from-preserved : goal.loop-from-preserved
 loop-from-preserved c =
     let a = c.args in
-    removing_turn a.bucket a.j _ a.base (a.base + a.n) _ _ _ c.loop-from.invariant c.requires.3 c.next_in-run.result c.next_in-run.ensures _
+    let x = c.move_run.new in
+    removing_turn a.bucket a.j _ a.base (a.base + a.n) _ _ _ c.loop-from.invariant c.requires.3 c.next_in-run.result c.next_in-run.ensures
+    (columns_of x.ids x.times x.values x.arrivals x.kinds x.meters)
     c.move_run.ensures c.next_out-from.result c.next_out-from.ensures
 
 pub zero-requires : goal.zero-requires
