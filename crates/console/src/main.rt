@@ -1,9 +1,15 @@
+// The program console: as merge, and it takes the lines of the displays' calls too.
 #![tactic(auto)]
 
-// The program console: as merge, and it takes the lines of the displays' calls too.
+use std::env::FillError;
+use std::rt::Env;
+
 fn main(rt: HostRuntime) {
-    if has_arguments(&rt) {
-        let _ = eprintln!(rt; "usage: console <INPUT >OUTPUT (settings, journal and displays' lines in, answers and records out)");
+    let has_arguments = !matches!(rt.arg(1, &mut [0u8; 1]), Err(FillError::NotPresent));
+    if has_arguments {
+        let _ = eprintln!(rt;
+            "usage: console <INPUT >OUTPUT (settings, journal and displays' lines in, answers and records out)"
+        );
         return;
     }
     let mixed = true;
