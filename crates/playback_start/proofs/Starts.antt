@@ -1,7 +1,7 @@
 -- A playback's beginning put together from what its parts ensure: where nothing was read and nothing is to be written there is always a
 -- first text, and its answer line stands at the front of the output.
 use mathlib.Core.Path.{◌≡◌, refl, ap, subst, ◌∙◌}
-use mathlib.Core.Bool.{Bool, true, false}
+use mathlib.Core.Bool.{true, false}
 use mathlib.Core.List.{List, ◌++◌}
 use mathlib.Core.Logic.{⊎_elim}
 use Prim.Native.Nat.{ℕ, ◌+◌, ◌-◌, ◌≤◌}
