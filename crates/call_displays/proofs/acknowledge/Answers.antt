@@ -105,7 +105,7 @@ least-from-requires c =
     λ lasts. host_passed (whole lasts) x a.area.now
     (sym (c.host_refusal-host.ensures lasts a.area.now refl) ∙ c.if-host-ne0.false) in
     let within : Ready (whole []) = ready (whole []) x a.area.now (passed []) in
-    (within.some, within.few)
+    (omega (arith, within.some), omega (arith, within.few))
 
 pub least-to-requires : goal.least-to-requires
 least-to-requires c =
@@ -118,7 +118,7 @@ least-to-requires c =
     λ lasts. host_passed (whole lasts) x a.area.now
     (sym (c.host_refusal-host.ensures lasts a.area.now refl) ∙ c.if-host-ne0.false) in
     let within : Ready (whole []) = ready (whole []) x a.area.now (passed []) in
-    (within.some, within.few)
+    (omega (arith, within.some), omega (arith, within.few))
 
 pub give_up-requires : goal.give_up-requires
 give_up-requires c =

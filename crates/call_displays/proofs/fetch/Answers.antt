@@ -48,7 +48,7 @@ least-least-requires c =
     λ lasts. host_passed (whole lasts) x a.area.now
     (sym (c.host_refusal-host.ensures lasts a.area.now refl) ∙ c.if-host-ne0.false) in
     let within : Ready (whole []) = ready (whole []) x a.area.now (passed []) in
-    (within.some, within.few)
+    (omega (arith, within.some), omega (arith, within.few))
 
 pub fetch_answer-answer-requires : goal.fetch_answer-answer-requires
 fetch_answer-answer-requires c =
