@@ -1,11 +1,10 @@
 -- The call that a text makes is a list of calls of demand 3: a journal call and the acknowledgements behind it, or one call of a display.
 -- So calls lead from the box before a turn to the box behind it, and from the opening to the end.
 use Prim.Native.Nat.{ℕ, zero, suc}
-use mathlib.Core.Path.{◌≡◌, refl, sym, ap, ap₂, subst, ◌∙◌}
+use mathlib.Core.Path.{refl, sym, ap, ap₂, subst, ◌∙◌}
 use mathlib.Core.Bool.{Bool, true, false, cond}
 use mathlib.Core.List.{List, [], ◌∷◌, ◌++◌}
 use Rattle.commands.specs.declared.Command.{Command}
-use Rattle.commands.specs.declared.Command.TheVariants as Command
 use Rattle.commands.specs.ReadLine.{command_of}
 use Rattle.settings.specs.Limits.{max_displays}
 use Rattle.node.specs.declared.State.{State}
