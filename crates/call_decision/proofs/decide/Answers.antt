@@ -100,7 +100,7 @@ returns c area l =
     let k = c.in-Accepted.k in
     let answer : c.refusal-answer.result ≡ first_failed (first_tests a.state.settings n k) =
     c.refusal-answer.ensures st x.readings refl refl refl ready.room in
-    let none : first_failed (first_tests a.state.settings n k) ≡ 0 = sym answer ∙ c.if-answer-ne0.false in
+    let nothing : first_failed (first_tests a.state.settings n k) ≡ 0 = sym answer ∙ c.if-answer-ne0.false in
     let found = c.lacks_places.ensures x.readings (step_of st x ready) in
     call_accepted st x a.read area (passed area l) k c.in-Accepted.is
-    (answer_0 a.state.settings n k none (sym found ∙ c.if-lacks_places.false))
+    (answer_0 a.state.settings n k nothing (sym found ∙ c.if-lacks_places.false))
