@@ -30,7 +30,7 @@ decoded_ill b e = rw e
 
 pub well_formed : (b : List ℕ) → length b ≡ 32 → is_record (get_or b 0 0) ≡ true → get_or b 2 0 ≡ 0 → get_or b 3 0 ≡ 0 → is_well_formed b ≡ true
 unfolding is_well_formed
-well_formed b size kind third fourth = rw (size, kind, third, fourth)
+well_formed b size kind third fourth = simp (size, kind, third, fourth)
 
 well_formed_bytes_of : (r : Record) → is_record r.kind ≡ true → is_well_formed (bytes_of r) ≡ true
 unfolding bytes_of
