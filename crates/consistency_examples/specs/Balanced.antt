@@ -12,7 +12,8 @@ use Rattle.node.specs.View.{view}
 use Rattle.node.specs.Opening.{closed_state}
 use Rattle.consistency.specs.Runs.{Box, Input, called, left_after, record_in}
 use Rattle.consistency.specs.Demand.{Handed, is_opened, box_of, settings_in, output_of}
-use Rattle.consistency.specs.Balance.{Heat, plus, heat_of, of_reading, of_meter, of_result, counts_for, sent_heat, paid_heat, open_heat, kept_heat}
+use Rattle.consistency.specs.Balance.{Heat, plus, heat_of, of_reading, of_meter, of_result, counts_for}
+use Rattle.consistency.specs.Balance.{sent_heat, paid_heat, open_heat, kept_heat}
 use Rattle.consistency_examples.specs.Given.{bytes_in, lent_filled, call}
 
 unfoldable pub handed : Handed

@@ -113,7 +113,8 @@ pub fn clear(
     lasts: &mut [[i32; METERS]; ROWS],
 )
     ensures { let after : Rows = rows_of counts.new sums.new lasts.new in
-        (meters_in operator_row after ≡ replicate meter_count no_meter) × (meters_in checkpoint_row after ≡ replicate meter_count no_meter) }
+        (meters_in operator_row after ≡ replicate meter_count no_meter) ×
+        (meters_in checkpoint_row after ≡ replicate meter_count no_meter) }
 {
     *counts = [[0u32; METERS]; ROWS];
     *sums = [[0i64; METERS]; ROWS];
