@@ -41,19 +41,19 @@ fn spoiled_heat(number: usize, heats: &[MeterHeat], base: u64) -> (u64, Vec<Mete
 pub(super) fn of_box(number: usize, question: &BoxQuestion) -> String {
     let state = &question.host.state;
     let mut text = format!("-- {}, c {}\n", state.word.name(), state.c);
-    let (arrays, columns) = (format!("arrays-{number}"), format!("columns-{number}"));
+    let (arrays, columns) = (format!("arrays_{number}"), format!("columns_{number}"));
     text += &definition(&arrays, "Arrays", &value::arrays(state));
     text += &definition(&columns, "Columns", &question.columns.literal());
     let handed = format!(
-        "state = {}; arrays = {arrays}; lent = lentOf {columns} []",
+        "state = {}; arrays = {arrays}; lent = lent_of {columns} []",
         value::state(state)
     );
     let mut ask = |name: &str, open: &[MeterHeat], kept: &[MeterHeat], parts: &str| {
         let (open, kept) = (meter_heats(open), meter_heats(kept));
-        let case = format!("{name}-case-{number}");
-        let body = format!("record {{ {handed}; openDue = {open}; keptDue = {kept} }}");
+        let case = format!("{name}_case_{number}");
+        let body = format!("record {{ {handed}; open_due = {open}; kept_due = {kept} }}");
         text += &definition(&case, "BoxCase", &body);
-        text += &format!("{name}-{number} : onHeats {case} ≡ {parts}\nunfolding onHeatsQuickly\n{name}-{number} = by-rows {case} ({parts}) refl\n\n");
+        text += &format!("{name}_{number} : on_heats {case} ≡ {parts}\nunfolding on_heats_quickly\n{name}_{number} = by_rows {case} ({parts}) refl\n\n");
     };
     ask("heat", &question.open, &question.kept, "[]");
     if number.is_multiple_of(4) {
@@ -75,10 +75,10 @@ pub(super) fn of_paid(number: usize, question: &PaidQuestion) -> String {
     }
     let mut text = format!("-- {} stretches of bytes\n", question.records.len());
     let mut ask = |name: &str, paid: &[MeterHeat], parts: &str| {
-        let (paid, case) = (meter_heats(paid), format!("{name}-case-{number}"));
-        let body = format!("record {{ records = {records}[]; paidDue = {paid} }}");
+        let (paid, case) = (meter_heats(paid), format!("{name}_case_{number}"));
+        let body = format!("record {{ records = {records}[]; paid_due = {paid} }}");
         text += &definition(&case, "PaidCase", &body);
-        text += &format!("{name}-{number} : onPaid {case} ≡ {parts}\nunfolding onPaid\n{name}-{number} = refl\n\n");
+        text += &format!("{name}_{number} : on_paid {case} ≡ {parts}\nunfolding on_paid\n{name}_{number} = refl\n\n");
     };
     ask("heat", &question.paid, "[]");
     if number.is_multiple_of(4) {

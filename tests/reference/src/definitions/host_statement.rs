@@ -22,7 +22,7 @@ const OPENING_PLACES: usize = 6;
 /// What stands under names of its own: what was lent.
 fn lent(number: usize, question: &HostQuestion) -> String {
     let loan = &question.loan;
-    let name = |part: &str| format!("{part}-{number}");
+    let name = |part: &str| format!("{part}_{number}");
     definition(&name("arrays"), "Arrays", &value::arrays(&loan.state))
         + &definition(&name("columns"), "Columns", &loan.columns.literal())
         + &definition(&name("places"), "ℕ", &sent::places(&loan.sent))
@@ -33,12 +33,12 @@ fn lent(number: usize, question: &HostQuestion) -> String {
 fn due(number: usize, question: &HostQuestion, left: &Left, most: usize) -> String {
     let (before, after) = (&question.loan, &left.loan);
     let columns = if after.columns == before.columns {
-        format!("columns-{number}")
+        format!("columns_{number}")
     } else {
         after.columns.literal()
     };
     let area = if after.area == before.area {
-        format!("area-{number}")
+        format!("area_{number}")
     } else {
         bytes(&after.area)
     };
@@ -55,37 +55,37 @@ fn due(number: usize, question: &HostQuestion, left: &Left, most: usize) -> Stri
 /// What is called with.
 fn input(number: usize, question: &HostQuestion) -> String {
     match question.display {
-        None => format!("Input.journal ({}) area-{number}", bytes(&question.text)),
+        None => format!("Input.journal ({}) area_{number}", bytes(&question.text)),
         Some(call) => {
             let name = match call.wish {
                 Wish::Acknowledge => "acknowledge",
                 Wish::Fetch => "fetch",
             };
-            format!("Input.{name} {} {} area-{number}", call.display, call.id)
+            format!("Input.{name} {} {} area_{number}", call.display, call.id)
         }
     }
 }
 
 /// A case and the theorem that it differs in these parts.
 fn asked(number: usize, question: &HostQuestion, left: &Left, name: &str, parts: &str) -> String {
-    let (loan, case) = (&question.loan, format!("{name}-case-{number}"));
+    let (loan, case) = (&question.loan, format!("{name}_case_{number}"));
     let common = format!(
-        "state = {}; arrays = arrays-{number}; columns = columns-{number}; input = {}; left = {}",
+        "state = {}; arrays = arrays_{number}; columns = columns_{number}; input = {}; left = {}",
         value::state(&loan.state),
         input(number, question),
         due(number, question, left, CALL_PLACES),
     );
-    let name = format!("{name}-{number}");
+    let name = format!("{name}_{number}");
     if sent::is_short(&loan.sent) {
-        let store = format!("cut {} places-{number}", loan.sent.len());
+        let store = format!("cut {} places_{number}", loan.sent.len());
         let body = format!("record {{ {common}; sent = {store} }}");
         definition(&case, "ShortCase", &body)
-            + &format!("{name} : onShort {case} ≡ {parts}\nunfolding onShortQuickly isCut\n{name} = by-short {case} ({parts}) refl refl\n\n")
+            + &format!("{name} : on_short {case} ≡ {parts}\nunfolding on_short_quickly is_cut\n{name} = by_short {case} ({parts}) refl refl\n\n")
     } else {
         let behind = sent::behind(&loan.sent);
-        let body = format!("record {{ {common}; places = places-{number}; behind = {behind} }}");
+        let body = format!("record {{ {common}; places = places_{number}; behind = {behind} }}");
         definition(&case, "CallCase", &body)
-            + &format!("{name} : onCall {case} ≡ {parts}\nunfolding onCallQuickly\n{name} = by-quickly {case} ({parts}) refl\n\n")
+            + &format!("{name} : on_call {case} ≡ {parts}\nunfolding on_call_quickly\n{name} = by_quickly {case} ({parts}) refl\n\n")
     }
 }
 
@@ -175,13 +175,13 @@ fn spoiled(number: usize, left: &Left) -> Option<(u64, Left)> {
 pub(super) fn of_opening(number: usize, question: &HostQuestion) -> String {
     let loan = &question.loan;
     let store = if sent::is_short(&loan.sent) {
-        format!("cut {} places-{number}", loan.sent.len())
+        format!("cut {} places_{number}", loan.sent.len())
     } else {
-        format!("stocked places-{number} ({})", sent::behind(&loan.sent))
+        format!("stocked places_{number} ({})", sent::behind(&loan.sent))
     };
     let body = |left: &Left| {
         format!(
-            "record {{ state = {}; arrays = arrays-{number}; columns = columns-{number}; sent = {store}; text = {}; left = {} }}",
+            "record {{ state = {}; arrays = arrays_{number}; columns = columns_{number}; sent = {store}; text = {}; left = {} }}",
             value::state(&loan.state),
             bytes(&question.text),
             due(number, question, left, OPENING_PLACES),
@@ -190,10 +190,10 @@ pub(super) fn of_opening(number: usize, question: &HostQuestion) -> String {
     let mut text = format!("-- {}: {}\n", question.sort, shown(&question.text));
     text += &lent(number, question);
     let mut ask = |name: &str, left: &Left, parts: &str| {
-        let (case, name) = (format!("{name}-case-{number}"), format!("{name}-{number}"));
+        let (case, name) = (format!("{name}_case_{number}"), format!("{name}_{number}"));
         text += &definition(&case, "OpeningCase", &body(left));
         text +=
-            &format!("{name} : onOpening {case} ≡ {parts}\nunfolding onOpeningQuickly\n{name} = by-arrays {case} ({parts}) refl\n\n");
+            &format!("{name} : on_opening {case} ≡ {parts}\nunfolding on_opening_quickly\n{name} = by_arrays {case} ({parts}) refl\n\n");
     };
     ask("opening", &question.left, "[]");
     let wrong = spoiled(number / OPENING_CONTROLS % 2, &question.left);

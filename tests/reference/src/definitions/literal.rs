@@ -34,13 +34,13 @@ pub(super) fn words(list: &[u32]) -> String {
 /// A list of signed 32-bit numbers.
 pub(super) fn signed_words(list: &[i32]) -> String {
     let elements: Vec<u128> = list.iter().map(|&word| u128::from(word as u32)).collect();
-    self::list("signedWords", &elements, 8)
+    self::list("signed_words", &elements, 8)
 }
 
 /// A list of signed 64-bit numbers.
 pub(super) fn signed_longs(list: &[i64]) -> String {
     let elements: Vec<u128> = list.iter().map(|&long| u128::from(long as u64)).collect();
-    self::list("signedLongs", &elements, 16)
+    self::list("signed_longs", &elements, 16)
 }
 
 /// A signed number.
@@ -71,8 +71,8 @@ mod tests {
         assert_eq!(packed(&[1, 2, 0, 0], 2), "0x201");
         assert_eq!(packed(&[], 8), "0");
         assert_eq!(bytes(&[0, 0]), "bytes 2 0");
-        assert_eq!(signed_words(&[-1, 1]), "signedWords 2 0x1ffffffff");
-        assert_eq!(signed_longs(&[-2, 0]), "signedLongs 2 0xfffffffffffffffe");
+        assert_eq!(signed_words(&[-1, 1]), "signed_words 2 0x1ffffffff");
+        assert_eq!(signed_longs(&[-2, 0]), "signed_longs 2 0xfffffffffffffffe");
         assert_eq!(integer(-1), "negsuc 0");
         assert_eq!(integer(i64::MIN), "negsuc 9223372036854775807");
         assert_eq!(integer(0), "pos 0");

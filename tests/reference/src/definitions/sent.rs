@@ -58,7 +58,7 @@ pub(super) fn due(number: usize, question: &HostQuestion, left: &Left, most: usi
     for place in asked(number, question, left, most) {
         let piece = piece(&left.loan.sent, place);
         text.push_str(&format!(
-            "placeDue {place} {} {} ∷ ",
+            "place_due {place} {} {} ∷ ",
             piece.len(),
             packed_bytes(piece)
         ));

@@ -22,7 +22,7 @@ pub(super) fn definition(name: &str, kind: &str, body: &str) -> String {
 
 /// A call on a node.
 pub(super) fn of_node(number: usize, question: &NodeQuestion) -> String {
-    let (case, name) = (format!("case-{number}"), format!("call-{number}"));
+    let (case, name) = (format!("case_{number}"), format!("call_{number}"));
     let body = format!(
         "record {{ settings = {}; node = {}; call = {}; answer = {}; outcome = record {{ node = {}; records = {} }} }}",
         value::settings(&question.state.settings),
@@ -34,14 +34,14 @@ pub(super) fn of_node(number: usize, question: &NodeQuestion) -> String {
     );
     let mut text = format!("-- {}\n", question.sort);
     text += &definition(&case, "NodeCase", &body);
-    text += &format!("{name} : onNode {case} ≡ []\nunfolding onNode\n{name} = refl\n\n");
+    text += &format!("{name} : on_node {case} ≡ []\nunfolding on_node\n{name} = refl\n\n");
     text
 }
 
 /// The mean of so many values with this sum.
 pub(super) fn of_mean(number: usize, sum: i64, count: u32) -> String {
     format!(
-        "-- {sum}/{count}\nmean-{number} : meanOf ({}) {count} ≡ {}\nunfolding meanOf\nmean-{number} = refl\n\n",
+        "-- {sum}/{count}\nmean_{number} : mean_of ({}) {count} ≡ {}\nunfolding mean_of\nmean_{number} = refl\n\n",
         integer(sum),
         integer(mean(sum, count)),
     )
@@ -59,14 +59,14 @@ pub(super) fn of_marks(number: usize, search: &Marks) -> String {
         search.places().len()
     );
     format!(
-        "-- the next mark from {from} on\nmark-{number} : markedIn ({words}) {from} ≡ {found}\nunfolding markedIn\nmark-{number} = refl\n\n"
+        "-- the next mark from {from} on\nmark_{number} : marked_in ({words}) {from} ≡ {found}\nunfolding marked_in\nmark_{number} = refl\n\n"
     )
 }
 
 /// How many steps a node needs.
 pub(super) fn of_steps(number: usize, host: &Host, steps: u32) -> String {
     format!(
-        "-- {}, c {}\nsteps-{number} : stepsOf ({}) ({}) ≡ {steps}\nunfolding stepsOf\nsteps-{number} = refl\n\n",
+        "-- {}, c {}\nsteps_{number} : steps_of ({}) ({}) ≡ {steps}\nunfolding steps_of\nsteps_{number} = refl\n\n",
         host.state.word.name(),
         host.state.c,
         value::settings(&host.state.settings),
@@ -89,7 +89,7 @@ pub(super) fn of_call_text(number: usize, text: &[u8]) -> String {
         ],
         None => vec![6],
     };
-    of_text(number, text, "callFields", "readCall", &fields)
+    of_text(number, text, "call_fields", "read_call", &fields)
 }
 
 /// What a settings text is read as.
@@ -102,12 +102,12 @@ pub(super) fn of_settings_text(number: usize, text: &[u8]) -> String {
         fields.extend([settings.low, settings.high].map(|limit| u64::from(limit as u32)));
         fields.push(u64::from(settings.displays));
     }
-    of_text(number, text, "settingsFields", "readSettings", &fields)
+    of_text(number, text, "settings_fields", "read_settings", &fields)
 }
 
 fn of_text(number: usize, text: &[u8], fields: &str, reader: &str, expected: &[u64]) -> String {
     format!(
-        "-- {}\ntext-{number} : {fields} ({reader} ({})) ≡ {}\nunfolding {reader}\ntext-{number} = refl\n\n",
+        "-- {}\ntext_{number} : {fields} ({reader} ({})) ≡ {}\nunfolding {reader}\ntext_{number} = refl\n\n",
         shown(text),
         bytes(text),
         spelled_list(expected),

@@ -69,7 +69,7 @@ fn common(state: &State) -> String {
 /// A state as its host hands it over: what is no array.
 pub(super) fn state(state: &State) -> String {
     format!(
-        "record {{ settings = {}; clock = record {{ 0 = {} }}; c = {}; p = {}; phase = {}; newest = {}; «last_stable» = {}; acknowledged = {} }}",
+        "record {{ settings = {}; clock = record {{ 0 = {} }}; c = {}; p = {}; phase = {}; newest = {}; last_stable = {}; acknowledged = {} }}",
         settings(&state.settings),
         state.clock,
         state.c,
@@ -98,7 +98,7 @@ pub(super) fn arrays(state: &State) -> String {
     let numbers = |head: &Head| [head.boundary, head.last_id, head.last_stable_id, head.kept];
     let heads: Vec<u32> = state.heads.iter().flat_map(numbers).collect();
     format!(
-        "arraysOf {} {} {} ({})",
+        "arrays_of {} {} {} ({})",
         rows(counts),
         rows(sums),
         rows(lasts),
@@ -148,7 +148,7 @@ pub(super) fn node(state: &State, store: &[Reading]) -> String {
     for (line, head) in state.lines().iter().enumerate() {
         let start = line * SHARE;
         lines.push_str(&format!(
-            "record {{ boundary = record {{ 0 = {} }}; lastId = {}; lastStableId = {}; kept = {} }} ∷ ",
+            "record {{ boundary = record {{ 0 = {} }}; last_id = {}; last_stable_id = {}; kept = {} }} ∷ ",
             head.boundary,
             head.last_id,
             head.last_stable_id,

@@ -48,7 +48,10 @@ struct Set {
 pub fn write_crate(folder: &Path, seed: u64, count: usize) -> io::Result<Vec<(String, Tally)>> {
     fs::create_dir_all(folder.join("src"))?;
     fs::create_dir_all(folder.join("proofs"))?;
-    fs::write(folder.join("src/lib.rt"), "// Generated cases.\n")?;
+    fs::write(
+        folder.join("src/lib.rt"),
+        "// Generated cases.\n#![tactic(auto)]\n",
+    )?;
     let mut lib = "-- Generated cases, and the laws that they are computed by.\n".to_string();
     let mut put = |name: &str, text: &str| {
         lib.push_str(&format!("pub mod {name}\n"));
