@@ -1,3 +1,2 @@
--- What the walked functions share, and the length of the columns.
-pub mod Lent
-pub mod Eight
+-- What the proofs here share.
+mod Eight

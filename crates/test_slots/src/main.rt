@@ -10,7 +10,6 @@ ghost use Rattle.std.specs.Prelude.{◌≡◌, ◌+◌, ◌<◌, ◌≤◌};
 ghost use Rattle.store_slots.specs.Slots.{placed_at, zeroed_from, closing_up, closed_slots};
 
 use clock::{ArrivalTick, ReadingTime};
-use libc::STDOUT_FILENO;
 use store::Reading;
 use store_slots::ClosedUp;
 
@@ -167,20 +166,20 @@ fn columns_closed(c: Columns, base: usize, n: usize, bucket: u32, j: u32) -> Col
 
 // ---- both
 
-fn print(text: &[u8]) {
-    io::write_all(STDOUT_FILENO, text);
+fn print(rt: HostRuntime, text: &[u8]) {
+    let _ = rt.write_all(text);
 }
 
-fn print_number(n: u64) {
-    io::print_decimal(STDOUT_FILENO, n);
+fn print_number(rt: HostRuntime, n: u64) {
+    let _ = print!(rt; "{n}");
 }
 
-fn print_place(at: usize) {
-    print_number(at as u64);
+fn print_place(rt: HostRuntime, at: usize) {
+    print_number(rt, at as u64);
 }
 
-fn print_u32(n: u32) {
-    print_number(n as u64);
+fn print_u32(rt: HostRuntime, n: u32) {
+    print_number(rt, n as u64);
 }
 
 // Whether a place holds the same reading in both.
@@ -210,46 +209,46 @@ fn first_difference(s: Stores) -> usize {
     i
 }
 
-fn print_next(id: u32) {
-    print(b" ");
-    print_u32(id);
+fn print_next(rt: HostRuntime, id: u32) {
+    print(rt, b" ");
+    print_u32(rt, id);
 }
 
 // The ids in the slots.
-fn print_ids(slots: [Reading; 8]) {
+fn print_ids(rt: HostRuntime, slots: [Reading; 8]) {
     let mut i = 0;
     while i < 8 {
         let r = slots[i];
-        print_next(r.id);
+        print_next(rt, r.id);
         i += 1;
     }
 }
 
 // The end of a step's line: the ids in the slots, and whether the columns hold the same readings.
-fn report(s: Stores) {
-    print(b":");
+fn report(rt: HostRuntime, s: Stores) {
+    print(rt, b":");
     let slots = s.slots;
-    print_ids(slots);
+    print_ids(rt, slots);
     let at = first_difference(s);
     if at == 8 {
-        print(b", the columns the same\n");
+        print(rt, b", the columns the same\n");
     } else {
-        print(b", the columns another reading in place ");
-        print_place(at);
-        print(b"\n");
+        print(rt, b", the columns another reading in place ");
+        print_place(rt, at);
+        print(rt, b"\n");
     }
 }
 
 // What became of a share that was closed up.
-fn print_outcome(outcome: ClosedUp) {
+fn print_outcome(rt: HostRuntime, outcome: ClosedUp) {
     match outcome {
         ClosedUp::Stay(k) => {
-            print(b", ");
-            print_place(k);
-            print(b" stay");
+            print(rt, b", ");
+            print_place(rt, k);
+            print(rt, b" stay");
         }
         ClosedUp::NoShare => {
-            print(b", no such share");
+            print(rt, b", no such share");
         }
     }
 }
@@ -292,7 +291,7 @@ fn empty() -> Stores {
 }
 
 // A step: a reading into a place of both stores.
-fn place(s: Stores, at: usize, r: Reading) -> Stores
+fn place(rt: HostRuntime, s: Stores, at: usize, r: Reading) -> Stores
     requires { at < 8 }
 {
     let slots = s.slots;
@@ -303,16 +302,16 @@ fn place(s: Stores, at: usize, r: Reading) -> Stores
         slots: new_slots,
         columns: new_columns,
     };
-    print(b"reading ");
-    print_u32(r.id);
-    print(b" into place ");
-    print_place(at);
-    report(new);
+    print(rt, b"reading ");
+    print_u32(rt, r.id);
+    print(rt, b" into place ");
+    print_place(rt, at);
+    report(rt, new);
     new
 }
 
 // A step: places of both stores zeroed.
-fn zero(s: Stores, from: usize, to: usize) -> Stores
+fn zero(rt: HostRuntime, s: Stores, from: usize, to: usize) -> Stores
     requires { (from ≤ to) × (to ≤ 8) }
 {
     let slots = s.slots;
@@ -323,17 +322,17 @@ fn zero(s: Stores, from: usize, to: usize) -> Stores
         slots: new_slots,
         columns: new_columns,
     };
-    print(b"places ");
-    print_place(from);
-    print(b" up to ");
-    print_place(to);
-    print(b" zeroed");
-    report(new);
+    print(rt, b"places ");
+    print_place(rt, from);
+    print(rt, b" up to ");
+    print_place(rt, to);
+    print(rt, b" zeroed");
+    report(rt, new);
     new
 }
 
 // A step: a share of both stores closed up over bucket j's readings.
-fn close_up(s: Stores, base: usize, n: usize, bucket: u32, j: u32) -> Stores
+fn close_up(rt: HostRuntime, s: Stores, base: usize, n: usize, bucket: u32, j: u32) -> Stores
     requires { (0 < bucket) × (base + n ≤ 8) }
 {
     let slots = s.slots;
@@ -345,71 +344,84 @@ fn close_up(s: Stores, base: usize, n: usize, bucket: u32, j: u32) -> Stores
         slots: new_slots,
         columns: new_columns,
     };
-    print(b"bucket ");
-    print_u32(j);
-    print(b" out of ");
-    print_place(n);
-    print(b" from place ");
-    print_place(base);
+    print(rt, b"bucket ");
+    print_u32(rt, j);
+    print(rt, b" out of ");
+    print_place(rt, n);
+    print(rt, b" from place ");
+    print_place(rt, base);
     let outcome = after.outcome;
-    print_outcome(outcome);
-    report(new);
+    print_outcome(rt, outcome);
+    report(rt, new);
     new
 }
 
 // A share that the slots have not, closed up, and what is said of it.
-fn refused(slots: [Reading; 8], base: usize, n: usize, bucket: u32, j: u32) -> [Reading; 8] {
+fn refused(
+    rt: HostRuntime,
+    slots: [Reading; 8],
+    base: usize,
+    n: usize,
+    bucket: u32,
+    j: u32,
+) -> [Reading; 8] {
     let after = closed(slots, base, n, bucket, j);
     let outcome = after.outcome;
-    print_outcome(outcome);
+    print_outcome(rt, outcome);
     let left = after.slots;
     left
 }
 
 // Steps that the slots refuse: there is no such place, no such run of places, no such share, or a bucket has no length.
-fn refuse(s: Stores) {
+fn refuse(rt: HostRuntime, s: Stores) {
     let columns = s.columns;
     let slots = s.slots;
     let no_place = placed(slots, 8, reading(9, 90, 93, 9));
     let backward = zeroed(no_place, 4, 3);
     let too_far = zeroed(backward, 5, 9);
-    print(b"what the slots refuse");
-    let no_start = refused(too_far, 9, 0, 10, 1);
-    let no_end = refused(no_start, 6, 3, 10, 1);
-    let no_length = refused(no_end, 0, 8, 0, 1);
-    report(Stores {
-        slots: no_length,
-        columns: columns,
-    });
+    print(rt, b"what the slots refuse");
+    let no_start = refused(rt, too_far, 9, 0, 10, 1);
+    let no_end = refused(rt, no_start, 6, 3, 10, 1);
+    let no_length = refused(rt, no_end, 0, 8, 0, 1);
+    report(
+        rt,
+        Stores {
+            slots: no_length,
+            columns: columns,
+        },
+    );
 }
 
 // A step that the columns alone take: the place that differs is named.
-fn differ(s: Stores) {
+fn differ(rt: HostRuntime, s: Stores) {
     let slots = s.slots;
     let columns = s.columns;
     let changed = columns_placed(columns, 5, reading(8, 80, 83, 8));
-    print(b"reading 8 into place 5 of the columns only");
-    report(Stores {
-        slots: slots,
-        columns: changed,
-    });
+    print(rt, b"reading 8 into place 5 of the columns only");
+    report(
+        rt,
+        Stores {
+            slots: slots,
+            columns: changed,
+        },
+    );
 }
 
-fn main() {
+fn main(rt: HostRuntime) {
     let mut s = empty();
-    s = place(s, 1, reading(1, 3, 4, 40));
-    s = place(s, 2, reading(2, 12, 13, -40));
-    s = place(s, 3, reading(3, 19, 30, 2147483647));
-    s = place(s, 4, reading(4, 5, 31, -2147483648));
-    s = place(s, 5, reading(5, 4294967295, 32, 0));
-    s = place(s, 6, reading(6, 14, 33, 7));
-    s = close_up(s, 1, 5, 10, 1);
-    s = close_up(s, 1, 3, 10, 9);
-    s = zero(s, 2, 4);
-    s = zero(s, 8, 8);
-    s = place(s, 6, reading(7, 44, 45, -7));
-    s = close_up(s, 0, 8, 1, 44);
-    refuse(s);
-    differ(s);
-    zero(s, 0, 8);
+    s = place(rt, s, 1, reading(1, 3, 4, 40));
+    s = place(rt, s, 2, reading(2, 12, 13, -40));
+    s = place(rt, s, 3, reading(3, 19, 30, 2147483647));
+    s = place(rt, s, 4, reading(4, 5, 31, -2147483648));
+    s = place(rt, s, 5, reading(5, 4294967295, 32, 0));
+    s = place(rt, s, 6, reading(6, 14, 33, 7));
+    s = close_up(rt, s, 1, 5, 10, 1);
+    s = close_up(rt, s, 1, 3, 10, 9);
+    s = zero(rt, s, 2, 4);
+    s = zero(rt, s, 8, 8);
+    s = place(rt, s, 6, reading(7, 44, 45, -7));
+    s = close_up(rt, s, 0, 8, 1, 44);
+    refuse(rt, s);
+    differ(rt, s);
+    zero(rt, s, 0, 8);
 }
