@@ -22,10 +22,12 @@
 // 15. the texts of `judge_other_texts`, 350-359.
 #![tactic(auto)]
 
+ghost use Rattle.std.specs.Prelude.{◌≤◌, length};
+
 use fields::Written;
 use journal::{Call, CallRead};
-use libc::{STDIN_FILENO, STDOUT_FILENO};
 use settings::SettingsRead;
+use std::io::Read;
 
 // Document 01's number of what the settings reader answers.
 fn settings_answer(text: &[u8]) -> u64 {
@@ -36,73 +38,97 @@ fn settings_answer(text: &[u8]) -> u64 {
     }
 }
 
-fn print_answers(settings: u64, journal: u64) {
-    io::write_all(STDOUT_FILENO, b"settings=");
-    io::print_decimal(STDOUT_FILENO, settings);
-    io::write_all(STDOUT_FILENO, b" journal=");
-    io::print_decimal(STDOUT_FILENO, journal);
-    io::write_all(STDOUT_FILENO, b"\n");
+fn print_answers(rt: HostRuntime, settings: u64, journal: u64) {
+    let _ = println!(rt; "settings={settings} journal={journal}");
 }
 
 // The first n bytes of an area, or a word that it has fewer.
-fn print_text(area: &[u8], n: usize) {
+fn print_text(rt: HostRuntime, area: &[u8], n: usize) {
     if n <= area.len() {
-        io::write_all(STDOUT_FILENO, &area[0..n]);
+        let _ = rt.write_all(&area[0..n]);
     } else {
-        io::write_all(STDOUT_FILENO, b"past the area\n");
+        let _ = println!(rt; "past the area");
     }
 }
 
 // The line that the writer makes of a call.
-fn print_call(call: Call) {
+fn print_call(rt: HostRuntime, call: Call) {
     let mut area = [0u8; journal_text::LONGEST_JOURNAL_LINE];
     match journal_text::write_call(call, &mut area) {
-        Written::Text(n) => print_text(&area, n),
-        Written::ShortArea => print_text(b"5\n", 2),
-        Written::Malformed => print_text(b"6\n", 2),
+        Written::Text(n) => print_text(rt, &area, n),
+        Written::ShortArea => print_text(rt, b"5\n", 2),
+        Written::Malformed => print_text(rt, b"6\n", 2),
     }
 }
 
 // What the readers answer on one text.
-fn judge(text: &[u8]) {
+fn judge(rt: HostRuntime, text: &[u8]) {
     let settings = settings_answer(text);
     match journal::read_call(text) {
         CallRead::Accepted(call) => {
-            print_answers(settings, 0);
-            print_call(call);
+            print_answers(rt, settings, 0);
+            print_call(rt, call);
         }
-        CallRead::Malformed => print_answers(settings, 6),
+        CallRead::Malformed => print_answers(rt, settings, 6),
     }
 }
 
-fn judge_lines(text: &[u8]) {
+fn judge_lines(rt: HostRuntime, text: &[u8]) {
     let mut at = 0;
     while at < text.len() {
         let line = fields::next_line(&text[at..]);
-        judge(line);
+        judge(rt, line);
         at += line.len();
     }
 }
 
 // Texts that are no line of an input: the empty one, and lines that lack their 0A, end in another byte or have bytes behind the 0A.
-fn judge_other_texts() {
-    judge(b"");
-    judge(b"lines=2 bucket=100 window=1 hold=50 low=-1000 high=1000 displays=1");
-    judge(b"lines=2 bucket=100 window=1 hold=50 low=-1000 high=1000 displays=1\0");
-    judge(b"lines=2 bucket=100 window=1 hold=50 low=-1000 high=1000 displays=1\n\n");
-    judge(b"lines=9 bucket=100 window=1 hold=50 low=-1000 high=1000 displays=1\nlines=9");
-    judge(b"now=0 line=1 kind=S id=1 time=10 meter=3 value=7");
-    judge(b"now=0 line=1 kind=S id=1 time=10 meter=3 value=7\r");
-    judge(b"now=0 line=1 kind=S id=1 time=10 meter=3 value=7\0");
-    judge(b"now=0 line=1 kind=S id=1 time=10 meter=3 value=7\n\n");
+fn judge_other_texts(rt: HostRuntime) {
+    judge(rt, b"");
     judge(
+        rt,
+        b"lines=2 bucket=100 window=1 hold=50 low=-1000 high=1000 displays=1",
+    );
+    judge(
+        rt,
+        b"lines=2 bucket=100 window=1 hold=50 low=-1000 high=1000 displays=1\0",
+    );
+    judge(
+        rt,
+        b"lines=2 bucket=100 window=1 hold=50 low=-1000 high=1000 displays=1\n\n",
+    );
+    judge(
+        rt,
+        b"lines=9 bucket=100 window=1 hold=50 low=-1000 high=1000 displays=1\nlines=9",
+    );
+    judge(rt, b"now=0 line=1 kind=S id=1 time=10 meter=3 value=7");
+    judge(rt, b"now=0 line=1 kind=S id=1 time=10 meter=3 value=7\r");
+    judge(rt, b"now=0 line=1 kind=S id=1 time=10 meter=3 value=7\0");
+    judge(rt, b"now=0 line=1 kind=S id=1 time=10 meter=3 value=7\n\n");
+    judge(
+        rt,
         b"now=62 line=0 kind=P id=0 time=0 meter=0 value=0\nnow=62 line=0 kind=P id=0 time=0 meter=0 value=0\n",
     );
 }
 
-fn main() {
-    let mut space = io::large_buffer();
-    let n = io::read_full(STDIN_FILENO, &mut space);
-    judge_lines(&space[..n]);
-    judge_other_texts();
+// Reads until this room is full or nothing more comes; answers how many bytes came.
+fn read_full(rt: HostRuntime, room: &mut [u8]) -> usize
+    ensures { result ≤ length room.new }
+{
+    let mut stdin = rt.stdin();
+    let mut done = 0;
+    while done < room.len() {
+        match stdin.read(&mut room[done..]) {
+            Ok(0) | Err(_) => break,
+            Ok(got) => done += got,
+        }
+    }
+    done
+}
+
+fn main(rt: HostRuntime) {
+    let mut space = [0u8; 65536];
+    let n = read_full(rt, &mut space);
+    judge_lines(rt, &space[..n]);
+    judge_other_texts(rt);
 }
