@@ -19,183 +19,181 @@ ghost use Rattle.std.specs.Prelude.{◌≤◌, ◌<◌};
 mod records;
 
 use fields::Written;
-use libc::STDOUT_FILENO;
 use record::{Decoded, Record};
 
-fn print(text: &[u8]) {
-    io::write_all(STDOUT_FILENO, text);
+fn print(rt: HostRuntime, text: &[u8]) {
+    let _ = rt.write_all(text);
 }
 
-fn print_number(n: u64) {
-    io::print_decimal(STDOUT_FILENO, n);
+fn print_number(rt: HostRuntime, n: u64) {
+    let _ = print!(rt; "{n}");
 }
 
 // A byte in hexadecimal, behind a space.
-fn print_byte(b: u8) {
-    print(b" ");
-    io::print_hex(STDOUT_FILENO, b as u64, 2);
+fn print_byte(rt: HostRuntime, b: u8) {
+    let _ = print!(rt; " {b:02x}");
 }
 
-fn print_bytes(bytes: &[u8]) {
+fn print_bytes(rt: HostRuntime, bytes: &[u8]) {
     let mut i = 0;
     while i < bytes.len() {
-        print_byte(bytes[i]);
+        print_byte(rt, bytes[i]);
         i += 1;
     }
 }
 
 // Document 01's number of what the writer of a text answers, and the text's length.
-fn print_written(answer: Written) {
+fn print_written(rt: HostRuntime, answer: Written) {
     match answer {
         Written::Text(n) => {
-            print(b"answer=0 length=");
-            print_number(n as u64);
-            print(b"\n");
+            print(rt, b"answer=0 length=");
+            print_number(rt, n as u64);
+            print(rt, b"\n");
         }
-        Written::ShortArea => print(b"answer=5\n"),
-        Written::Malformed => print(b"answer=6\n"),
+        Written::ShortArea => print(rt, b"answer=5\n"),
+        Written::Malformed => print(rt, b"answer=6\n"),
     }
 }
 
-fn print_row(row: &[u8; 125]) {
-    print(row);
-    print(b"\n");
+fn print_row(rt: HostRuntime, row: &[u8; 125]) {
+    print(rt, row);
+    print(rt, b"\n");
 }
 
 // What the writer of a text answers on these bytes where it is lent the first `room` dots of a row of 125, and that row afterwards.
-fn text_into(bytes: &[u8], room: usize)
+fn text_into(rt: HostRuntime, bytes: &[u8], room: usize)
     requires { room ≤ 125 }
 {
     let mut row = [46u8; 125];
     let answer = record_text::write_text(bytes, &mut row[0..room]);
-    print_written(answer);
-    print_row(&row);
+    print_written(rt, answer);
+    print_row(rt, &row);
 }
 
-fn print_truth(yes: bool) {
+fn print_truth(rt: HostRuntime, yes: bool) {
     if yes {
-        print(b"true");
+        print(rt, b"true");
     } else {
-        print(b"false");
+        print(rt, b"false");
     }
 }
 
 // What kinds a letter is one of.
-fn kinds_of(letter: u8) {
-    print(b"kind");
-    print_byte(letter);
-    print(b" stable=");
-    print_truth(record::is_stable(letter));
-    print(b" tentative=");
-    print_truth(record::is_tentative(letter));
-    print(b" result=");
-    print_truth(record::is_result(letter));
-    print(b"\n");
+fn kinds_of(rt: HostRuntime, letter: u8) {
+    print(rt, b"kind");
+    print_byte(rt, letter);
+    print(rt, b" stable=");
+    print_truth(rt, record::is_stable(letter));
+    print(rt, b" tentative=");
+    print_truth(rt, record::is_tentative(letter));
+    print(rt, b" result=");
+    print_truth(rt, record::is_result(letter));
+    print(rt, b"\n");
 }
 
-fn print_laid(r: Record) {
+fn print_laid(rt: HostRuntime, r: Record) {
     let mut space = [0u8; 32];
     record::put_record(&mut space, r);
-    print(b"decoded");
-    print_bytes(&space);
-    print(b"\n");
+    print(rt, b"decoded");
+    print_bytes(rt, &space);
+    print(rt, b"\n");
 }
 
 // The bytes of the record that bytes are decoded as.
-fn print_decoded(bytes: &[u8]) {
+fn print_decoded(rt: HostRuntime, bytes: &[u8]) {
     match record::decode(bytes) {
-        Decoded::Is(r) => print_laid(r),
-        Decoded::Malformed => print(b"decoded none\n"),
+        Decoded::Is(r) => print_laid(rt, r),
+        Decoded::Malformed => print(rt, b"decoded none\n"),
     }
 }
 
 // A record laid over the first 32 of 34 bytes aa, decoded, and its text.
-fn show(r: Record) {
+fn show(rt: HostRuntime, r: Record) {
     let mut space = [170u8; 34];
     record::put_record(&mut space, r);
-    print(b"bytes");
-    print_bytes(&space);
-    print(b"\n");
-    print_decoded(&space[0..32]);
-    text_into(&space[0..32], 125);
+    print(rt, b"bytes");
+    print_bytes(rt, &space);
+    print(rt, b"\n");
+    print_decoded(rt, &space[0..32]);
+    text_into(rt, &space[0..32], 125);
 }
 
-fn show_listing() {
-    show(records::tentative());
-    show(records::mark(record::UNDO, 0, 0));
-    show(records::stable());
-    show(records::mark(record::BOUNDARY, 0, 100));
-    show(records::mark(record::DONE, 0, 0));
+fn show_listing(rt: HostRuntime) {
+    show(rt, records::tentative());
+    show(rt, records::mark(record::UNDO, 0, 0));
+    show(rt, records::stable());
+    show(rt, records::mark(record::BOUNDARY, 0, 100));
+    show(rt, records::mark(record::DONE, 0, 0));
 }
 
-fn show_ends() {
-    show(records::greatest());
-    show(records::least());
-    show(records::longest());
-    show(records::uneven());
+fn show_ends(rt: HostRuntime) {
+    show(rt, records::greatest());
+    show(rt, records::least());
+    show(rt, records::longest());
+    show(rt, records::uneven());
 }
 
-fn print_area(area: &[u8; 66]) {
-    print(b"bytes");
-    print_bytes(area);
-    print(b"\n");
+fn print_area(rt: HostRuntime, area: &[u8; 66]) {
+    print(rt, b"bytes");
+    print_bytes(rt, area);
+    print(rt, b"\n");
 }
 
 // Two records, the second laid over the part of the area behind the first.
-fn show_two() {
+fn show_two(rt: HostRuntime) {
     let mut space = [170u8; 66];
     record::put_record(&mut space, records::stable());
     record::put_record(&mut space[32..], records::mark(record::BOUNDARY, 0, 100));
-    print_area(&space);
+    print_area(rt, &space);
 }
 
 // A record's text where the text area has so many bytes.
-fn show_in(r: Record, room: usize)
+fn show_in(rt: HostRuntime, r: Record, room: usize)
     requires { room ≤ 125 }
 {
     let mut bytes = [0u8; 32];
     record::put_record(&mut bytes, r);
-    print(b"room ");
-    print_number(room as u64);
-    print(b"\n");
-    text_into(&bytes, room);
+    print(rt, b"room ");
+    print_number(rt, room as u64);
+    print(rt, b"\n");
+    text_into(rt, &bytes, room);
 }
 
-fn show_rooms() {
-    show_in(records::stable(), 55);
-    show_in(records::stable(), 56);
-    show_in(records::stable(), 57);
-    show_in(records::stable(), 0);
-    show_in(records::longest(), 122);
-    show_in(records::longest(), 123);
-    show_in(records::longest(), 124);
-    show_in(records::longest(), 0);
+fn show_rooms(rt: HostRuntime) {
+    show_in(rt, records::stable(), 55);
+    show_in(rt, records::stable(), 56);
+    show_in(rt, records::stable(), 57);
+    show_in(rt, records::stable(), 0);
+    show_in(rt, records::longest(), 122);
+    show_in(rt, records::longest(), 123);
+    show_in(rt, records::longest(), 124);
+    show_in(rt, records::longest(), 0);
 }
 
-fn print_change(at: usize, byte: u8, n: usize, room: usize) {
-    print(b"byte ");
-    print_number(at as u64);
-    print(b" is");
-    print_byte(byte);
-    print(b", bytes ");
-    print_number(n as u64);
-    print(b", room ");
-    print_number(room as u64);
-    print(b"\n");
+fn print_change(rt: HostRuntime, at: usize, byte: u8, n: usize, room: usize) {
+    print(rt, b"byte ");
+    print_number(rt, at as u64);
+    print(rt, b" is");
+    print_byte(rt, byte);
+    print(rt, b", bytes ");
+    print_number(rt, n as u64);
+    print(rt, b", room ");
+    print_number(rt, room as u64);
+    print(rt, b"\n");
 }
 
 // What the first n bytes are decoded as, and what text they get.
-fn show_first(space: &[u8; 34], n: usize, room: usize)
+fn show_first(rt: HostRuntime, space: &[u8; 34], n: usize, room: usize)
     requires n_bound { n ≤ 34 }
     requires room_bound { room ≤ 125 }
 {
     let all: &[u8] = space;
-    print_decoded(&all[0..n]);
-    text_into(&all[0..n], room);
+    print_decoded(rt, &all[0..n]);
+    text_into(rt, &all[0..n], room);
 }
 
 // The same of the tentative result and two bytes aa behind it, with one byte changed.
-fn show_changed(at: usize, byte: u8, n: usize, room: usize)
+fn show_changed(rt: HostRuntime, at: usize, byte: u8, n: usize, room: usize)
     requires at_bound { at < 34 }
     requires n_bound { n ≤ 34 }
     requires room_bound { room ≤ 125 }
@@ -203,56 +201,56 @@ fn show_changed(at: usize, byte: u8, n: usize, room: usize)
     let mut space = [170u8; 34];
     record::put_record(&mut space, records::tentative());
     space[at] = byte;
-    print_change(at, byte, n, room);
-    show_first(&space, n, room);
+    print_change(rt, at, byte, n, room);
+    show_first(rt, &space, n, room);
 }
 
-fn show_no_records() {
-    show_changed(0, b'P', 32, 125);
-    show_changed(0, b't', 32, 125);
-    show_changed(0, 0, 32, 125);
-    show_changed(0, 255, 32, 125);
-    show_changed(2, 1, 32, 125);
-    show_changed(2, 255, 32, 125);
-    show_changed(3, 1, 32, 125);
-    show_changed(3, 255, 32, 125);
+fn show_no_records(rt: HostRuntime) {
+    show_changed(rt, 0, b'P', 32, 125);
+    show_changed(rt, 0, b't', 32, 125);
+    show_changed(rt, 0, 0, 32, 125);
+    show_changed(rt, 0, 255, 32, 125);
+    show_changed(rt, 2, 1, 32, 125);
+    show_changed(rt, 2, 255, 32, 125);
+    show_changed(rt, 3, 1, 32, 125);
+    show_changed(rt, 3, 255, 32, 125);
 }
 
-fn show_other_lengths() {
-    show_changed(0, b'T', 31, 125);
-    show_changed(0, b'T', 33, 125);
-    show_changed(0, b'T', 34, 125);
-    show_changed(0, b'T', 0, 125);
-    show_changed(0, b'P', 32, 0);
-    show_changed(3, 1, 32, 0);
-    show_changed(0, b'T', 31, 0);
+fn show_other_lengths(rt: HostRuntime) {
+    show_changed(rt, 0, b'T', 31, 125);
+    show_changed(rt, 0, b'T', 33, 125);
+    show_changed(rt, 0, b'T', 34, 125);
+    show_changed(rt, 0, b'T', 0, 125);
+    show_changed(rt, 0, b'P', 32, 0);
+    show_changed(rt, 3, 1, 32, 0);
+    show_changed(rt, 0, b'T', 31, 0);
 }
 
-fn show_still_records() {
-    show_changed(0, b'T', 32, 125);
-    show_changed(0, b'S', 32, 125);
-    show_changed(1, 255, 32, 125);
-    show_changed(33, 0, 32, 125);
-    show_changed(0, b'T', 32, 54);
+fn show_still_records(rt: HostRuntime) {
+    show_changed(rt, 0, b'T', 32, 125);
+    show_changed(rt, 0, b'S', 32, 125);
+    show_changed(rt, 1, 255, 32, 125);
+    show_changed(rt, 33, 0, 32, 125);
+    show_changed(rt, 0, b'T', 32, 54);
 }
 
-fn show_kinds() {
-    kinds_of(b'S');
-    kinds_of(b'T');
-    kinds_of(b'U');
-    kinds_of(b'B');
-    kinds_of(b'R');
-    kinds_of(b'P');
-    kinds_of(0);
+fn show_kinds(rt: HostRuntime) {
+    kinds_of(rt, b'S');
+    kinds_of(rt, b'T');
+    kinds_of(rt, b'U');
+    kinds_of(rt, b'B');
+    kinds_of(rt, b'R');
+    kinds_of(rt, b'P');
+    kinds_of(rt, 0);
 }
 
-fn main() {
-    show_listing();
-    show_ends();
-    show_two();
-    show_rooms();
-    show_no_records();
-    show_other_lengths();
-    show_still_records();
-    show_kinds();
+fn main(rt: HostRuntime) {
+    show_listing(rt);
+    show_ends(rt);
+    show_two(rt);
+    show_rooms(rt);
+    show_no_records(rt);
+    show_other_lengths(rt);
+    show_still_records(rt);
+    show_kinds(rt);
 }
