@@ -16,6 +16,7 @@ use Rattle.record.specs.Fields.{fields_of}
 use Rattle.answer.specs.Numbers as Answer
 use Rattle.record.specs.Decoded.{is_well_formed, decoded, decoded_answer, ExactRecord}
 use Rattle.record.specs.Within.{Within}
+pub use Rattle.record.proofs.Form.{well_formed}
 use Rattle.record.proofs.BytesOf.{length_bytes_of, fields_of_bytes_of, bytes_of_fields_of, within_fields_of}
 
 pub decoded_well : (b : List ℕ) → is_well_formed b ≡ true → decoded b ≡ Decoded.Is (fields_of b)
@@ -27,10 +28,6 @@ unfolding decoded
 decoded_ill b e = rw e
 
 -- ---- a record's bytes are read as the record
-
-pub well_formed : (b : List ℕ) → length b ≡ 32 → is_record (get_or b 0 0) ≡ true → get_or b 2 0 ≡ 0 → get_or b 3 0 ≡ 0 → is_well_formed b ≡ true
-unfolding is_well_formed
-well_formed b size kind third fourth = simp (size, kind, third, fourth)
 
 well_formed_bytes_of : (r : Record) → is_record r.kind ≡ true → is_well_formed (bytes_of r) ≡ true
 unfolding bytes_of
