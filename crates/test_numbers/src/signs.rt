@@ -6,7 +6,7 @@ use crate::text::{answer_integer, answer_number, print, print_integer, print_num
 fn mean_of(rt: HostRuntime, sum: i64, count: u32)
     requires { InRange sum count }
 {
-    print(rt, b"mean_of(rt, ");
+    print(rt, b"mean_of(");
     print_integer(rt, sum);
     print(rt, b", ");
     print_number(rt, count as u64);
@@ -14,31 +14,31 @@ fn mean_of(rt: HostRuntime, sum: i64, count: u32)
 }
 
 fn magnitude(rt: HostRuntime, x: i64) {
-    print(rt, b"magnitude(rt, ");
+    print(rt, b"magnitude(");
     print_integer(rt, x);
     answer_number(rt, signed::magnitude(x));
 }
 
 fn bits32(rt: HostRuntime, x: i32) {
-    print(rt, b"bits32(rt, ");
+    print(rt, b"bits32(");
     print_integer(rt, widen(x));
     answer_number(rt, signed::bits32(x) as u64);
 }
 
 fn bits64(rt: HostRuntime, x: i64) {
-    print(rt, b"bits64(rt, ");
+    print(rt, b"bits64(");
     print_integer(rt, x);
     answer_number(rt, signed::bits64(x));
 }
 
 fn signed32(rt: HostRuntime, word: u32) {
-    print(rt, b"signed32(rt, ");
+    print(rt, b"signed32(");
     print_number(rt, word as u64);
     answer_integer(rt, widen(signed::signed32(word)));
 }
 
 fn signed64(rt: HostRuntime, word: u64) {
-    print(rt, b"signed64(rt, ");
+    print(rt, b"signed64(");
     print_number(rt, word);
     answer_integer(rt, signed::signed64(word));
 }
