@@ -23,7 +23,7 @@ use Rattle.node.specs.View.{view}
 use Rattle.consistency.specs.Runs.{Box, Input, left_after}
 use Rattle.consistency.specs.Accounts.{Account}
 use Rattle.consistency.specs.Demand.{Handed, is_opened, box_of, settings_in, account_of}
-use Rattle.consistency.specs.Balance.{plus, of_meter, sent_heat, paid_heat, open_heat, kept_stables, kept_heat, Balance}
+use Rattle.consistency.specs.Balance.{plus, sent_heat, paid_heat, open_heat, kept_stables, kept_heat, Balance}
 use Rattle.consistency.proofs.Heats.{heat_monoid, heat_measure, readings_heat, paid_reported}
 use Rattle.consistency.proofs.ShapedLines.{LineShaped}
 use Rattle.consistency.proofs.ShapedRuns.{kept_shaped}

@@ -16,7 +16,6 @@ use Rattle.protocol.specs.Kinds.{Kind, kind_of}
 use Rattle.protocol.specs.Node.{Node}
 use Rattle.protocol.specs.Calls.{outcome_of}
 use Rattle.protocol.specs.declared.Phase.{Phase}
-use Rattle.protocol.specs.declared.Phase.TheVariants as Phase
 use Rattle.protocol.specs.Rules.{is_correcting}
 use Rattle.protocol.specs.Monitor.{left_to_work}
 use Rattle.protocol.specs.StepCount.{buckets_left}

@@ -16,12 +16,14 @@ pub mod Forms
 pub mod Plain
 pub mod Stated
 pub mod PlainExactly
+pub mod StatedExactly
 pub mod Heats
 pub mod PlainBalance
 pub mod PlainDisplays
 pub mod PlainBytes
 pub mod PlainAnswers
 pub mod PlainSentBack
+pub mod StatedSentBack
 pub mod Theorem
 pub mod Exactly
 pub mod Balance

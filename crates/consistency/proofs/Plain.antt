@@ -9,7 +9,6 @@ use lib.Dec.{eqb}
 use lib.ListN.{take, drop}
 use Rattle.settings.specs.declared.Settings.{Settings}
 use Rattle.journal.specs.declared.CallRead.{CallRead}
-use Rattle.journal.specs.declared.CallRead.TheVariants as CallRead
 use Rattle.journal.specs.ReadLine.{call_of}
 use Rattle.record.specs.Sizes.{record_bytes}
 use Rattle.record.specs.Layout.{bytes_of}

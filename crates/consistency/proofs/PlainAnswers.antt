@@ -12,7 +12,6 @@ use Rattle.clock.specs.declared.ArrivalTick.{ArrivalTick}
 use Rattle.settings.specs.declared.Settings.{Settings}
 use Rattle.journal.specs.declared.Call.{Call}
 use Rattle.journal.specs.declared.CallRead.{CallRead}
-use Rattle.journal.specs.declared.CallRead.TheVariants as CallRead
 use Rattle.store.proofs.Choices.{and_parts}
 use Rattle.protocol.specs.Kinds.{Kind, kind_of}
 use Rattle.protocol.specs.Displays.{least_of}

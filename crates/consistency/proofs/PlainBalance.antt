@@ -14,7 +14,6 @@ use borrow.Author.Tests.{eqb-true, eq-eqb}
 use Rattle.settings.specs.declared.Settings.{Settings}
 use Rattle.journal.specs.declared.Call.{Call}
 use Rattle.journal.specs.declared.CallRead.{CallRead}
-use Rattle.journal.specs.declared.CallRead.TheVariants as CallRead
 use Rattle.journal.specs.ReadLine.{call_of}
 use Rattle.journal.specs.Kinds.{letter_s}
 use Rattle.record.specs.declared.Record.{Record}

@@ -12,7 +12,6 @@ use lib.ListN.{length, get_or, set, length-set}
 use lib.Seq.{get_or-set_same, get_or-set_other}
 use Rattle.settings.specs.declared.Settings.{Settings}
 use Rattle.journal.specs.declared.CallRead.{CallRead}
-use Rattle.journal.specs.declared.CallRead.TheVariants as CallRead
 use Rattle.journal.specs.ReadLine.{call_of}
 use Rattle.store.proofs.Pairs.{every_index}
 use Rattle.protocol.specs.Displays.{least_of, last_of, acknowledging}

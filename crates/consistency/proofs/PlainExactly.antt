@@ -1,5 +1,5 @@
--- The statement of document 02's W4 gives the plain table of specs/PlainExactly.antt, and the table gives the statement, so that neither
--- can be weakened without the other. An accepted step has found the state in shape, where its word tells whether p is above c; where no
+-- The statement of document 02's W4 gives the plain table of specs/PlainExactly.antt; that the table gives the statement is in
+-- StatedExactly, so that neither can be weakened without the other. An accepted step has found the state in shape, where its word tells whether p is above c; where no
 -- step is accepted it is enough that either count is 0 if the other is. Uses the two texts and no proof of either.
 use Prim.Native.Nat.{ℕ, zero, suc, ◌≤◌, ◌<◌, min}
 use mathlib.Core.Path.{◌≡◌, refl, sym, ◌∙◌, ap, subst}
@@ -16,7 +16,6 @@ use Rattle.store.specs.declared.Reading.{Reading}
 use Rattle.store.proofs.Choices.{not_both}
 use Rattle.store.specs.Sizes.{readings_per_line}
 use Rattle.protocol.specs.declared.Phase.{Phase}
-use Rattle.protocol.specs.declared.Phase.TheVariants as Phase
 use Rattle.protocol.specs.Rules.{is_correcting}
 use Rattle.protocol.specs.StepCount.{steps_needed, least_boundary_of, buckets_left}
 use Rattle.node.specs.declared.LineHead.{LineHead}
@@ -25,14 +24,13 @@ use Rattle.node.specs.View.{Lent, view_line, view_lines, view}
 use Rattle.node.proofs.Shape.{PhaseShape, in_shape_facts}
 use Rattle.node.proofs.Calls.{accepted_call}
 use Rattle.consistency.specs.Runs.{Box, Input, called, left, left_after}
-use Rattle.consistency.specs.Demand.{Handed, opening, is_opened, box_of, remaining, Steps}
+use Rattle.consistency.specs.Demand.{opening, is_opened, Steps}
 use Rattle.consistency.specs.Plain.{Run, settings_on, run_of, only_steps, accepted_of, left_on}
 use Rattle.consistency.specs.Exactly.{left_in, steps_from, Exactly}
 use Rattle.consistency.specs.PlainExactly.{steps_in, state_after, lowest_of, left_by, PlainExactly}
 use Rattle.consistency.proofs.Refused.{same_box}
 use Rattle.consistency.proofs.Displays.{acknowledgement_aside, fetched_same}
 use Rattle.consistency.proofs.Plain.{box_on, steps_are, handed_of, opened_left, opened_remaining}
-use Rattle.consistency.proofs.Stated.{steps_count}
 
 -- ---- the count by the state's word
 
@@ -68,7 +66,7 @@ shaped_words b text area e =
 abbrev SameCount : Held → ℕ → ℕ → Type 0
 SameCount st k n = (steps_from st k ≤ n) ↔ (steps_in st.phase k ≤ n)
 
-same_count : {b : Box} {n : ℕ} {js : List Input} → Steps b n js → (k : ℕ) → SameCount b.state k n
+pub same_count : {b : Box} {n : ℕ} {js : List Input} → Steps b n js → (k : ℕ) → SameCount b.state k n
 unfolding steps_from left called
 same_count {b} Steps.rest k = none_in_words (ltb b.state.c b.state.p) b.state.phase k
 same_count {b} (Steps.step {n = n} text area call read kind accepted more) k =
@@ -109,7 +107,7 @@ module _ (k n needed : ℕ) (phase : Phase) where
       let settled = exact.1 h in
       (settled.0, λ e. not_both (correcting_word phase e) settled.1)
 
-  both :
+  pub both :
       (n < needed → k ≡ 0 → phase ≡ Phase.Correcting) → (needed ≤ n → (k ≡ 0) × (phase ≡ Phase.Correcting → ⊥)) →
       ((k ≡ 0) × (is_correcting phase ≡ false)) ↔ (needed ≤ n)
   both f g = (
@@ -129,11 +127,11 @@ least_view (suc zero) (h ∷ hs) rs = refl
 least_view (suc (suc n)) (h ∷ []) rs = refl
 least_view (suc (suc n)) (h ∷ g ∷ hs) rs = ap (min h.boundary.0) (least_view (suc n) (g ∷ hs) (drop readings_per_line rs))
 
-left_by_lem : (b : Box) → left_in b ≡ left_by b.state
+pub left_by_lem : (b : Box) → left_in b ≡ left_by b.state
 unfolding left_in buckets_left left_by view
 left_by_lem b = rw (least_view b.state.settings.lines b.state.heads _)
 
-state_after_lem : (b : Box) (is : List Input) → (left_after b is).state ≡ state_after b.state b.lent is
+pub state_after_lem : (b : Box) (is : List Input) → (left_after b is).state ≡ state_after b.state b.lent is
 unfolding left_after state_after left called
 state_after_lem b [] = refl
 state_after_lem b (Input.journal text area ∷ is) = state_after_lem (left b (Input.journal text area)) is
@@ -162,7 +160,7 @@ module _ (st : Held) (x : Lent) (text : List ℕ) (is js : List Input) where
   behind = run_of st x text (is ++ js)
 
   -- the plain form of the clause
-  abbrev OpenedExactly : Type 0
+  abbrev pub OpenedExactly : Type 0
   OpenedExactly =
       ((left_on (settings_on st x text) behind ≡ 0) × (is_correcting behind.state.phase ≡ false)) ↔
       (steps_in before.state.phase (left_on (settings_on st x text) before) ≤ accepted_of before.state before.lent js)
@@ -189,51 +187,4 @@ plain_exactly e =
       either_count = λ st x text o is.
           sym (left_by_lem (box_on (run_of st x text is))) ∙ ap left_in (sym (opened_left st x text is)) ∙
           e.left_alike (handed_of st x text) o is ∙ opened_remaining st x text is;
-    }
-
--- ---- and back
-
-from_any_box_lem :
-    PlainExactly → (b : Box) → length b.state.heads ≡ 8 → (js : List Input) (n : ℕ) → Steps b n js →
-    ((left_in (left_after b js) ≡ 0) × (is_correcting (left_after b js).state.phase ≡ false)) ↔ (steps_from b.state (left_in b) ≤ n)
-from_any_box_lem p b heads js n steps =
-    let count = steps_count steps in
-    let exact =
-    both _ _ _ _ (p.too_few_anywhere b.state b.lent heads js count.0)
-    (p.enough_anywhere b.state b.lent heads js count.0) in
-    rw (left_by_lem (left_after b js), state_after_lem b js, left_by_lem b)
-    (Iff.trans (rw count.1 at exact) (Iff.symm (same_count steps (left_by b.state))))
-
-from_opening :
-    PlainExactly → (h : Handed) → is_opened h → (is js : List Input) (n : ℕ) → Steps (left_after (box_of h) is) n js →
-    ((remaining h (is ++ js) ≡ 0) × (is_correcting (left_after (box_of h) (is ++ js)).state.phase ≡ false)) ↔
-    (steps_from (left_after (box_of h) is).state (remaining h is) ≤ n)
-unfolding is_opened opening
-from_opening p h e is js n steps =
-    let st = h.state in
-    let x = h.lent in
-    let text = h.text in
-    let run = run_of st x text is in
-    let plain : Steps (box_on run) n js = subst (λ (b : Box). Steps b n js) (opened_left st x text is) steps in
-    let count = steps_count plain in
-    let exact : OpenedExactly st x text is js =
-    both _ _ _ _ (p.too_few st x text e is js count.0) (p.enough st x text e is js count.0) in
-    rw (
-      opened_remaining st x text (is ++ js),
-      opened_remaining st x text is,
-      opened_left st x text (is ++ js),
-      opened_left st x text is,
-    )
-    (Iff.trans (rw count.1 at exact) (Iff.symm (same_count plain (left_on (settings_on st x text) run))))
-
-pub stated_exactly : PlainExactly → Exactly
-unfolding is_opened opening
-stated_exactly p =
-    record {
-      settles_exactly = from_opening p;
-      from_any_box = from_any_box_lem p;
-      left_alike = λ h e is.
-          left_by_lem (left_after (box_of h) is) ∙
-          ap (λ (b : Box). left_by b.state) (opened_left h.state h.lent h.text is) ∙
-          p.either_count h.state h.lent h.text e is ∙ sym (opened_remaining h.state h.lent h.text is);
     }

@@ -1,5 +1,5 @@
--- The statement on the send-back store gives the plain table of specs/PlainSentBack.antt, and the table gives the statement, so that neither
--- can be weakened without the other. Uses the two texts and no proof of either; of the definitions, that an opening has a display, and that
+-- The statement on the send-back store gives the plain table of specs/PlainSentBack.antt, and each clause of the table one of the statement;
+-- StatedSentBack puts those together, so that neither can be weakened without the other. Uses the two texts and no proof of either; of the definitions, that an opening has a display, and that
 -- an accepted acknowledgement is of one.
 use Prim.Native.Nat.{ℕ, suc, ◌+◌, ◌-◌, ◌≤◌, ◌<◌}
 use mathlib.Core.Path.{◌≡◌, sym, ◌∙◌, ap, subst}
@@ -19,9 +19,7 @@ use Rattle.protocol.specs.Displays.{least_of, last_of}
 use Rattle.protocol.specs.FailureFree.{failure_free}
 use Rattle.node.specs.Sizes.{area_bytes}
 use Rattle.node.specs.Held.{Held}
-use Rattle.node.specs.View.{Lent, with_acknowledged}
 use Rattle.node.specs.Calls.{Called, called_on}
-use Rattle.node.specs.Displays.{acknowledged_on}
 use Rattle.consistency.specs.Runs.{Box, Input, called, left}
 use Rattle.consistency.specs.Accounts.{Account, empty_account}
 use Rattle.consistency.specs.Demand.{Handed, opening, is_opened, box_of, settings_in, account_of}
@@ -30,7 +28,7 @@ use Rattle.consistency.specs.Plain.{Run, settings_on, run_of, results_on}
 use Rattle.consistency.proofs.Opened.{settings_limits}
 use Rattle.consistency.proofs.Plain.{box_on, handed_of, opened_left, opened_account}
 use Rattle.consistency.specs.PlainSentBack.{last_on, wanted, is_bare_step, is_lacking}
-use Rattle.consistency.specs.PlainSentBack.{FetchOn, SentOn, QuietOn, PlainSentBack}
+use Rattle.consistency.specs.PlainSentBack.{FetchOn, SentOn, PlainSentBack}
 use Rattle.consistency.specs.SentBack.{last_in, least_in, newest_in, IsDisplay, Stored, Answers, FetchedFrom}
 use Rattle.consistency.specs.SentBack.{LacksPlaces, box_after, SentBack}
 use Rattle.consistency.proofs.PlainDisplays.{box_in, last_is, count_is, wanted_least}
@@ -184,7 +182,7 @@ module _ (h : Handed) (e : is_opened h) (is : List Input) where
       }
 
   module _ (t : SentOn s y last h.lent.sent) where
-    stated_near :
+    pub stated_near :
         (display : ℕ) → IsDisplay h display →
         (last_in h is display ≤ newest_in h is) × (newest_in h is ≤ last_in h is display + held_results)
     unfolding settings_in opening settings_on last_in
@@ -193,19 +191,19 @@ module _ (h : Handed) (e : is_opened h) (is : List Input) where
       omega (arith, t.near display d.0 d.1, same_last display d.0 d.1, newest),
     )
 
-    stated_acknowledges : (display id : ℕ) (area : List ℕ) → Acknowledges display id area (box_after h is)
+    pub stated_acknowledges : (display id : ℕ) (area : List ℕ) → Acknowledges display id area (box_after h is)
     unfolding called settings_in opening settings_on
     stated_acknowledges display id area =
         subst (Acknowledges display id area) (sym same_box)
         (stated_answer s area display (AckFits display id) _ (acknowledgement_fits display id) _ (t.acknowledges display id area))
 
-    stated_fetches : (display from : ℕ) (area : List ℕ) → Fetches display from area (box_after h is)
+    pub stated_fetches : (display from : ℕ) (area : List ℕ) → Fetches display from area (box_after h is)
     unfolding called settings_in opening settings_on
     stated_fetches display from area =
         subst (Fetches display from area) (sym same_box)
         (stated_answer s area display (FetchFits from) _ (λ _. fetch_fits from) _ (t.fetches display from area))
 
-    stated_fetched :
+    pub stated_fetched :
         (display from : ℕ) (area : List ℕ) →
         let r : Called = called (box_after h is) (Input.fetch display from area) in
         r.answer ≡ 0 → FetchedFrom h is from area r
@@ -216,7 +214,7 @@ module _ (h : Handed) (e : is_opened h) (is : List Input) where
         stated_fetch h is s y last alike from area (called (box_after h is) (Input.fetch display from area)) low p.0
         (subst (Gives display from area) (sym same_box) (t.fetched display from area) q)
 
-    stated_full : (text area : List ℕ) → Refused (box_after h is) text area
+    pub stated_full : (text area : List ℕ) → Refused (box_after h is) text area
     unfolding called
     stated_full text area =
         subst (λ (b : Box). Refused b text area) (sym same_box)
@@ -224,11 +222,11 @@ module _ (h : Handed) (e : is_opened h) (is : List Input) where
         (is_lacking s y last) (area_bytes ≤ length area) (ReadsAs y.state.clock (call_of text)) (LacksPlaces s (account_of h is))
         (whole_area area) (reads_is y.state.clock (call_of text)) lacking (t.full text area))
 
-    stated_stored : Stored h is (box_after h is).lent.sent
+    pub stated_stored : Stored h is (box_after h is).lent.sent
     stated_stored =
         subst (λ (b : Box). Stored h is b.lent.sent) (sym same_box) (stated_store h is s y last alike t.store)
 
-  table : PlainSentBack → SentOn s y last h.lent.sent
+  pub table : PlainSentBack → SentOn s y last h.lent.sent
   unfolding is_opened opening
   table p = p.opened h.state h.lent h.text e is
 
@@ -255,43 +253,4 @@ plain_sent_back t =
       still = λ st x display from area.
           let q = t.still (box_in st x) display from area in
           (ap (λ (b : Box). b.state) q, ap (λ (b : Box). b.lent) q);
-    }
-
--- a state is what its fields are
-whole_state :
-    (st : Held) (x : Lent) (area : List ℕ) (r : Called) → QuietOn st x area r → r.state ≡ with_acknowledged r.state.acknowledged st
-whole_state st x area r q = λ i.
-    record {
-      operator = q.operator i;
-      checkpoint = q.checkpoint i;
-      heads = q.heads i;
-      settings = q.settings i;
-      clock = q.clock i;
-      c = q.c i;
-      p = q.p i;
-      phase = q.phase i;
-      acknowledged = r.state.acknowledged;
-    }
-
-pub stated_sent_back : PlainSentBack → SentBack
-unfolding is_opened opening called left settings_in settings_on
-stated_sent_back t =
-    record {
-      store = λ h e is. stated_stored h e is (table h e is t);
-      near = λ h e is. stated_near h e is (table h e is t);
-      acknowledges = λ h e is. stated_acknowledges h e is (table h e is t);
-      fetches = λ h e is. stated_fetches h e is (table h e is t);
-      fetched = λ h e is. stated_fetched h e is (table h e is t);
-      quiet = λ b display id area.
-          let q = t.quiet b.state b.lent display id area in
-          record {
-            records = q.records;
-            bytes = q.bytes;
-            readings = q.readings;
-            state = whole_state b.state b.lent area (acknowledged_on b.state b.lent display id area) q;
-          };
-      still = λ b display from area.
-          let q = t.still b.state b.lent display from area in
-          λ i. record { state = q.0 i; lent = q.1 i };
-      full = λ h e is. stated_full h e is (table h e is t);
     }

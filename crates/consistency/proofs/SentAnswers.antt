@@ -13,13 +13,12 @@ use Rattle.clock.specs.declared.ArrivalTick.{ArrivalTick}
 use Rattle.settings.specs.declared.Settings.{Settings}
 use Rattle.journal.specs.declared.Call.{Call}
 use Rattle.journal.specs.declared.CallRead.{CallRead}
-use Rattle.journal.specs.declared.CallRead.TheVariants as CallRead
 use Rattle.journal.specs.Kinds.{letter_s}
 use Rattle.store.proofs.Choices.{and_parts}
 use Rattle.operator.specs.Meters.{Operator}
 use Rattle.retransmission.specs.Sizes.{held_results}
 use Rattle.protocol.specs.Node.{Node, is_stable_bucket}
-use Rattle.protocol.specs.Refusals.{first_failed, wrong_id, answer_to}
+use Rattle.protocol.specs.Refusals.{first_failed, answer_to}
 use Rattle.protocol.specs.Rules.{first_rule, rule_of, worked}
 use Rattle.protocol.specs.Displays.{least_of, given_up_to, free_places, lacks_places, wrong_display, last_of, wrong_acknowledgement, wrong_fetch}
 use Rattle.protocol.specs.Displays.{answer_to_acknowledgement, answer_to_fetch}

@@ -15,7 +15,6 @@ use Rattle.clock.specs.declared.ArrivalTick.{ArrivalTick}
 use Rattle.settings.specs.declared.Settings.{Settings}
 use Rattle.journal.specs.declared.Call.{Call}
 use Rattle.journal.specs.declared.CallRead.{CallRead}
-use Rattle.journal.specs.declared.CallRead.TheVariants as CallRead
 use Rattle.journal.specs.JournalLine.{call_answer}
 use Rattle.journal.specs.ReadLine.{call_of}
 use Rattle.record.specs.declared.Record.{Record}

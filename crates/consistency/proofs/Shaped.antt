@@ -20,11 +20,9 @@ use Rattle.store.specs.Order.{in_bucket}
 use Rattle.operator.specs.Meters.{Operator, meter_count, fresh}
 use Rattle.operator_meter.specs.Values.{no_meter}
 use Rattle.protocol.specs.declared.Phase.{Phase}
-use Rattle.protocol.specs.declared.Phase.TheVariants as Phase
 use Rattle.protocol.specs.Kinds.{Kind, kind_of, uses, is_step}
 use Rattle.protocol.specs.Node.{Line, Node, no_line, opened, is_stable_bucket, kept_of}
 use Rattle.protocol.specs.declared.Rule.{Rule}
-use Rattle.protocol.specs.declared.Rule.TheVariants as Rule
 use Rattle.protocol.specs.Rules.{is_correcting, some_overdue, rule_of, worked, act}
 use Rattle.protocol.specs.Refusals.{answer_to}
 use Rattle.store.specs.Sizes.{readings_per_line}

@@ -12,7 +12,6 @@ use lib.ListN.{length, take}
 use Rattle.settings.specs.declared.Settings.{Settings}
 use Rattle.journal.specs.declared.Call.{Call}
 use Rattle.journal.specs.declared.CallRead.{CallRead}
-use Rattle.journal.specs.declared.CallRead.TheVariants as CallRead
 use Rattle.journal.specs.JournalLine.{call_answer}
 use Rattle.journal.specs.ReadLine.{call_of}
 use Rattle.store.specs.Lists.{Every}

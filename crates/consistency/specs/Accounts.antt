@@ -5,7 +5,6 @@ use Rattle.std.specs.Prelude.{ℕ, Bool, List, [], ◌∷◌, map, eqb, replicat
 use Rattle.clock.specs.declared.ReadingTime.{ReadingTime}
 use Rattle.settings.specs.declared.Settings.{Settings}
 use Rattle.journal.specs.declared.CallRead.{CallRead}
-use Rattle.journal.specs.declared.CallRead.TheVariants as CallRead
 use Rattle.journal.specs.ReadLine.{call_of}
 use Rattle.store.specs.declared.Reading.{Reading}
 use Rattle.protocol.specs.Monitor.{LineMonitor, Monitor, fresh_monitor, observe}

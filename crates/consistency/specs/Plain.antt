@@ -7,7 +7,6 @@ use Rattle.std.specs.Int.Signed.{mag}
 use Rattle.clock.specs.declared.ReadingTime.{ReadingTime}
 use Rattle.settings.specs.declared.Settings.{Settings}
 use Rattle.journal.specs.declared.CallRead.{CallRead}
-use Rattle.journal.specs.declared.CallRead.TheVariants as CallRead
 use Rattle.journal.specs.ReadLine.{call_of}
 use Rattle.record.specs.declared.Record.{Record}
 use Rattle.record.specs.Layout.{bytes_of}

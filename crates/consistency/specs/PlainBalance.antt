@@ -6,7 +6,6 @@ use Rattle.std.specs.Int.Signed.{le_z}
 use Rattle.signed.specs.Twos.{signed_of}
 use Rattle.settings.specs.declared.Settings.{Settings}
 use Rattle.journal.specs.declared.CallRead.{CallRead}
-use Rattle.journal.specs.declared.CallRead.TheVariants as CallRead
 use Rattle.journal.specs.ReadLine.{call_of}
 use Rattle.record.specs.Fields.{word_at}
 use Rattle.store.specs.declared.Reading.{Reading}

@@ -3,7 +3,6 @@
 -- table.
 use Rattle.std.specs.Prelude.{ℕ, zero, suc, ◌+◌, ◌-◌, ◌/◌, ◌≤◌, ◌<◌, min, ◌≡◌, true, List, [], ◌∷◌, ◌++◌, map, length, take}
 use Rattle.protocol.specs.declared.Phase.{Phase}
-use Rattle.protocol.specs.declared.Phase.TheVariants as Phase
 use Rattle.node.specs.declared.LineHead.{LineHead}
 use Rattle.node.specs.Held.{Held}
 use Rattle.node.specs.View.{Lent}

@@ -6,7 +6,6 @@ use Rattle.std.specs.Prelude.{Bool, true, false, cond, ◌&&◌, ◌||◌, List,
 use Rattle.clock.specs.declared.ArrivalTick.{ArrivalTick}
 use Rattle.settings.specs.declared.Settings.{Settings}
 use Rattle.journal.specs.declared.CallRead.{CallRead}
-use Rattle.journal.specs.declared.CallRead.TheVariants as CallRead
 use Rattle.journal.specs.ReadLine.{call_of}
 use Rattle.record.specs.declared.Record.{Record}
 use Rattle.record.specs.Layout.{all_bytes}

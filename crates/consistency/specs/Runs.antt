@@ -3,7 +3,6 @@
 use Rattle.std.specs.Prelude.{ℕ, List, [], ◌∷◌, ◌++◌}
 use Rattle.record.specs.declared.Record.{Record}
 use Rattle.record.specs.declared.Decoded.{Decoded}
-use Rattle.record.specs.declared.Decoded.TheVariants as Decoded
 use Rattle.record.specs.Decoded.{decoded}
 use Rattle.record.specs.Markers.{marker}
 use Rattle.node.specs.Held.{Held}
