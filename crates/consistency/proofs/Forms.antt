@@ -12,7 +12,7 @@ use Rattle.record.specs.Layout.{bytes_of}
 use Rattle.record.specs.Fields.{word_at, fields_of}
 use Rattle.record.specs.Markers.{marker}
 use Rattle.record.specs.Decoded.{is_well_formed, decoded}
-use Rattle.record.proofs.BytesOf.{length_bytes_of, are_bytes_bytes_of, fields_of_bytes_of, within_fields_of}
+use Rattle.record.proofs.BytesOf.{length_bytes_of, are_bytes_bytes_of, within_fields_of}
 use Rattle.record.proofs.Decoding.{well_formed, well_formed_only, decoded_well, decoded_ill}
 use Rattle.consistency.specs.Runs.{read_as, record_in}
 use Rattle.consistency.specs.Plain.{HasForm, HasRoom}
@@ -29,7 +29,7 @@ form_of b e =
     ])
     refl
 
-decoded_form : (b : List ℕ) → HasForm b → decoded b ≡ Decoded.Is (fields_of b)
+pub decoded_form : (b : List ℕ) → HasForm b → decoded b ≡ Decoded.Is (fields_of b)
 decoded_form b f = decoded_well b (well_formed b f.size f.letter f.third f.fourth)
 
 pub form_read : (b : List ℕ) → HasForm b → decoded b ≡ Decoded.Is (record_in b)
@@ -39,7 +39,7 @@ form_read b f = decoded_form b f ∙ ap Decoded.Is (sym (ap read_as (decoded_for
 -- ---- the room
 
 -- letter and meter stand in the bytes as they are, so that nothing of the others goes by them
-abbrev bare : Record → Record
+abbrev pub bare : Record → Record
 bare r =
     record { sum = r.sum; id = r.id; time = r.time; count = r.count; mean = r.mean; last = r.last; kind = 0; meter = 0 }
 
@@ -62,34 +62,3 @@ room_of r e =
       | false ↦ λ t. subst HasRoom (sym (ap read_as (decoded_ill (bytes_of r) t)) ∙ e) room_none
     ])
     refl
-
-fields_back : (r : Record) → HasRoom r → fields_of (bytes_of r) ≡ r
-unfolding fields_of bytes_of word_at little_endian
-fields_back r h =
-    let e =
-    fields_of_bytes_of (bare r)
-    (record {
-      kind = omega arith;
-      meter = omega arith;
-      id = h.id;
-      time = h.time;
-      count = h.count;
-      sum = h.sum;
-      mean = h.mean;
-      last = h.last;
-    }) in
-    λ i.
-    record {
-      sum = (e i).sum;
-      id = (e i).id;
-      time = (e i).time;
-      count = (e i).count;
-      mean = (e i).mean;
-      last = (e i).last;
-      kind = r.kind;
-      meter = r.meter;
-    }
-
-pub room_back : (r : Record) → HasForm (bytes_of r) × HasRoom r → record_in (bytes_of r) ≡ r
-unfolding record_in read_as
-room_back r (form, room) = ap read_as (decoded_form (bytes_of r) form) ∙ fields_back r room

@@ -13,8 +13,10 @@ pub mod ShapedLines
 pub mod Shaped
 pub mod ShapedRuns
 pub mod Forms
+pub mod FormsBack
 pub mod Plain
 pub mod Stated
+pub mod PlainCount
 pub mod PlainExactly
 pub mod StatedExactly
 pub mod Heats

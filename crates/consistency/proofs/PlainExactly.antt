@@ -1,15 +1,12 @@
 -- The statement of document 02's W4 gives the plain table of specs/PlainExactly.antt; that the table gives the statement is in
--- StatedExactly, so that neither can be weakened without the other. An accepted step has found the state in shape, where its word tells whether p is above c; where no
--- step is accepted it is enough that either count is 0 if the other is. Uses the two texts and no proof of either.
+-- StatedExactly, so that neither can be weakened without the other. Uses the two texts and no proof of either.
 use Prim.Native.Nat.{ℕ, zero, suc, ◌≤◌, ◌<◌, min}
 use mathlib.Core.Path.{◌≡◌, refl, sym, ◌∙◌, ap, subst}
-use mathlib.Core.Bool.{Bool, true, false}
+use mathlib.Core.Bool.{true, false}
 use mathlib.Core.Logic.Iff
 use mathlib.Core.Logic.{◌↔◌, ⊎_elim}
 use mathlib.Core.List.{List, [], ◌∷◌, ◌++◌, map}
 use native.Mathlib.Omega.{arith}
-use borrow.Author.Tests.{le-ltb, lt-ltb}
-use lib.Dec.{ltb}
 use lib.ListN.{length, take, drop}
 use Rattle.signed.proofs.Comparing.{lt_or_le}
 use Rattle.store.specs.declared.Reading.{Reading}
@@ -17,67 +14,17 @@ use Rattle.store.proofs.Choices.{not_both}
 use Rattle.store.specs.Sizes.{readings_per_line}
 use Rattle.protocol.specs.declared.Phase.{Phase}
 use Rattle.protocol.specs.Rules.{is_correcting}
-use Rattle.protocol.specs.StepCount.{steps_needed, least_boundary_of, buckets_left}
+use Rattle.protocol.specs.StepCount.{least_boundary_of, buckets_left}
 use Rattle.node.specs.declared.LineHead.{LineHead}
 use Rattle.node.specs.Held.{Held}
 use Rattle.node.specs.View.{Lent, view_line, view_lines, view}
-use Rattle.node.proofs.Shape.{PhaseShape, in_shape_facts}
-use Rattle.node.proofs.Calls.{accepted_call}
 use Rattle.consistency.specs.Runs.{Box, Input, called, left, left_after}
 use Rattle.consistency.specs.Demand.{opening, is_opened, Steps}
 use Rattle.consistency.specs.Plain.{Run, settings_on, run_of, only_steps, accepted_of, left_on}
-use Rattle.consistency.specs.Exactly.{left_in, steps_from, Exactly}
+use Rattle.consistency.specs.Exactly.{left_in, Exactly}
 use Rattle.consistency.specs.PlainExactly.{steps_in, state_after, lowest_of, left_by, PlainExactly}
-use Rattle.consistency.proofs.Refused.{same_box}
-use Rattle.consistency.proofs.Displays.{acknowledgement_aside, fetched_same}
 use Rattle.consistency.proofs.Plain.{box_on, steps_are, handed_of, opened_left, opened_remaining}
-
--- ---- the count by the state's word
-
--- of a state in shape it is the count by c and p
-in_words : (c p : ℕ) (phase : Phase) → PhaseShape c p phase → (k : ℕ) → steps_needed k (ltb c p) (is_correcting phase) ≡ steps_in phase k
-unfolding steps_needed is_correcting steps_in
-in_words c p Phase.Stable h zero = refl
-in_words c p Phase.Stable h (suc k) = rw (le-ltb c p (omega arith)) (omega arith)
-in_words c p Phase.Failure h zero = refl
-in_words c p Phase.Failure h (suc k) = rw (lt-ltb c p h) (omega arith)
-in_words c p Phase.Correcting h zero = refl
-in_words c p Phase.Correcting h (suc k) = rw (le-ltb c p (omega arith)) (omega arith)
-
--- of any state one is 0 if the other is
-none_in_words : (out : Bool) (phase : Phase) (k : ℕ) → (steps_needed k out (is_correcting phase) ≤ 0) ↔ (steps_in phase k ≤ 0)
-unfolding steps_needed is_correcting steps_in
-none_in_words out Phase.Stable zero = (λ h. h, λ h. h)
-none_in_words out Phase.Stable (suc k) = (λ h. absurd (omega arith), λ h. absurd (omega arith))
-none_in_words out Phase.Failure zero = (λ h. h, λ h. h)
-none_in_words out Phase.Failure (suc k) = (λ h. absurd (omega arith), λ h. absurd (omega arith))
-none_in_words out Phase.Correcting zero = (λ h. absurd (omega arith), λ h. absurd (omega arith))
-none_in_words out Phase.Correcting (suc k) = (λ h. absurd (omega arith), λ h. absurd (omega arith))
-
-shaped_words :
-    (b : Box) (text area : List ℕ) → (called b (Input.journal text area)).answer ≡ 0 →
-    (k : ℕ) → steps_from b.state k ≡ steps_in b.state.phase k
-unfolding called steps_from
-shaped_words b text area e =
-    let v = accepted_call b.state b.lent text area e in
-    in_words b.state.c b.state.p b.state.phase (in_shape_facts b.state b.lent v.host.shape).buckets.phase
-
--- either count says the same of n
-abbrev SameCount : Held → ℕ → ℕ → Type 0
-SameCount st k n = (steps_from st k ≤ n) ↔ (steps_in st.phase k ≤ n)
-
-pub same_count : {b : Box} {n : ℕ} {js : List Input} → Steps b n js → (k : ℕ) → SameCount b.state k n
-unfolding steps_from left called
-same_count {b} Steps.rest k = none_in_words (ltb b.state.c b.state.p) b.state.phase k
-same_count {b} (Steps.step {n = n} text area call read kind accepted more) k =
-    let same = shaped_words b text area accepted k in
-    (λ h. subst (λ (m : ℕ). m ≤ suc n) same h, λ h. subst (λ (m : ℕ). m ≤ suc n) (sym same) h)
-same_count {b} {n} (Steps.refused i wasRefused more) k =
-    subst (λ (z : Box). SameCount z.state k n) (same_box b i wasRefused) (same_count more k)
-same_count {b} {n} (Steps.acknowledge display id area more) k =
-    subst (λ (z : Held). SameCount z k n) (acknowledgement_aside b.state b.lent display id area).state (same_count more k)
-same_count {b} {n} (Steps.fetch display from area more) k =
-    subst (λ (z : Box). SameCount z.state k n) (fetched_same b display from area) (same_count more k)
+use Rattle.consistency.proofs.PlainCount.{same_count}
 
 -- ---- too few, and enough
 

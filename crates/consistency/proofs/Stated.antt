@@ -23,7 +23,8 @@ use Rattle.consistency.specs.Demand.{Handed, opening, is_opened, box_of, setting
 use Rattle.consistency.specs.Demand.{failure_free_records, failure_free_bytes, Steps, Unchanged, Demand3}
 use Rattle.consistency.specs.Plain.{Run, settings_on, run_of, is_p, reads_as_step, only_steps, accepted_of, sent_as, sent_on}
 use Rattle.consistency.specs.Plain.{results_on, owed, HasForm, HasRoom, LeftAlone, Neither3Nor4, Plain}
-use Rattle.consistency.proofs.Forms.{form_read, room_back}
+use Rattle.consistency.proofs.Forms.{form_read}
+use Rattle.consistency.proofs.FormsBack.{room_back}
 use Rattle.consistency.proofs.Plain.{box_on, account_on, opened_left, opened_account, opened_bytes}
 use Rattle.consistency.proofs.Plain.{opened_remaining, opened_boundaries}
 

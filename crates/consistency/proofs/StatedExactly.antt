@@ -14,7 +14,8 @@ use Rattle.consistency.specs.Exactly.{left_in, steps_from, Exactly}
 use Rattle.consistency.specs.PlainExactly.{left_by, PlainExactly}
 use Rattle.consistency.proofs.Plain.{box_on, opened_left, opened_remaining}
 use Rattle.consistency.proofs.Stated.{steps_count}
-use Rattle.consistency.proofs.PlainExactly.{same_count, both, left_by_lem, state_after_lem, OpenedExactly}
+use Rattle.consistency.proofs.PlainExactly.{both, left_by_lem, state_after_lem, OpenedExactly}
+use Rattle.consistency.proofs.PlainCount.{same_count}
 
 from_any_box_lem :
     PlainExactly → (b : Box) → length b.state.heads ≡ 8 → (js : List Input) (n : ℕ) → Steps b n js →
