@@ -14,8 +14,9 @@
  *                  EAGAIN before any of them, by numbers that start from N
  *   ticks=N        a signal every N microseconds, which interrupts a call
  *   nonblocking    both ends are made non-blocking
- *   closed=kills   SIGPIPE ends the program: the default, but a program may
- *                  have been started with another; closed=fails: it is ignored
+ *   closed=kills   SIGPIPE ends the program, until it sets another action: the
+ *                  default, but a program may have been started with another;
+ *                  closed=fails: it is ignored
  *
  * 'Nth call' counts those that fail by none of the words but EIO and the like.
  * A program that has not ended after 20 seconds is ended.
