@@ -1,3 +1,4 @@
+-- `call_acknowledgements::span_of` meets its contract: the first id is the least and the greatest of one, and each turn takes one id more.
 use Rattle.std.proofs.Common.{rules, arith, ◌≡◌, ◌<◌, length}
 use Prim.Native.Nat.{min, max}
 use lib.ListN.{get_or}

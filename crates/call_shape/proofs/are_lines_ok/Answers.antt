@@ -1,3 +1,4 @@
+-- `call_shape::are_lines_ok` meets its contract: a line that fails fails them all, and behind the last one all have passed.
 use Rattle.std.proofs.Common.{arith, sym, refl, ◌∙◌}
 use Rattle.call_shape.proofs.LinesInShape.{small_head, lines_wrong_head, lines_wrong_share, lines_turn, lines_end}
 use Rattle.call_shape.proofs.are_lines_ok.Goals as goal
