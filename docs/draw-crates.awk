@@ -7,7 +7,7 @@
 # Nothing here hangs on the order in which awk goes through an array, so that every awk draws the same.
 
 BEGIN {
-    KIT = "arrayvec"
+    KIT = "arrayvec memchr"
     WIDTH = 1500; LABELS = 210; MARGIN = 24; HEAD = 58; FOOT = 66
     BOX = 38; BETWEEN = 32; BAND = 20
     # one letter of a crate's name, 16 px high

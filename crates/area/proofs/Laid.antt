@@ -1,11 +1,12 @@
 -- Laws on bytes laid over an area: runs join, lengths stay, and a run from the first place on is a new front.
 use mathlib.Core.Path.{◌≡◌, refl, sym, ap, ◌∙◌}
-use mathlib.Core.List.{List, [], ◌∷◌, ◌++◌}
-use Prim.Native.Nat.{ℕ, suc, ◌+◌, ◌<◌, ◌≤◌}
+use mathlib.Core.List.{List, [], ◌∷◌, ◌++◌, append_assoc}
+use Prim.Native.Nat.{ℕ, suc, ◌+◌, ◌≤◌}
 use native.Mathlib.Omega.{arith}
 use native.Mathlib.Nat.{zero-add}
-use lib.ListN.{length, get_or, take, set, length-append}
-use lib.Seq.{sets, sets-eq, length-sets, length-take-le, take-suc}
+use lib.ListN.{length, take, drop, set, length-append}
+use lib.Seq.{sets, sets-eq, length-sets, drop-drop}
+use borrow.Rule.Slice.PartMut.{put_mid}
 use Rattle.area.specs.Laid.{laid, in_front}
 
 sets_sets : (a b l : List ℕ) (i j : ℕ) → j ≡ i + length a → sets (sets l i a) j b ≡ sets l i (a ++ b)
@@ -30,18 +31,17 @@ pub laid_one : (l : List ℕ) (i x : ℕ) → laid l i (x ∷ []) ≡ set l i x
 unfolding laid
 laid_one l i x = refl
 
--- the first bytes of a run, and one more
-pub laid_more :
-    (l : List ℕ) (at i : ℕ) (s : List ℕ) → i < length s → set (laid l at (take i s)) (at + i) (get_or s i 0) ≡ laid l at (take (suc i) s)
-laid_more l at i s h =
-    sym (laid_one (laid l at (take i s)) (at + i) (get_or s i 0))
-    ∙ laid_laid l at (at + i) (take i s) (get_or s i 0 ∷ []) (omega (arith, length-take-le i s (omega arith)))
-    ∙ ap (laid l at) (sym (take-suc s i 0 h))
-
 -- a run from the first place on is a new front
 pub laid_front : (l a : List ℕ) → length a ≤ length l → laid l 0 a ≡ in_front a l
 unfolding laid in_front
 laid_front l a h = sets-eq a l 0 (omega arith) ∙ rw zero-add
+
+-- a run copied into its part of the area
+pub put_mid_laid : (l a : List ℕ) (at n : ℕ) → n ≡ length a → at + n ≤ length l → put_mid at n l a ≡ laid l at a
+unfolding laid
+put_mid_laid l a at n e h =
+    ap (λ (r : List ℕ). take at l ++ (a ++ r)) (drop-drop n at l ∙ ap (λ (k : ℕ). drop (at + k) l) e)
+    ∙ sym (sets-eq a l at (omega arith) ∙ append_assoc (take at l) a (drop (at + length a) l))
 
 -- three runs, each behind the one before, and four
 module _ (l : List ℕ) (at : ℕ) (a b c : List ℕ) (e f : ℕ) (p : e ≡ at + length a) (q : f ≡ e + length b) where

@@ -8,12 +8,12 @@ use native.Mathlib.Omega.{arith}
 use borrow.Author.Tests.{eqb-true, eq-eqb, not-false, lt-ltb}
 use lib.Dec.{leb}
 use lib.ListN.{length, get_or, set, length-take}
+use Rattle.std.specs.Prelude.{Some}
 use Rattle.area.specs.Laid.{in_front}
 use Rattle.clock.specs.declared.ArrivalTick.{ArrivalTick}
 use Rattle.settings.specs.declared.Settings.{Settings}
 use Rattle.settings.specs.Limits.{max_lines, max_displays}
 use Rattle.journal.specs.declared.Call.{Call}
-use Rattle.journal.specs.declared.CallRead.{CallRead}
 use Rattle.record.specs.Layout.{all_bytes}
 use Rattle.store.specs.declared.Reading.{Reading}
 use Rattle.store.specs.Sizes.{readings_per_line}
@@ -122,7 +122,7 @@ module _ (st : Held) (x : Lent) (area : List ℕ) (k : Call) (ok : answer_to st.
 
   called_laid :
       (o : Outcome) → done st.settings node k (kind_of k.kind) ≡ o →
-      called_with st x area (CallRead.Accepted k) ≡ set_clock k.now (laid_outcome st x area o)
+      called_with st x area (Some k) ≡ set_clock k.now (laid_outcome st x area o)
   unfolding called_with accepted put_state put_columns put_lent
   called_laid o e = rw (eq-eqb (answer_to st.settings node k) 0 ok, accepted_is_done st.settings node k ok, e)
 
@@ -131,7 +131,7 @@ module _ (st : Held) (x : Lent) (area : List ℕ) (k : Call) (ok : answer_to st.
 
   -- a step laid down is what the call leaves, but for the clock
   pub step_laid :
-      k.line ≡ 0 → {r : Called} → r ≡ laid_outcome st x area stepped → set_clock k.now r ≡ called_with st x area (CallRead.Accepted k)
+      k.line ≡ 0 → {r : Called} → r ≡ laid_outcome st x area stepped → set_clock k.now r ≡ called_with st x area (Some k)
   step_laid z laid =
       ap (set_clock k.now) laid ∙
       sym (called_laid stepped (step_done st.settings node k (kind_of k.kind) (line_passed st.settings node k ok) z))
@@ -210,12 +210,11 @@ module _
         rw kept at (rising_ids (named_line (view st x) k).kept line.rising) in
         (wide, small, free, rw (ids_share x base head.kept (omega arith)) at ids)
 
-    -- what the function of an input ensures of line and share, with the head that was read, is what the call leaves; it gives no record,
-    -- so the send-back store stays
+    -- what the function of an input ensures of line and share is what the call leaves; it gives no record, so the send-back store stays
     pub input_laid :
-        (found : LineHead) → found ≡ head → {after : LineHead} {y : Columns} →
-        after ≡ head_of (on_line k (kind_of k.kind) (line_from found x base)) →
-        y ≡ with_kept x base found.kept (on_line k (kind_of k.kind) (line_from found x base)).kept →
+        {after : LineHead} {y : Columns} →
+        after ≡ head_of (on_line k (kind_of k.kind) (line_from head x base)) →
+        y ≡ with_kept x base head.kept (on_line k (kind_of k.kind) (line_from head x base)).kept →
         record {
           answer = 0;
           records = 0;
@@ -223,16 +222,16 @@ module _
           lent = lent_of y lent.sent;
           area = area;
         } ≡
-        called_with st lent area (CallRead.Accepted k)
+        called_with st lent area (Some k)
     unfolding input put_state put_lent all_bytes in_front view view_line holding
-    input_laid found told e f =
+    input_laid e f =
         let kind : Kind = kind_of k.kind in
         let small : SmallLine (on_line k kind (line_from head x base)) =
         on_line_small k kind (line_from head x base) free
         (omega (arith, length-take head.kept (rows_from x base readings_per_line), length_rows_from x base readings_per_line)) in
         rw (
-          e ∙ ap (λ (h : LineHead). head_of (on_line k kind (line_from h x base))) told,
-          f ∙ ap (λ (h : LineHead). with_kept x base h.kept (on_line k kind (line_from h x base)).kept) told,
+          e,
+          f,
           ← heads_line st x fitted (k.line - 1) line_last (on_line k kind),
           ← put_columns_line st x fitted (k.line - 1) line_last (on_line k kind) (input (view st x) k kind).node refl small,
         )

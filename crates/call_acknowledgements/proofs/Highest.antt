@@ -1,13 +1,11 @@
--- The greatest of some ids and of one more; all ids are at most n exactly if it is.
-use Prim.Native.Nat.{ℕ, suc, ◌+◌, ◌≤◌, ◌<◌, max}
+-- All ids are at most n exactly if the greatest of them is.
+use Prim.Native.Nat.{ℕ, ◌≤◌, max}
 use mathlib.Core.Path.{◌≡◌, sym, ◌∙◌, ap}
 use mathlib.Core.Bool.{◌&&◌}
-use mathlib.Core.List.{List, [], ◌∷◌, ◌++◌}
+use mathlib.Core.List.{List, [], ◌∷◌}
 use native.Mathlib.Omega.{arith}
 use borrow.Author.Tests.{leb-true, le-leb}
 use lib.Dec.{leb}
-use lib.ListN.{length, take, get_or}
-use lib.Seq.{take-suc}
 use Rattle.store.specs.Lists.{all_of}
 use Rattle.store.proofs.Choices.{and_parts}
 use Rattle.protocol.proofs.Tests.{both_ways}
@@ -28,21 +26,3 @@ pub all_at_most : (n : ℕ) (ids : List ℕ) → all_of (λ (id : ℕ). leb id n
 unfolding all_of greatest_of
 all_at_most n [] = sym (le-leb 0 n (omega arith))
 all_at_most n (a ∷ ids) = ap (◌&&◌ (leb a n)) (all_at_most n ids) ∙ sym (leb_max n a (greatest_of ids))
-
-greatest_more : (ids : List ℕ) (a : ℕ) → greatest_of (ids ++ a ∷ []) ≡ max (greatest_of ids) a
-unfolding greatest_of
-greatest_more [] a = omega arith
-greatest_more (x ∷ ids) a = omega (arith, greatest_more ids a)
-
-pub greatest_start : (ids : List ℕ) → 0 < length ids → get_or ids 0 0 ≡ greatest_of (take 1 ids)
-unfolding greatest_of
-greatest_start [] h = absurd (omega arith)
-greatest_start (x ∷ ids) h = omega arith
-
-pub greatest_turn :
-    (ids : List ℕ) (greatest i next : ℕ) → i < length ids → greatest ≡ greatest_of (take i ids) → next ≡ max greatest (get_or ids i 0) →
-    next ≡ greatest_of (take (i + 1) ids)
-greatest_turn ids greatest i next l v e =
-    let one : suc i ≡ i + 1 = omega arith in
-    e ∙ ap (λ (m : ℕ). max m (get_or ids i 0)) v ∙ sym (greatest_more (take i ids) (get_or ids i 0)) ∙
-    ap greatest_of (sym (take-suc ids i 0 l)) ∙ ap (λ (m : ℕ). greatest_of (take m ids)) one

@@ -1,4 +1,4 @@
 -- Laws on what the displays have acknowledged.
-pub mod Lowest
+pub mod Spans
 pub mod Highest
 pub mod Near

@@ -7,6 +7,8 @@ use native.Mathlib.Omega.{arith}
 use borrow.Author.Tests.{le-ltb}
 use lib.Dec.{ltb}
 use lib.ListN.{length, take}
+use lib.Seq.{length-take-le}
+use Rattle.settings.specs.Limits.{max_displays}
 use Rattle.clock.specs.declared.ArrivalTick.{ArrivalTick}
 use Rattle.journal.specs.Kinds.{letter_s}
 use Rattle.store.specs.Columns.{Columns}
@@ -18,9 +20,35 @@ use Rattle.protocol.specs.Kinds.{Kind, is_step}
 use Rattle.protocol.specs.Displays.{least_of, given_up_to, free_places, lacks_places}
 use Rattle.node.specs.Held.{Held}
 use Rattle.node.specs.View.{view}
+use Rattle.node.specs.Shape.{state_in_shape, displays_ok}
+use Rattle.node.proofs.Limits.{Limits, limits_hold}
+use Rattle.node.proofs.Shape.{DisplayShape, state_facts}
+use Rattle.call_acknowledgements.proofs.Near.{least_near}
 use Rattle.step_work.proofs.Given.{few_results}
 
--- the free places, as the code counts them
+-- ---- what the displays have acknowledged, of a state in shape
+
+pub record Acknowledged (st : Held) : Type 0 where
+  pub room : st.settings.displays ≤ max_displays
+  pub some : 1 ≤ length (take st.settings.displays st.acknowledged)
+  pub known : least_of (take st.settings.displays st.acknowledged) ≤ st.checkpoint.number
+  pub near : st.checkpoint.number - least_of (take st.settings.displays st.acknowledged) ≤ held_results
+
+pub acknowledged :
+    (st : Held) (x : Columns) → length st.acknowledged ≡ max_displays → state_in_shape st x ≡ true → displays_ok st ≡ true →
+    Acknowledged st
+unfolding displays_ok
+acknowledged st x size shape displays =
+    let ids = take st.settings.displays st.acknowledged in
+    let limits : Limits st.settings = limits_hold st.settings (state_facts st x shape).limits in
+    let some : 1 ≤ length ids =
+    omega (arith, length-take-le st.settings.displays st.acknowledged (omega (arith, limits, size)), limits) in
+    let near : DisplayShape st.checkpoint.number (least_of ids) = least_near st.checkpoint.number ids some displays in
+    record { room = limits.displays; some = some; known = near.known; near = omega (arith, near.near) }
+
+-- ---- the free places
+
+-- as the code counts them
 abbrev pub free_in : Held → ℕ
 free_in st = held_results - (st.checkpoint.number - least_of (take st.settings.displays st.acknowledged))
 

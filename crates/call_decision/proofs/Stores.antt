@@ -3,9 +3,9 @@ use Prim.Native.Nat.{ℕ, ◌*◌, ◌≤◌}
 use mathlib.Core.Path.{◌≡◌, subst}
 use mathlib.Core.Bool.{true}
 use mathlib.Core.List.{List}
-use lib.IntN.{ℤ}
 use lib.ListN.{length, take}
 use Rattle.settings.specs.Limits.{within_limits}
+use Rattle.store.specs.declared.Store.{Store}
 use Rattle.store.specs.Sizes.{readings_per_line}
 use Rattle.store.specs.Lists.{all_of}
 use Rattle.node.specs.Held.{Held}
@@ -13,16 +13,14 @@ use Rattle.node.specs.Shape.{head_ok}
 use Rattle.step_rule.proofs.Asked.{asked}
 use Rattle.call_decision.specs.Stores.{SomeStep}
 
-pub record RuleReady (h : Held) (times arrivals : List ℕ) : Type 0 where
+pub record RuleReady (h : Held) (readings : Store) : Type 0 where
   pub limits : within_limits h.settings ≡ true
-  pub of_times : h.settings.lines * readings_per_line ≤ length times
-  pub of_arrivals : h.settings.lines * readings_per_line ≤ length arrivals
+  pub of_times : h.settings.lines * readings_per_line ≤ length readings.times.now
+  pub of_arrivals : h.settings.lines * readings_per_line ≤ length readings.arrivals.now
   pub heads : all_of head_ok (take h.settings.lines h.heads) ≡ true
 
-pub rule_ready :
-    (h : Held) {times : List ℕ} {values : List ℤ} {arrivals meters : List ℕ} → SomeStep h times values arrivals meters →
-    RuleReady h times arrivals
-rule_ready h some =
+pub rule_ready : (h : Held) (readings : Store) → SomeStep h readings → RuleReady h readings
+rule_ready h readings some =
     let is : _ = some.is.work in
     let parts : _ = asked h some.store is.room is.shape in
     record {

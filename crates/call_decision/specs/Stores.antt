@@ -1,15 +1,16 @@
--- The store that a step would be done on, where four of its columns are lent: those that refusal 15 looks at.
-use Rattle.std.specs.Prelude.{ℕ, ◌≡◌, List, ℤ}
+-- The store that a step would be done on: refusal 15 looks at four of its columns.
+use Rattle.std.specs.Prelude.{◌≡◌}
+use Rattle.store.specs.declared.Store.{Store}
 use Rattle.store.specs.Columns.{Columns}
 use Rattle.node.specs.Held.{Held}
 use Rattle.step_work.specs.Stores.{StoreOf}
 
--- a store with these columns, in shape with what is held
-pub record StepOf (h : Held) (times : List ℕ) (values : List ℤ) (arrivals meters : List ℕ) (x : Columns) : Type 0 where
-  pub work : StoreOf h times values meters x
-  pub of_arrivals : x.arrivals ≡ arrivals
+-- a store with these four columns, in shape with what is held
+pub record StepOf (h : Held) (readings : Store) (x : Columns) : Type 0 where
+  pub work : StoreOf h readings x
+  pub of_arrivals : x.arrivals ≡ readings.arrivals.now
 
 -- there is such a store
-pub record SomeStep (h : Held) (times : List ℕ) (values : List ℤ) (arrivals meters : List ℕ) : Type 0 where
+pub record SomeStep (h : Held) (readings : Store) : Type 0 where
   pub store : Columns
-  pub is : StepOf h times values arrivals meters store
+  pub is : StepOf h readings store

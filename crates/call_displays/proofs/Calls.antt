@@ -4,7 +4,10 @@ use mathlib.Core.Path.{◌≡◌, refl, sym, ◌∙◌, ap, ap₂}
 use mathlib.Core.List.{List}
 use native.Mathlib.Omega.{arith}
 use borrow.Author.Tests.{ne_eqb}
-use lib.ListN.{take, set}
+use lib.ListN.{length, take, set, length-set, length-take}
+use lib.Seq.{length-take-le}
+use Rattle.answer.specs.declared.Refusal.{Refusal}
+use Rattle.answer.specs.Refusals.{number}
 use Rattle.area.specs.Laid.{in_front}
 use Rattle.settings.specs.Limits.{max_displays}
 use Rattle.record.specs.Layout.{all_bytes}
@@ -19,24 +22,43 @@ use Rattle.node.specs.Calls.{host_tests, refused_with}
 use Rattle.node.specs.Displays.{freed, acknowledged_with, acknowledged_on, fetched_with, fetched_on}
 use Rattle.node.proofs.Limits.{limits_hold}
 use Rattle.node.proofs.Shape.{in_shape_facts}
-use Rattle.node.proofs.Calls.{HostPassed, host_passes}
+use Rattle.node.proofs.Calls.{HostPassed, host_passed, host_passes}
+use Rattle.node.proofs.Opening.{refused_some}
 use Rattle.node.proofs.Displays.{accepts_acknowledgement, acknowledged_view, accepts_fetch}
 
 -- what is known of a state that passed the host's tests
-pub record Ready (st : Held) : Type 0 where
-  pub some : 1 ≤ st.settings.displays
+pub record Ready (st : Held) (x : Lent) (area : List ℕ) : Type 0 where
+  pub host : HostPassed st x area
   pub few : st.settings.displays ≤ max_displays
+  pub some : 1 ≤ length (take st.settings.displays st.acknowledged)
   pub newest : st.checkpoint.number + 1 < 2 ^ 64
 
-pub ready : (st : Held) (x : Lent) (area : List ℕ) → HostPassed st x area → Ready st
-ready st x area h =
+pub ready :
+    (st : Held) (x : Lent) (area : List ℕ) → length st.acknowledged ≡ max_displays → 0 ≡ first_failed (host_tests st x area) →
+    Ready st x area
+ready st x area size passed =
+    let h : HostPassed st x area = host_passed st x area (sym passed) in
     let f = in_shape_facts st x h.shape in
     let l = limits_hold st.settings f.limits in
     record {
-      some = l.some_displays;
+      host = h;
       few = l.displays;
+      some = omega (arith, length-take-le st.settings.displays st.acknowledged (omega (arith, l.displays, size)), l.some_displays);
       newest = omega (arith, f.numbers.stable, f.buckets.order, f.buckets.last);
     }
+
+-- there are as many displays behind an acknowledgement
+pub still_some :
+    (st : Held) (x : Lent) (area : List ℕ) → Ready st x area →
+    (i id : ℕ) → 1 ≤ length (take st.settings.displays (set st.acknowledged i id))
+still_some st x area r i id =
+    omega (
+      arith,
+      r.some,
+      length-take st.settings.displays st.acknowledged,
+      length-take st.settings.displays (set st.acknowledged i id),
+      length-set st.acknowledged i id,
+    )
 
 module _ (st : Held) (x : Lent) (area : List ℕ) (display id : ℕ) where
   -- the displays' ids as they are, and all that the state holds with this one
@@ -51,15 +73,18 @@ module _ (st : Held) (x : Lent) (area : List ℕ) (display id : ℕ) where
   abbrev acknowledgement_answer : ℕ
   acknowledgement_answer = answer_to_acknowledgement st.settings (view st x.readings) display id
 
-  pub acknowledge_host_refused : {n : ℕ} → n ≡ first_failed (host_tests st x area) → (n ≡ 0 → ⊥) →
-      record { answer = n; records = 0; state = st; lent = x; area = area } ≡ acknowledged_on st x display id area
-  unfolding acknowledged_on refused_with
-  acknowledge_host_refused e h = rw (e, ne_eqb (first_failed (host_tests st x area)) 0 (λ z. h (e ∙ z)))
+  pub acknowledge_host_refused :
+      (refusal : Refusal) → number refusal ≡ first_failed (host_tests st x area) →
+      refused_with (number refusal) st x area ≡ acknowledged_on st x display id area
+  unfolding acknowledged_on
+  acknowledge_host_refused refusal e = rw (e, ne_eqb (first_failed (host_tests st x area)) 0 (λ z. refused_some refusal (e ∙ z)))
 
-  pub acknowledge_refused : HostPassed st x area → {n : ℕ} → n ≡ acknowledgement_answer → (n ≡ 0 → ⊥) →
-      record { answer = n; records = 0; state = st; lent = x; area = area } ≡ acknowledged_on st x display id area
-  unfolding acknowledged_on acknowledged_with refused_with
-  acknowledge_refused host e h = rw (host_passes st x area host, e, ne_eqb acknowledgement_answer 0 (λ z. h (e ∙ z)))
+  pub acknowledge_refused :
+      HostPassed st x area → (refusal : Refusal) → number refusal ≡ acknowledgement_answer →
+      refused_with (number refusal) st x area ≡ acknowledged_on st x display id area
+  unfolding acknowledged_on acknowledged_with
+  acknowledge_refused host refusal e =
+      rw (host_passes st x area host, e, ne_eqb acknowledgement_answer 0 (λ z. refused_some refusal (e ∙ z)))
 
   least_before : least_of ids ≡ given_up_to (view st x.readings)
   unfolding given_up_to view
@@ -98,23 +123,25 @@ module _ (st : Held) (x : Lent) (area : List ℕ) (display id : ℕ) where
   abbrev fetch_answer : ℕ
   fetch_answer = answer_to_fetch st.settings (view st x.readings) display id
 
-  pub fetch_host_refused : {n : ℕ} → n ≡ first_failed (host_tests st x area) → (n ≡ 0 → ⊥) →
-      record { answer = n; records = 0; state = st; lent = x; area = area } ≡ fetched_on st x display id area
-  unfolding fetched_on refused_with
-  fetch_host_refused e h = rw (e, ne_eqb (first_failed (host_tests st x area)) 0 (λ z. h (e ∙ z)))
+  pub fetch_host_refused :
+      (refusal : Refusal) → number refusal ≡ first_failed (host_tests st x area) →
+      refused_with (number refusal) st x area ≡ fetched_on st x display id area
+  unfolding fetched_on
+  fetch_host_refused refusal e = rw (e, ne_eqb (first_failed (host_tests st x area)) 0 (λ z. refused_some refusal (e ∙ z)))
 
-  pub fetch_refused : HostPassed st x area → {n : ℕ} → n ≡ fetch_answer → (n ≡ 0 → ⊥) →
-      record { answer = n; records = 0; state = st; lent = x; area = area } ≡ fetched_on st x display id area
-  unfolding fetched_on fetched_with refused_with
-  fetch_refused host e h = rw (host_passes st x area host, e, ne_eqb fetch_answer 0 (λ z. h (e ∙ z)))
+  pub fetch_refused :
+      HostPassed st x area → (refusal : Refusal) → number refusal ≡ fetch_answer →
+      refused_with (number refusal) st x area ≡ fetched_on st x display id area
+  unfolding fetched_on fetched_with
+  fetch_refused host refusal e = rw (host_passes st x area host, e, ne_eqb fetch_answer 0 (λ z. refused_some refusal (e ∙ z)))
 
   pub fetch_done : HostPassed st x area → fetch_answer ≡ 0 → {n : ℕ} {bytes : List ℕ} →
-      n ≡ min fetch_limit (st.checkpoint.number + 1 - id) →
+      n ≡ min (st.checkpoint.number + 1 - id) fetch_limit →
       bytes ≡ in_front (all_bytes (held_behind (places_of x.sent) (id - 1) n)) area →
       record { answer = 0; records = n; state = st; lent = x; area = bytes } ≡ fetched_on st x display id area
   unfolding fetch_count view
   fetch_done host e f g =
-      let count : min fetch_limit (st.checkpoint.number + 1 - id) ≡ fetch_count (view st x.readings) id = omega arith in
+      let count : min (st.checkpoint.number + 1 - id) fetch_limit ≡ fetch_count (view st x.readings) id = omega arith in
       let all = f ∙ count in
       let laid = g ∙ ap (λ (n : ℕ). in_front (all_bytes (held_behind (places_of x.sent) (id - 1) n)) area) all in
       (λ i. record { answer = 0; records = all i; state = st; lent = x; area = laid i }) ∙

@@ -5,7 +5,7 @@ use mathlib.Core.Path.{◌≡◌, refl, sym, ◌∙◌, ap}
 use mathlib.Core.Bool.{Bool, true, false, cond, ◌||◌, true≢false}
 use mathlib.Core.List.{List, [], ◌∷◌, ◌++◌}
 use native.Mathlib.Omega.{arith}
-use borrow.Author.Tests.{ne_eqb, leb-false}
+use borrow.Author.Tests.{eq-eqb, ne_eqb, eqb-false, leb-false}
 use lib.Dec.{leb, eqb}
 use lib.ListN.{length, length-append}
 use Rattle.clock.specs.declared.ReadingTime.{ReadingTime}
@@ -32,8 +32,22 @@ module _ (kind : ℕ) where
   abbrev later : Kind
   later = cond (eqb kind letter_b) Kind.B (cond (eqb kind letter_u) Kind.U (cond (eqb kind letter_r) Kind.R Kind.P))
 
-  abbrev is_reading : Bool
+  abbrev pub is_reading : Bool
   is_reading = eqb kind letter_s || eqb kind letter_t
+
+  -- the letters of the two kinds of readings stand side by side
+  pub reading_letter : letter_s ≤ kind → kind ≤ letter_t → is_reading ≡ true
+  reading_letter low high =
+      (elim (eqb kind letter_s) as (λ b. eqb kind letter_s ≡ b → b || eqb kind letter_t ≡ true) [
+        | true ↦ λ e. refl
+        | false ↦ λ e.
+            let other : kind ≡ letter_s → ⊥ = eqb-false kind letter_s e in
+            let is : kind ≡ letter_t = omega arith in
+            eq-eqb kind letter_t is
+      ]) refl
+
+  pub other_letter : (kind ≡ letter_s → ⊥) → (kind ≡ letter_t → ⊥) → is_reading ≡ false
+  other_letter notS notT = rw (ne_eqb kind letter_s notS) (ne_eqb kind letter_t notT)
 
   pub kind_U : kind ≡ letter_u → kind_of kind ≡ Kind.U
   unfolding kind_of

@@ -4,7 +4,8 @@
 ghost use Rattle.std.specs.Prelude.{◌≡◌, true, false, cond, ◌+◌, ◌≤◌, ◌<◌, eqb};
 ghost use Rattle.journal.specs.Kinds.{letter_s, letter_b};
 ghost use Rattle.store.specs.Sizes.{readings_per_line};
-ghost use Rattle.store.specs.Columns.{Columns, columns_of, store_length, rows_from};
+ghost use Rattle.store.specs.Columns.{Columns, store_length, rows_from};
+ghost use Rattle.store.specs.Lent.{columns, SameLoans};
 ghost use Rattle.store.specs.Parts.{with_kept, share};
 ghost use Rattle.store_columns.specs.Shape.{rises};
 ghost use Rattle.protocol.specs.Kinds.{kind_of};
@@ -14,19 +15,17 @@ ghost use Rattle.node.specs.View.{view_line, head_of};
 
 use journal::Call;
 use node::LineHead;
-use store::Reading;
+use store::{Reading, Store};
 
 // A call's reading; its arrival is the call's `now`.
 fn reading_of(k: Call) -> Reading
     ensures { result ≡ reading_of k }
 {
-    let time = k.time;
-    let arrival = k.now;
     Reading {
         id: k.id,
-        time: time,
+        time: k.time,
         value: k.value,
-        arrival: arrival,
+        arrival: k.now,
         kind: k.kind,
         meter: k.meter,
     }
@@ -65,48 +64,32 @@ fn head_at(head: LineHead, k: Call) -> LineHead
 {
     let mut next = head;
     if k.kind == journal::BOUNDARY {
-        let time = k.time;
-        next.boundary = time;
+        next.boundary = k.time;
     }
     next
 }
 
 // Takes an accepted input in, on a line whose share begins at `base`; answers the line's head.
-pub fn input(
-    head: LineHead,
-    ids: &mut [u32],
-    times: &mut [u32],
-    values: &mut [i32],
-    arrivals: &mut [u32],
-    kinds: &mut [u8],
-    meters: &mut [u8],
-    base: usize,
-    k: Call,
-) -> LineHead
-    requires { let x : Columns = columns_of ids.old times.old values.old arrivals.old kinds.old meters.old in
+pub fn input(head: LineHead, readings: &mut Store<'_>, base: usize, k: Call) -> LineHead
+    requires { let x : Columns = columns readings.old in
         let line : Line = view_line head (rows_from x base readings_per_line) in
         (base + readings_per_line ≤ store_length x) × (head.kept ≤ readings_per_line) × (is_full line (kind_of k.kind) ≡ false) ×
-        (rises (share base head.kept ids.old) ≡ true) }
-    ensures { let before : Columns =
-        columns_of ids.old times.old values.old arrivals.old kinds.old
-        meters.old in
-        let after : Columns =
-        columns_of ids.new times.new values.new arrivals.new kinds.new
-        meters.new in
+        (rises (share base head.kept readings.old.ids.now) ≡ true) }
+    ensures same_loans { SameLoans readings.old readings.new }
+    ensures taken { let before : Columns = columns readings.old in
         let line : Line = on_line k (kind_of k.kind) (view_line head (rows_from before base readings_per_line)) in
-        (result ≡ head_of line) × (after ≡ with_kept before base head.kept line.kept) }
+        (result ≡ head_of line) × (columns readings.new ≡ with_kept before base head.kept line.kept) }
 {
     let kept = head.kept as usize;
-    if (k.kind == journal::STABLE) | (k.kind == journal::TENTATIVE) {
-        let r = reading_of(k);
-        store_columns::place(ids, times, values, arrivals, kinds, meters, base + kept, r);
-        return head_with(head, k);
+    match k.kind {
+        journal::STABLE | journal::TENTATIVE => {
+            store_columns::place(readings, base + kept, reading_of(k));
+            head_with(head, k)
+        }
+        journal::UNDO => {
+            let left = store_truncation::cut(readings, base, kept, k.id);
+            head_cut(head, k.id, left)
+        }
+        _ => head_at(head, k),
     }
-    if k.kind == journal::UNDO {
-        let left = store_truncation::cut(
-            ids, times, values, arrivals, kinds, meters, base, kept, k.id,
-        );
-        return head_cut(head, k.id, left);
-    }
-    head_at(head, k)
 }

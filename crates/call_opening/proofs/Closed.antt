@@ -38,7 +38,7 @@ module _ (st : Held) (closed : st.settings.lines ≡ 0) (x : Lent) (area : List 
   host_refused =
       rw (not_in_shape, le-ltb (store_length x.readings) (st.settings.lines * readings_per_line) (omega (arith, closed)))
 
-  -- whatever arrays, stores, text and area come: nothing is changed, and no record is given
+  -- whatever stores, text and area come: nothing is changed, and no record is given
   pub closed_refused :
       (text : List ℕ) → called_on st x text area ≡ refused_with (cond (ltb (length x.sent) held_bytes) 3 4) st x area
   unfolding called_on

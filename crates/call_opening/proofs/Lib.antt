@@ -1,4 +1,3 @@
 -- Laws on the opening, and on the state before it.
-pub mod Fresh
 pub mod Openings
 pub mod Closed

@@ -5,6 +5,9 @@ use mathlib.Core.Path.{◌≡◌, refl, sym, ◌∙◌}
 use mathlib.Core.Bool.{true, false, not, ◌&&◌, true≢false}
 use mathlib.Core.List.{List, ◌++◌}
 use lib.Dec.{leb}
+use native.Mathlib.Omega.{arith}
+use Rattle.answer.specs.declared.Refusal.{Refusal}
+use Rattle.answer.specs.Refusals.{number}
 use Rattle.clock.specs.declared.ArrivalTick.{ArrivalTick}
 use Rattle.settings.specs.declared.Settings.{Settings}
 use Rattle.journal.specs.declared.Call.{Call}
@@ -14,7 +17,6 @@ use Rattle.protocol.specs.Node.{Line}
 use Rattle.protocol.specs.Refusals.{Test, first_failed, wrong_line, wrong_id, too_early, is_held_back, is_full, call_tests, line_tests}
 use Rattle.protocol.proofs.FirstFailed.{numbered, fails_with, none_failed, passes_each, failed_before, passed_before}
 use Rattle.protocol.proofs.Faults.{line_iff}
-use Rattle.call_refusals.proofs.Letters.{wrong_line_lem}
 
 -- ---- the first half
 
@@ -22,7 +24,8 @@ use Rattle.call_refusals.proofs.Letters.{wrong_line_lem}
 right_line :
     (s : Settings) (line : ℕ) (kind : Kind) → is_step kind ≡ false → wrong_line s kind line ≡ false →
     not (leb 1 line && leb line s.lines) ≡ false
-right_line s line kind other right = rw other at (wrong_line_lem s line kind) ∙ right
+unfolding wrong_line
+right_line s line kind other right = rw other at right
 
 module _ (s : Settings) (clock : ArrivalTick) (k : Call) (kind : Kind) where
   call_numbered : numbered (call_tests s clock k kind) ≡ true
@@ -36,6 +39,10 @@ module _ (s : Settings) (clock : ArrivalTick) (k : Call) (kind : Kind) where
       (line_iff s k.line).0 (right_line s k.line kind other (passes_each (call_tests s clock k kind) call_numbered none 8))
 
 -- ---- both
+
+-- no refusal has the number of an accepted call
+refused_some : (refusal : Refusal) → number refusal ≡ 0 → ⊥
+refused_some = grind arith
 
 -- no test of a step's line can fail
 pub step_passes : (l : Line) (k : Call) (kind : Kind) → is_step kind ≡ true → first_failed (line_tests l k kind) ≡ 0
@@ -51,8 +58,8 @@ module _ (s : Settings) (clock : ArrivalTick) (l : Line) (k : Call) (kind : Kind
   abbrev first : List Test
   first = call_tests s clock k kind
 
-  pub answer_early : (first_failed first ≡ 0 → ⊥) → first_failed first ≡ first_failed (first ++ line_tests l k kind)
-  answer_early h = sym (failed_before first (line_tests l k kind) h)
+  pub answer_early : (refusal : Refusal) → number refusal ≡ first_failed first → number refusal ≡ first_failed (first ++ line_tests l k kind)
+  answer_early refusal e = e ∙ sym (failed_before first (line_tests l k kind) (λ none. refused_some refusal (e ∙ none)))
 
   pub answer_late : first_failed first ≡ 0 → first_failed (line_tests l k kind) ≡ first_failed (first ++ line_tests l k kind)
   answer_late h = sym (passed_before first (line_tests l k kind) (none_failed first (call_numbered s clock k kind) h))

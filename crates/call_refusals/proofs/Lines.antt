@@ -1,11 +1,12 @@
 -- What the tests look at of a viewed line stands in its head and in the kinds of its share: the line's kept readings are the first rows of
--- its share, and a test over their kinds is one over the column. The head is the one that the lent numbers of the line stand for.
+-- its share, and a test over their kinds is one over the column.
 use Prim.Native.Nat.{ℕ, ◌+◌, ◌*◌, ◌≤◌, ◌<◌}
-use mathlib.Core.Path.{◌≡◌, sym, ◌∙◌, ap, ap₂, subst}
+use mathlib.Core.Path.{◌≡◌, sym, ◌∙◌, ap, subst}
 use mathlib.Core.List.{List}
 use native.Mathlib.Omega.{arith}
 use lib.Dec.{eqb}
 use lib.ListN.{length, get_or, take}
+use Rattle.std.proofs.lemmas.List.{get_or_default}
 use Rattle.journal.specs.Kinds.{letter_t}
 use Rattle.settings.specs.Limits.{max_lines}
 use Rattle.store.specs.declared.Reading.{Reading}
@@ -16,12 +17,11 @@ use Rattle.store.proofs.Columns.{length_rows_from}
 use Rattle.store_columns.proofs.Kept.{some_of_kind}
 use Rattle.protocol.specs.Node.{Line, no_line, keeps_tentative}
 use Rattle.node.specs.declared.LineHead.{LineHead}
-use Rattle.node.specs.Held.{Held, head_at, heads_of}
+use Rattle.node.specs.Held.{Held}
 use Rattle.node.specs.View.{view_line, view_lines, head_of, places, view}
 use Rattle.node.proofs.Shares.{SmallHead, line_at_lem}
 use Rattle.node.proofs.Lines.{small_at, kept_rows}
 use Rattle.call_refusals.specs.Tests.{StandsIn}
-use Rattle.node_heads.proofs.Heads.{head_of_lem, length_heads}
 
 module _
     (x : Columns) (n : ℕ) (hs : List LineHead) (i : ℕ) (small : Every SmallHead (take n hs)) (below : i < n) (many : n ≤ length hs)
@@ -44,30 +44,27 @@ module _
         tentative = ap (some_of (λ (r : Reading). eqb r.kind letter_t)) kept ∙ sym (some_of_kind x base head.kept fits letter_t);
       }
 
--- ---- the heads as they are lent
+-- of a state with these lines and heads, and a store with these kinds
+module _
+    (st : Held) (i : ℕ) (d : LineHead) (small : Every SmallHead (take st.settings.lines st.heads)) (below : i < st.settings.lines)
+    (all : length st.heads ≡ max_lines) (most : st.settings.lines ≤ max_lines) where
+  many : st.settings.lines ≤ length st.heads
+  many = omega arith
 
-module _ (n : ℕ) (ns : List ℕ) (i : ℕ) (small : Every SmallHead (take n (heads_of ns))) (below : i < n) (most : n ≤ max_lines) where
-  many : n ≤ length (heads_of ns)
-  many = omega (arith, length_heads ns)
-
-  found : get_or (heads_of ns) i (head_of no_line) ≡ head_at ns i
-  found = head_of_lem ns i (omega arith)
+  found : get_or st.heads i (head_of no_line) ≡ get_or st.heads i d
+  found = get_or_default st.heads i (head_of no_line) d (omega arith)
 
   -- what the head says is kept has room in a share
-  pub kept_fits : (head_at ns i).kept ≤ readings_per_line
-  kept_fits = subst SmallHead found (small_at n (heads_of ns) i small below many)
+  pub kept_fits : (get_or st.heads i d).kept ≤ readings_per_line
+  kept_fits = subst SmallHead found (small_at st.settings.lines st.heads i small below many)
 
-  -- of a state with these lines and heads, and a store with these kinds
   pub viewed_line_stands :
-      (st : Held) (x : Columns) {kinds : List ℕ} → n * readings_per_line ≤ store_length x → st.settings.lines ≡ n →
-      st.heads ≡ heads_of ns → x.kinds ≡ kinds → StandsIn (head_at ns i) kinds (i * readings_per_line) (get_or (view st x).lines i no_line)
+      (x : Columns) {kinds : List ℕ} → places st ≤ store_length x → x.kinds ≡ kinds →
+      StandsIn (get_or st.heads i d) kinds (i * readings_per_line) (get_or (view st x).lines i no_line)
   unfolding view places
-  viewed_line_stands st x room e f g =
+  viewed_line_stands x room g =
       let base : ℕ = i * readings_per_line in
-      let lines : view_lines n (heads_of ns) (rows x (n * readings_per_line)) ≡ (view st x).lines =
-      sym (ap₂ (λ (m : ℕ) (heads : List LineHead). view_lines m heads (rows x (m * readings_per_line))) e f) in
       let line : Line = get_or (view st x).lines i no_line in
-      subst (λ (kinds : List ℕ). StandsIn (head_at ns i) kinds base line) g
+      subst (λ (kinds : List ℕ). StandsIn (get_or st.heads i d) kinds base line) g
       (subst (λ (head : LineHead). StandsIn head x.kinds base line) found
-      (subst (λ (ls : List Line). StandsIn (get_or (heads_of ns) i (head_of no_line)) x.kinds base (get_or ls i no_line)) lines
-      (line_stands x n (heads_of ns) i small below many room)))
+      (line_stands x st.settings.lines st.heads i small below many room))

@@ -1,7 +1,6 @@
 -- The lines in shape, line by line: the tests of heads and readings from line i on come to what all of them do, as long as each line before
--- passes. A line's head is read off the lent numbers; its readings are the first rows of its share, and their tests are those of the
--- columns.
-use Prim.Native.Nat.{ℕ, ◌+◌, ◌*◌, ◌≤◌, ◌<◌}
+-- passes. A line's readings are the first rows of its share, and their tests are those of the columns.
+use Prim.Native.Nat.{ℕ, zero, suc, ◌+◌, ◌*◌, ◌≤◌, ◌<◌}
 use mathlib.Core.Path.{◌≡◌, refl, sym, ◌∙◌, ap, ap₂}
 use mathlib.Core.Bool.{Bool, true, false, ◌&&◌, and-false}
 use mathlib.Core.List.{List, [], ◌∷◌}
@@ -10,9 +9,11 @@ use native.Mathlib.Omega.{arith}
 use borrow.Author.Tests.{leb-true}
 use lib.Dec.{leb, ltb}
 use lib.ListN.{length, get_or, take, drop, drop_of_length-le}
+use Rattle.std.proofs.lemmas.List.{get_or_default, length-take}
 use lib.Seq.{drop-cons, get_or-take, length-take-le}
 use Rattle.settings.specs.Limits.{max_lines}
 use Rattle.store.specs.declared.Reading.{Reading}
+use Rattle.store.specs.declared.Store.{Store}
 use Rattle.store.specs.Sizes.{readings_per_line}
 use Rattle.store.specs.Lists.{all_of}
 use Rattle.store.specs.Columns.{Columns, store_length, rows_from, rows}
@@ -22,13 +23,11 @@ use Rattle.store_columns.proofs.Kept.{ids_rise_lem, kinds_are_readings, meters_b
 use Rattle.operator.specs.Meters.{meter_count}
 use Rattle.protocol.specs.Node.{no_line}
 use Rattle.node.specs.declared.LineHead.{LineHead}
-use Rattle.node.specs.Held.{head_at, heads_of}
 use Rattle.node.specs.View.{view_line, view_lines, head_of}
 use Rattle.node.specs.Shape.{reading_ok, ids_rise, head_ok, kept_ok}
 use Rattle.node.proofs.Lines.{line_rows}
-use Rattle.node.proofs.EachLine.{line_at, lines_left, no_lines_left}
+use Rattle.node.proofs.EachLine.{line_at, lines_left}
 use Rattle.call_shape.specs.Lent.{Lends, share_ok}
-use Rattle.node_heads.proofs.Heads.{head_of_lem, length_heads}
 
 -- ---- a share
 
@@ -66,8 +65,8 @@ lines_ok n hs x i =
     all_of head_ok (drop i (take n hs)) && all_of kept_ok (drop i (view_lines n hs (rows x (n * readings_per_line))))
 
 -- i lines have passed
-abbrev pub LinesSoFar : ℕ → List LineHead → List ℕ → List ℕ → List ℕ → ℕ → Type 0
-LinesSoFar n hs ids kinds meters i = (x : Columns) → Lends x n ids kinds meters → lines_ok n hs x i ≡ lines_ok n hs x 0
+abbrev pub LinesSoFar : ℕ → List LineHead → Store → ℕ → Type 0
+LinesSoFar n hs readings i = (x : Columns) → Lends x n readings → lines_ok n hs x i ≡ lines_ok n hs x 0
 
 heads_left :
     (n : ℕ) (hs : List LineHead) (i : ℕ) → n ≤ length hs → i < n →
@@ -76,29 +75,33 @@ heads_left n hs i many below =
     let e : length (take n hs) ≡ n = length-take-le n hs many in
     rw (add-one, drop-cons (take n hs) i (head_of no_line) (omega arith), get_or-take n hs i (head_of no_line) below)
 
-no_heads_left : (n : ℕ) (hs : List LineHead) (i : ℕ) → n ≤ length hs → n ≤ i → drop i (take n hs) ≡ []
-no_heads_left n hs i many h =
-    let e : length (take n hs) ≡ n = length-take-le n hs many in
-    drop_of_length-le (take n hs) {i = i} (omega arith)
+no_heads_left : (n : ℕ) (hs : List LineHead) (i : ℕ) → n ≤ i → drop i (take n hs) ≡ []
+no_heads_left n hs i h = drop_of_length-le (take n hs) {i = i} (omega (arith, length-take n hs))
 
--- the heads as they are lent
+few_lines : (n : ℕ) (hs : List LineHead) (rs : List Reading) → length (view_lines n hs rs) ≤ n
+unfolding view_lines
+few_lines zero hs rs = omega arith
+few_lines (suc n) [] rs = omega arith
+few_lines (suc n) (h ∷ hs) rs = omega (arith, few_lines n hs (drop readings_per_line rs))
+
+no_lines_left : (n : ℕ) (hs : List LineHead) (rs : List Reading) (i : ℕ) → n ≤ i → drop i (view_lines n hs rs) ≡ []
+no_lines_left n hs rs i h = drop_of_length-le (view_lines n hs rs) {i = i} (omega (arith, few_lines n hs rs))
+
 module _
-    (n : ℕ) (ns : List ℕ) (ids kinds meters : List ℕ) (most : n ≤ max_lines) (i : ℕ) (v : LinesSoFar n (heads_of ns) ids kinds meters i)
-    (x : Columns) (lent : Lends x n ids kinds meters) where
-  abbrev hs : List LineHead
-  hs = heads_of ns
-
-  many : n ≤ length hs
-  many = omega (arith, length_heads ns)
-
+    (n : ℕ) (hs : List LineHead) (readings : Store) (i : ℕ) (v : LinesSoFar n hs readings i) (x : Columns) (lent : Lends x n readings) where
   pub lines_end : n ≤ i → true ≡ lines_ok n hs x 0
   unfolding all_of
-  lines_end h =
-      rw (no_heads_left n hs i many h, no_lines_left n hs (rows x (n * readings_per_line)) i many h) at (v x lent)
+  lines_end h = rw (no_heads_left n hs i h, no_lines_left n hs (rows x (n * readings_per_line)) i h) at (v x lent)
 
-  module _ (below : i < n) (head : LineHead) (read : head ≡ head_at ns i) where
+  module _ (all : length hs ≡ max_lines) (most : n ≤ max_lines) (below : i < n) (d : LineHead) where
+    many : n ≤ length hs
+    many = omega arith
+
+    abbrev head : LineHead
+    head = get_or hs i d
+
     found : get_or hs i (head_of no_line) ≡ head
-    found = head_of_lem ns i (omega arith) ∙ sym read
+    found = get_or_default hs i (head_of no_line) d (omega arith)
 
     head_left : all_of head_ok (drop i (take n hs)) ≡ head_ok head && all_of head_ok (drop (i + 1) (take n hs))
     unfolding all_of
@@ -107,14 +110,14 @@ module _
     pub lines_wrong_head : head_ok head ≡ false → false ≡ lines_ok n hs x 0
     lines_wrong_head e = rw (head_left, e) at (v x lent)
 
-    module _ (right : head_ok head ≡ true) (ok : Bool) (told : ok ≡ share_ok (i * readings_per_line) head.kept ids kinds meters) where
+    module _ (right : head_ok head ≡ true) (ok : Bool) (told : ok ≡ share_ok (i * readings_per_line) head.kept readings.ids.now readings.kinds.now readings.meters.now) where
       line_ok : kept_ok (line_at hs (rows x (n * readings_per_line)) i) ≡ ok
       unfolding kept_ok
       line_ok =
           let small : head.kept ≤ readings_per_line = small_head head right in
           let lent_share :
           share_ok (i * readings_per_line) head.kept x.ids x.kinds x.meters ≡
-          share_ok (i * readings_per_line) head.kept ids kinds meters = cc in
+          share_ok (i * readings_per_line) head.kept readings.ids.now readings.kinds.now readings.meters.now = cc in
           let share : List Reading = take readings_per_line (drop (i * readings_per_line) (rows x (n * readings_per_line))) in
           ap (λ (h : LineHead). kept_ok (view_line h share)) found ∙
           ap (λ (rs : List Reading). all_of reading_ok rs && ids_rise rs) (line_rows x (n * readings_per_line) i head small (omega arith)) ∙

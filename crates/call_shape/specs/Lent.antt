@@ -1,5 +1,6 @@
--- A store of which three columns are lent, and a share's test on these columns alone.
+-- A store of which three columns are looked at, and a share's test on these columns alone.
 use Rattle.std.specs.Prelude.{ℕ, ◌*◌, ◌≤◌, ◌≡◌, Bool, ◌&&◌, List, ltb}
+use Rattle.store.specs.declared.Store.{Store}
 use Rattle.store.specs.Sizes.{readings_per_line}
 use Rattle.store.specs.Lists.{all_of}
 use Rattle.store.specs.Columns.{Columns, store_length}
@@ -7,12 +8,12 @@ use Rattle.store.specs.Parts.{share}
 use Rattle.store_columns.specs.Shape.{rises, is_reading_kind}
 use Rattle.operator.specs.Meters.{meter_count}
 
--- a store with room for so many lines, whose columns these are
-pub record Lends (x : Columns) (lines : ℕ) (ids kinds meters : List ℕ) : Type 0 where
+-- a store with room for so many lines and with the three columns that are looked at
+pub record Lends (x : Columns) (lines : ℕ) (readings : Store) : Type 0 where
   pub room : lines * readings_per_line ≤ store_length x
-  pub of_ids : x.ids ≡ ids
-  pub of_kinds : x.kinds ≡ kinds
-  pub of_meters : x.meters ≡ meters
+  pub of_ids : x.ids ≡ readings.ids.now
+  pub of_kinds : x.kinds ≡ readings.kinds.now
+  pub of_meters : x.meters ≡ readings.meters.now
 
 -- n readings from a place on: S or T, of known meters, with rising ids
 unfoldable pub share_ok : ℕ → ℕ → List ℕ → List ℕ → List ℕ → Bool

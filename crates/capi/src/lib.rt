@@ -7,8 +7,6 @@ ghost use Rattle.journal.specs.JournalLine.{has_form};
 ghost use Rattle.record.specs.Decoded.{decoded};
 ghost use Rattle.record_text.specs.RecordText.{text_answer, text_written};
 
-use fields::Written;
-
 // Whether bytes are a journal line of the form.
 #[unsafe(no_mangle)]
 pub extern "C" fn beanmorrow_is_journal_line(line: &[u8]) -> bool
@@ -20,23 +18,20 @@ pub extern "C" fn beanmorrow_is_journal_line(line: &[u8]) -> bool
 // Writes the text of the record that these bytes are into the area, and its length into `written`: 0, or 6 for bytes that are no record,
 // then 5 for an area shorter than this text; at both the length is 0 and the area stays as it is.
 #[unsafe(no_mangle)]
+#[tactic(auto, unfolding(fields::specs::Written::written_length))]
 pub extern "C" fn beanmorrow_record_text(bytes: &[u8], text: &mut [u8], written: &mut usize) -> u32
     ensures value { result ≡ text_answer (decoded bytes.now) text.old }
     ensures written_after { written.new ≡ length (text_written (decoded bytes.now) text.old) }
     ensures text_after { text.new ≡ in_front (text_written (decoded bytes.now) text.old) text.old }
 {
     match record_text::write_text(bytes, text) {
-        Written::Text(n) => {
+        Ok(n) => {
             *written = n;
-            answer::ACCEPTED
+            0
         }
-        Written::ShortArea => {
+        Err(refusal) => {
             *written = 0;
-            answer::SHORT_AREA
-        }
-        Written::Malformed => {
-            *written = 0;
-            answer::MALFORMED
+            refusal.number()
         }
     }
 }

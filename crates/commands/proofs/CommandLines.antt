@@ -8,16 +8,16 @@ use native.Mathlib.Omega.{arith}
 use borrow.Author.Tests.{eq-eqb, eqb-true}
 use lib.Dec.{eqb}
 use lib.ListN.{length, drop, length-append}
+use Rattle.std.specs.Prelude.{Option, Some, None}
 use Rattle.decimal.specs.Decimal.{digits, decimal}
 use Rattle.decimal.specs.Spelled.{is_digit}
 use Rattle.fields.specs.Keys.{display_key, id_key}
 use Rattle.fields.specs.Line.{field, line_of}
-use Rattle.fields.specs.Field.{ends_line, with_number, later}
+use Rattle.fields.specs.Field.{ends_line, with_field, later}
 use Rattle.fields.proofs.Spells.{Spells, spells_append, spells_whole, whole_spelled}
-use Rattle.fields.proofs.Fields.{picked, number_field_sound, number_field_complete, with_number_lem, end_sound, end_complete}
+use Rattle.fields.proofs.Fields.{picked, number_field_sound, number_field_complete, with_field_lem, end_sound, end_complete}
 use Rattle.commands.specs.CommandLine.{display_text, IsLine}
 use Rattle.commands.specs.ReadLine.{widest_id, display_line_of}
-use Rattle.commands.specs.declared.DisplayLine.{DisplayLine}
 
 module _ (word : List ℕ) where
   -- the line up to the display's number
@@ -33,26 +33,26 @@ module _ (word : List ℕ) where
   unfolding display_text stretches line_of field decimal
   text_stretches display id = simp append_assoc
 
-  none : (display id : ℕ) → DisplayLine.Malformed ≡ DisplayLine.Fields display id → ⊥
-  none display id q = let z : ◌≡◌ {A = ℕ} 0 1 = cc in omega arith
+  none : (display id : ℕ) → ◌≡◌ {A = Option (ℕ × ℕ)} None (Some (display, id)) → ⊥
+  none display id q = cc
 
   -- what is claimed of an answer that is a line
-  abbrev Claim : List ℕ → DisplayLine → Type 0
-  Claim text (DisplayLine.Fields display id) = IsLine (display_text word) text display id
-  Claim text DisplayLine.Malformed = Unit {0}
+  abbrev Claim : List ℕ → Option (ℕ × ℕ) → Type 0
+  Claim text (Some (display, id)) = IsLine (display_text word) text display id
+  Claim text None = Unit {0}
 
   -- what is read is the text
   line_sound :
-      (text : List ℕ) (display id : ℕ) → display_line_of start text ≡ DisplayLine.Fields display id →
+      (text : List ℕ) (display id : ℕ) → display_line_of start text ≡ Some (display, id) →
       IsLine (display_text word) text display id
   unfolding display_line_of stretches
   line_sound text display id q =
-      let z = DisplayLine.Malformed in
-      let y = DisplayLine.Fields display id in
+      let z : Option (ℕ × ℕ) = None in
+      let y : Option (ℕ × ℕ) = Some (display, id) in
       let no = none display id in
-      with_number_lem z y no _ _ q λ d e1 q1 g1.
-      with_number_lem z y no _ _ g1 λ i e2 q2 g2.
-      let p = picked (ends_line text e2 && eqb (e2 + 1) (length text)) (DisplayLine.Fields d i) z y g2 no in
+      with_field_lem z y no _ _ q λ d e1 q1 g1.
+      with_field_lem z y no _ _ g1 λ i e2 q2 g2.
+      let p = picked (ends_line text e2 && eqb (e2 + 1) (length text)) (Some (d, i)) z y g2 no in
       let ends = (and-eq-true_iff (ends_line text e2) (eqb (e2 + 1) (length text))).0 p.0 in
       let f1 = number_field_sound start text (2 ^ 32 - 1) 0 d (omega arith) e1 q1 in
       let f2 = number_field_sound (later id_key) text widest_id e1 i (omega arith) e2 q2 in
@@ -67,8 +67,8 @@ module _ (word : List ℕ) where
   -- a text that is a line is read
   line_complete :
       (text : List ℕ) (display id : ℕ) → IsLine (display_text word) text display id →
-      display_line_of start text ≡ DisplayLine.Fields display id
-  unfolding display_line_of stretches with_number is_digit
+      display_line_of start text ≡ Some (display, id)
+  unfolding display_line_of stretches with_field is_digit
   line_complete text display id is =
       let line = display_text word display id in
       let p0 : drop 0 text ≡ stretches display id ++ [] = whole_spelled text line is.2 ∙ ap (λ (t : List ℕ). t ++ []) (text_stretches display id) in
@@ -80,5 +80,5 @@ module _ (word : List ℕ) where
 
   pub line_exact :
       (text : List ℕ) (display id : ℕ) →
-      (display_line_of (word ++ later display_key) text ≡ DisplayLine.Fields display id) ↔ IsLine (display_text word) text display id
+      (display_line_of (word ++ later display_key) text ≡ Some (display, id)) ↔ IsLine (display_text word) text display id
   line_exact text display id = (line_sound text display id, line_complete text display id)

@@ -1,5 +1,5 @@
 -- The lines of the calls that a display makes (document 02, W2): their texts, and that a text is read exactly.
-use Rattle.std.specs.Prelude.{◌≡◌, ◌↔◌, List, [], ◌∷◌, ℕ, ◌<◌, ◌^◌, pos}
+use Rattle.std.specs.Prelude.{◌≡◌, ◌↔◌, List, [], ◌∷◌, ℕ, ◌<◌, ◌^◌, Option, Some, pos}
 use Rattle.decimal.specs.Decimal.{decimal}
 use Rattle.fields.specs.Keys.{display_key, id_key}
 use Rattle.fields.specs.Line.{field, line_of}
@@ -30,6 +30,6 @@ abbrev pub IsLine : (ℕ → ℕ → List ℕ) → List ℕ → ℕ → ℕ → 
 IsLine line text display id = (display < 2 ^ 32) × (id < 2 ^ 64) × (text ≡ line display id)
 
 -- an answer is exact: it is a command exactly if the text is that command's line, and so none for every other text
-pub record ExactCommand (text : List ℕ) (answer : Command) : Type 0 where
-  pub acknowledge : (display id : ℕ) → (answer ≡ Command.Acknowledge display id) ↔ IsLine acknowledge_text text display id
-  pub fetch : (display id : ℕ) → (answer ≡ Command.Fetch display id) ↔ IsLine fetch_text text display id
+pub record ExactCommand (text : List ℕ) (answer : Option Command) : Type 0 where
+  pub acknowledge : (display id : ℕ) → (answer ≡ Some (Command.Acknowledge display id)) ↔ IsLine acknowledge_text text display id
+  pub fetch : (display id : ℕ) → (answer ≡ Some (Command.Fetch display id)) ↔ IsLine fetch_text text display id

@@ -5,9 +5,9 @@ use mathlib.Core.Path.{◌≡◌, refl, sym, ◌∙◌, ap, subst}
 use mathlib.Core.Bool.{true, false}
 use mathlib.Core.List.{List}
 use native.Mathlib.Omega.{arith}
+use Rattle.std.specs.Prelude.{Some}
 use Rattle.endian.specs.LittleEndian.{little_endian}
 use Rattle.record.specs.declared.Record.{Record}
-use Rattle.record.specs.declared.Decoded.TheVariants as Decoded
 use Rattle.record.specs.Layout.{bytes_of}
 use Rattle.record.specs.Fields.{word_at, fields_of}
 use Rattle.record.specs.Markers.{marker}
@@ -19,7 +19,7 @@ use Rattle.consistency.specs.Plain.{HasForm, HasRoom}
 
 -- ---- the form
 
-pub form_of : (b : List ℕ) → decoded b ≡ Decoded.Is (record_in b) → HasForm b
+pub form_of : (b : List ℕ) → decoded b ≡ Some (record_in b) → HasForm b
 form_of b e =
     (elim (is_well_formed b) as (λ t. is_well_formed b ≡ t → HasForm b) [
       | true ↦ λ t.
@@ -29,12 +29,12 @@ form_of b e =
     ])
     refl
 
-pub decoded_form : (b : List ℕ) → HasForm b → decoded b ≡ Decoded.Is (fields_of b)
+pub decoded_form : (b : List ℕ) → HasForm b → decoded b ≡ Some (fields_of b)
 decoded_form b f = decoded_well b (well_formed b f.size f.letter f.third f.fourth)
 
-pub form_read : (b : List ℕ) → HasForm b → decoded b ≡ Decoded.Is (record_in b)
+pub form_read : (b : List ℕ) → HasForm b → decoded b ≡ Some (record_in b)
 unfolding record_in read_as
-form_read b f = decoded_form b f ∙ ap Decoded.Is (sym (ap read_as (decoded_form b f)))
+form_read b f = decoded_form b f ∙ ap Some (sym (ap read_as (decoded_form b f)))
 
 -- ---- the room
 

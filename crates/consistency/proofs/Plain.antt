@@ -7,8 +7,9 @@ use mathlib.Core.List.{List, [], ◌∷◌, ◌++◌, map, map-map, append-nil, 
 use borrow.Author.Tests.{eqb-true, eqb-false}
 use lib.Dec.{eqb}
 use lib.ListN.{take, drop}
+use Rattle.std.specs.Prelude.{Option, Some, None}
+use Rattle.journal.specs.declared.Call.{Call}
 use Rattle.settings.specs.declared.Settings.{Settings}
-use Rattle.journal.specs.declared.CallRead.{CallRead}
 use Rattle.journal.specs.ReadLine.{call_of}
 use Rattle.record.specs.Sizes.{record_bytes}
 use Rattle.record.specs.Layout.{bytes_of}
@@ -50,7 +51,7 @@ cut_is zero area = refl
 cut_is (suc n) area = ap (◌∷◌ (take record_bytes area)) (cut_is n (drop record_bytes area))
 
 noted_is :
-    (s : Settings) (a : Account) (read : CallRead) (accepted : Bool) →
+    (s : Settings) (a : Account) (read : Option Call) (accepted : Bool) →
     account_with s a read accepted ≡
     record {
       monitor = noted s a.monitor read accepted;
@@ -58,8 +59,8 @@ noted_is :
       acknowledged = a.acknowledged;
     }
 unfolding account_with noted counted
-noted_is s a (CallRead.Accepted k) accepted = refl
-noted_is s a CallRead.Malformed accepted = refl
+noted_is s a (Some k) accepted = refl
+noted_is s a None accepted = refl
 
 left_is : (s : Settings) (y : Run) (is : List Input) → left_after (box_on y) is ≡ box_on (continued s y is)
 unfolding left_after continued answered passed_over left called
@@ -115,12 +116,12 @@ step_kind Kind.R e = absurd (false≢true e)
 step_kind Kind.P e = refl
 
 one_step :
-    (b : Box) (n : ℕ) (is : List Input) (text area : List ℕ) (read : CallRead) → call_of text ≡ read → reads_as_step read ≡ true →
+    (b : Box) (n : ℕ) (is : List Input) (text area : List ℕ) (read : Option Call) → call_of text ≡ read → reads_as_step read ≡ true →
     (called b (Input.journal text area)).answer ≡ 0 → Steps (left b (Input.journal text area)) n is →
     Steps b (suc n) (Input.journal text area ∷ is)
 unfolding reads_as_step
-one_step b n is text area (CallRead.Accepted k) q e a more = Steps.step text area k q (step_kind (kind_of k.kind) e) a more
-one_step b n is text area CallRead.Malformed q e a more = absurd (false≢true e)
+one_step b n is text area (Some k) q e a more = Steps.step text area k q (step_kind (kind_of k.kind) e) a more
+one_step b n is text area None q e a more = absurd (false≢true e)
 
 pub steps_are :
     (st : Held) (x : Lent) (is : List Input) → only_steps st x is ≡ true →

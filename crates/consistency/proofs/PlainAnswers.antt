@@ -8,10 +8,10 @@ use native.Mathlib.Omega.{arith}
 use borrow.Author.Tests.{eqb-true, eqb-false, leb-true, ltb-true, ltb-false, lt-ltb, le-ltb, le-leb, eq-eqb, ne_eqb, not-false}
 use lib.Dec.{leb, ltb, eqb}
 use lib.ListN.{length}
+use Rattle.std.specs.Prelude.{Option, Some, None}
 use Rattle.clock.specs.declared.ArrivalTick.{ArrivalTick}
 use Rattle.settings.specs.declared.Settings.{Settings}
 use Rattle.journal.specs.declared.Call.{Call}
-use Rattle.journal.specs.declared.CallRead.{CallRead}
 use Rattle.store.proofs.Choices.{and_parts}
 use Rattle.protocol.specs.Kinds.{Kind, kind_of}
 use Rattle.protocol.specs.Displays.{least_of}
@@ -95,7 +95,7 @@ step_is kind = (only kind, λ e. rw e)
     only Kind.R e = absurd (false≢true e)
     only Kind.P e = refl
 
-bare_is : (clock : ArrivalTick) (k : Call) → (is_bare_step clock (CallRead.Accepted k) ≡ true) ↔ IsStep clock k
+bare_is : (clock : ArrivalTick) (k : Call) → (is_bare_step clock (Some k) ≡ true) ↔ IsStep clock k
 unfolding is_bare_step
 bare_is clock k = (
   λ e.
@@ -122,19 +122,19 @@ bare_is clock k = (
 )
 
 -- a text that is read as such a step
-abbrev pub ReadsAs : ArrivalTick → CallRead → Type 0
-ReadsAs clock read = (k : Call) × (read ≡ CallRead.Accepted k) × IsStep clock k
+abbrev pub ReadsAs : ArrivalTick → Option Call → Type 0
+ReadsAs clock read = (k : Call) × (read ≡ Some k) × IsStep clock k
 
-malformed : (clock : ArrivalTick) → is_bare_step clock CallRead.Malformed ≡ false
+malformed : (clock : ArrivalTick) → is_bare_step clock None ≡ false
 unfolding is_bare_step
 malformed clock = refl
 
-pub reads_is : (clock : ArrivalTick) (read : CallRead) → (is_bare_step clock read ≡ true) ↔ ReadsAs clock read
-reads_is clock (CallRead.Accepted k) = (
+pub reads_is : (clock : ArrivalTick) (read : Option Call) → (is_bare_step clock read ≡ true) ↔ ReadsAs clock read
+reads_is clock (Some k) = (
   λ e. (k, refl, (bare_is clock k).0 e),
   λ p. ap (is_bare_step clock) p.1 ∙ (bare_is clock p.0).1 p.2,
 )
-reads_is clock CallRead.Malformed = (
+reads_is clock None = (
   λ e. absurd (false≢true (sym (malformed clock) ∙ e)),
   λ p. ap (is_bare_step clock) p.1 ∙ (bare_is clock p.0).1 p.2,
 )

@@ -11,9 +11,9 @@ use lib.IntN.{ℤ, pos, ◌+ℤ◌, +ℤ_idl, +ℤ_idr, +ℤ_assoc}
 use lib.ListN.{length, get_or, replicate, length-replicate}
 use lib.Signed.{le_z}
 use borrow.Author.Tests.{eqb-true, eq-eqb}
+use Rattle.std.specs.Prelude.{Option, Some, None}
 use Rattle.settings.specs.declared.Settings.{Settings}
 use Rattle.journal.specs.declared.Call.{Call}
-use Rattle.journal.specs.declared.CallRead.{CallRead}
 use Rattle.journal.specs.ReadLine.{call_of}
 use Rattle.journal.specs.Kinds.{letter_s}
 use Rattle.record.specs.declared.Record.{Record}
@@ -95,7 +95,7 @@ no_value s i kind meter value e = rw e
 module _ (st : Held) (x : Lent) (text area : List ℕ) where
   -- an accepted stable reading is on one of the lines
   on_a_line :
-      (k : Call) → call_of text ≡ CallRead.Accepted k → (called_on st x text area).answer ≡ 0 → k.kind ≡ 83 →
+      (k : Call) → call_of text ≡ Some k → (called_on st x text area).answer ≡ 0 → k.kind ≡ 83 →
       (1 ≤ k.line) × (k.line ≤ st.settings.lines)
   on_a_line k read accepted stable =
       let v = accepted_call st x text area accepted in
@@ -104,10 +104,10 @@ module _ (st : Held) (x : Lent) (text area : List ℕ) where
       let reaches = ((accepts_S st.settings (view st x.readings) v.call kind).0 v.answered).0.reaches in
       subst (λ (c : Call). (1 ≤ c.line) × (c.line ≤ st.settings.lines)) same (reaches.first_line, reaches.last_line)
 
-lines_stay : (lines : List (List Reading)) (read : CallRead) (accepted : Bool) → length (counted lines read accepted) ≡ length lines
+lines_stay : (lines : List (List Reading)) (read : Option Call) (accepted : Bool) → length (counted lines read accepted) ≡ length lines
 unfolding counted stable_after
-lines_stay lines CallRead.Malformed accepted = refl
-lines_stay lines (CallRead.Accepted k) accepted =
+lines_stay lines None accepted = refl
+lines_stay lines (Some k) accepted =
     cond_either (λ (ls : List (List Reading)). length ls ≡ length lines) (accepted && eqb k.kind letter_s)
     (λ e. length_modify _ (k.line - 1) lines) (λ e. refl)
 
@@ -134,7 +134,7 @@ module _ (s : Settings) (i : ℕ) where
   stable_brings :
       (lines : List (List Reading)) (k : Call) → k.line - 1 < length lines → (e : k.kind ≡ 83) →
       brought heat_measure s i (flatten (modify (λ (rs : List Reading). rs ++ stable_reading k ∷ []) (k.line - 1) lines)) ≡
-      plus (brought heat_measure s i (flatten lines)) (of_values (sent_by s i (CallRead.Accepted k)))
+      plus (brought heat_measure s i (flatten lines)) (of_values (sent_by s i (Some k)))
   unfolding heat_measure heat_monoid stable_reading sent_by
   stable_brings lines k there e =
       brought_permuted heat_measure s i (line_grown (stable_reading k) (k.line - 1) lines there) ∙
@@ -145,20 +145,20 @@ module _ (s : Settings) (i : ℕ) where
 
   -- a call brings what it sends in, if it was accepted; a stable reading is then on one of the lines
   call_brings :
-      (lines : List (List Reading)) (read : CallRead) (accepted : Bool) →
-      ((k : Call) → read ≡ CallRead.Accepted k → accepted ≡ true → k.kind ≡ 83 → k.line - 1 < length lines) →
+      (lines : List (List Reading)) (read : Option Call) (accepted : Bool) →
+      ((k : Call) → read ≡ Some k → accepted ≡ true → k.kind ≡ 83 → k.line - 1 < length lines) →
       brought heat_measure s i (flatten (counted lines read accepted)) ≡
       plus (brought heat_measure s i (flatten lines)) (of_values (cond accepted (sent_by s i read) []))
   unfolding counted stable_after sent_by
-  call_brings lines CallRead.Malformed true there = nothing_more _
-  call_brings lines CallRead.Malformed false there = nothing_more _
-  call_brings lines (CallRead.Accepted k) false there = nothing_more _
-  call_brings lines (CallRead.Accepted k) true there =
+  call_brings lines None true there = nothing_more _
+  call_brings lines None false there = nothing_more _
+  call_brings lines (Some k) false there = nothing_more _
+  call_brings lines (Some k) true there =
       (elim (eqb k.kind 83) as
       (λ b.
       eqb k.kind 83 ≡ b →
       brought heat_measure s i (flatten (cond b (modify (λ (rs : List Reading). rs ++ stable_reading k ∷ []) (k.line - 1) lines) lines)) ≡
-      plus (brought heat_measure s i (flatten lines)) (of_values (sent_by s i (CallRead.Accepted k)))) [
+      plus (brought heat_measure s i (flatten lines)) (of_values (sent_by s i (Some k)))) [
         | true ↦ λ t. stable_brings lines k (there k refl refl (eqb-true k.kind 83 t)) (eqb-true k.kind 83 t)
         | false ↦ λ t. rw (no_value s i k.kind k.meter k.value t) (nothing_more _)
       ])

@@ -10,8 +10,9 @@ use borrow.Author.Tests.{eqb-true, eqb-false, leb-true, ltb-true, lt-ltb, leb-fa
 use lib.Dec.{leb, ltb, eqb}
 use lib.ListN.{length, get_or, set, length-set}
 use lib.Seq.{get_or-set_same, get_or-set_other}
+use Rattle.std.specs.Prelude.{Option, Some, None}
+use Rattle.journal.specs.declared.Call.{Call}
 use Rattle.settings.specs.declared.Settings.{Settings}
-use Rattle.journal.specs.declared.CallRead.{CallRead}
 use Rattle.journal.specs.ReadLine.{call_of}
 use Rattle.store.proofs.Pairs.{every_index}
 use Rattle.protocol.specs.Displays.{least_of, last_of, acknowledging}
@@ -29,10 +30,10 @@ use Rattle.consistency.specs.PlainSentBack.{last_by, wanted}
 abbrev pub box_in : Held → Lent → Box
 box_in st x = record { state = st; lent = x }
 
-journal_passes : (s : Settings) (a : Account) (read : CallRead) (t : Bool) → (account_with s a read t).acknowledged ≡ a.acknowledged
+journal_passes : (s : Settings) (a : Account) (read : Option Call) (t : Bool) → (account_with s a read t).acknowledged ≡ a.acknowledged
 unfolding account_with
-journal_passes s a (CallRead.Accepted k) t = refl
-journal_passes s a CallRead.Malformed t = refl
+journal_passes s a (Some k) t = refl
+journal_passes s a None t = refl
 
 -- one acknowledgement, accepted or not
 module _ (ids : List ℕ) (display other id last : ℕ) (first : 1 ≤ display) (at : display ≤ length ids) (same : last_of ids display ≡ last) where

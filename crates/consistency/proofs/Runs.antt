@@ -7,9 +7,9 @@ use mathlib.Core.Bool.{true, false, cond}
 use mathlib.Core.List.{List, [], ◌∷◌, ◌++◌, map, map-append, append-nil, append_assoc}
 use borrow.Author.Tests.{eqb-true, eqb-false, eq-eqb, ne_eqb}
 use lib.Dec.{eqb}
+use Rattle.std.specs.Prelude.{Option, Some, None}
 use Rattle.settings.specs.declared.Settings.{Settings}
 use Rattle.journal.specs.declared.Call.{Call}
-use Rattle.journal.specs.declared.CallRead.{CallRead}
 use Rattle.journal.specs.ReadLine.{call_of}
 use Rattle.record.specs.declared.Record.{Record}
 use Rattle.record.specs.Layout.{bytes_of}
@@ -52,7 +52,7 @@ unfoldable pub account_in : Trace → Account
 account_in t = record { monitor = t.monitor; stables = t.stables; acknowledged = t.acknowledged }
 
 -- what a call did: to the node, the account and the output
-pub record Follows (s : Settings) (t u : Trace) (read : CallRead) (c : Called) : Type 0 where
+pub record Follows (s : Settings) (t u : Trace) (read : Option Call) (c : Called) : Type 0 where
   pub records : List Record
   pub decode : Every Decodes records
   pub stands : Stands s c.state c.lent u.node
@@ -79,10 +79,10 @@ shape_facts st x room e =
     }
 
 -- a refused call
-unchanged_account : (s : Settings) (a : Account) (read : CallRead) → account_with s a read false ≡ a
+unchanged_account : (s : Settings) (a : Account) (read : Option Call) → account_with s a read false ≡ a
 unfolding account_with observe stable_after
-unchanged_account s a (CallRead.Accepted k) = refl
-unchanged_account s a CallRead.Malformed = refl
+unchanged_account s a (Some k) = refl
+unchanged_account s a None = refl
 
 refused_follows :
     (s : Settings) (t : Trace) (st : Held) (x : Lent) (text area : List ℕ) →
@@ -131,16 +131,16 @@ module _
                 fits = outcome_fits s (view st x.readings) k v.fits fits;
               };
           account =
-              ap₂ (λ (read : CallRead) (c : Called). account_with s a read (eqb c.answer 0)) v.read v.leaves ∙
-              ap (λ (answer : ℕ). account_with s a (CallRead.Accepted k) (eqb answer 0)) (sym v.answered);
+              ap₂ (λ (read : Option Call) (c : Called). account_with s a read (eqb c.answer 0)) v.read v.leaves ∙
+              ap (λ (answer : ℕ). account_with s a (Some k) (eqb answer 0)) (sym v.answered);
           given = refl;
           laid = ap₂ pieces (accepted_records st x text area v) (accepted_area st x text area v) ∙ pieces_in_front rs area;
         }
 
 -- a call as the meaning sees it: what was refused was turned away
-unfoldable pub event_with : CallRead → Event
-event_with (CallRead.Accepted k) = Event.journal k
-event_with CallRead.Malformed = Event.turned_away
+unfoldable pub event_with : Option Call → Event
+event_with (Some k) = Event.journal k
+event_with None = Event.turned_away
 
 unfoldable pub event_of : Box → Input → Event
 event_of b (Input.journal text area) =
@@ -150,7 +150,7 @@ event_of b (Input.acknowledge display id area) =
 event_of b (Input.fetch display from area) = Event.turned_away
 
 pub event_accepted :
-    (b : Box) (text area : List ℕ) (k : Call) → call_of text ≡ CallRead.Accepted k →
+    (b : Box) (text area : List ℕ) (k : Call) → call_of text ≡ Some k →
     (called_on b.state b.lent text area).answer ≡ 0 → event_of b (Input.journal text area) ≡ Event.journal k
 unfolding event_of event_with
 event_accepted b text area k read e = rw (e, read)

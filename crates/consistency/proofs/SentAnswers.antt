@@ -9,10 +9,10 @@ use native.Mathlib.Omega.{arith}
 use borrow.Author.Tests.{ltb-true, ltb-false, leb-true, eqb-true, not-false, le-leb, le-ltb, lt-ltb, lt-leb, leb-false}
 use lib.Dec.{leb, ltb, eqb}
 use lib.ListN.{length, length-append}
+use Rattle.std.specs.Prelude.{Some}
 use Rattle.clock.specs.declared.ArrivalTick.{ArrivalTick}
 use Rattle.settings.specs.declared.Settings.{Settings}
 use Rattle.journal.specs.declared.Call.{Call}
-use Rattle.journal.specs.declared.CallRead.{CallRead}
 use Rattle.journal.specs.Kinds.{letter_s}
 use Rattle.store.proofs.Choices.{and_parts}
 use Rattle.operator.specs.Meters.{Operator}
@@ -219,7 +219,7 @@ module _ (s : Settings) (room : 0 < s.bucket) (t : Trace) (v : Kept s t) where
 -- past the host's tests the answer is that to the call that was read, or 6
 pub read_answer :
     (st : Held) (x : Lent) (area : List ℕ) (k : Call) →
-    (called_with st x area (CallRead.Accepted k)).answer ≡ answer_to st.settings (view st x.readings) k
+    (called_with st x area (Some k)).answer ≡ answer_to st.settings (view st x.readings) k
 unfolding called_with refused_with
 read_answer st x area k =
     (elim (eqb (answer_to st.settings (view st x.readings) k) 0) as

@@ -10,11 +10,11 @@ use borrow.Author.Tests.{eqb-true, eqb-false, leb-true, leb-false, ltb-true, ltb
 use lib.Dec.{leb, ltb, eqb}
 use lib.ListN.{length, take, drop, get_or, replicate, length-drop, get_or-replicate}
 use lib.Seq.{drop-drop, drop_at, take_all, length-take-le}
+use Rattle.std.specs.Prelude.{Option, Some, None}
 use Rattle.area.specs.Laid.{in_front}
 use Rattle.clock.specs.declared.ArrivalTick.{ArrivalTick}
 use Rattle.settings.specs.declared.Settings.{Settings}
 use Rattle.journal.specs.declared.Call.{Call}
-use Rattle.journal.specs.declared.CallRead.{CallRead}
 use Rattle.journal.specs.JournalLine.{call_answer}
 use Rattle.journal.specs.ReadLine.{call_of}
 use Rattle.record.specs.declared.Record.{Record}
@@ -332,7 +332,7 @@ module _ (h : Handed) (e : is_opened h) (is : List Input) where
 
   abbrev IsRefused : List ℕ → Type 0
   IsRefused text =
-      ((call : Call) × (call_of text ≡ CallRead.Accepted call) × IsStep b.state.clock call) ×
+      ((call : Call) × (call_of text ≡ Some call) × IsStep b.state.clock call) ×
       LacksPlaces (settings_in h) (account_of h is)
 
   step_refused :
@@ -351,19 +351,19 @@ module _ (h : Handed) (e : is_opened h) (is : List Input) where
       )
 
   read_refused :
-      (text area : List ℕ) (read : CallRead) → call_of text ≡ read → (called_with b.state b.lent area read).answer ≡ 15 →
+      (text area : List ℕ) (read : Option Call) → call_of text ≡ read → (called_with b.state b.lent area read).answer ≡ 15 →
       IsRefused text
   unfolding called_with refused_with call_answer
-  read_refused text area (CallRead.Accepted call) e q =
+  read_refused text area (Some call) e q =
       let p = (step_refused call).0 (sym (read_answer b.state b.lent area call) ∙ q) in
       ((call, e, p.0), p.1)
-  read_refused text area CallRead.Malformed e q = absurd (omega (arith, q))
+  read_refused text area None e q = absurd (omega (arith, q))
 
   text_refused : (text area : List ℕ) → ((called_with b.state b.lent area (call_of text)).answer ≡ 15) ↔ IsRefused text
   text_refused text area = (
     λ q. read_refused text area (call_of text) refl q,
     λ p.
-        ap (λ (read : CallRead). (called_with b.state b.lent area read).answer) p.0.1 ∙
+        ap (λ (read : Option Call). (called_with b.state b.lent area read).answer) p.0.1 ∙
         read_answer b.state b.lent area p.0.0 ∙
         (step_refused p.0.0).1 (p.0.2, p.1),
   )
@@ -372,7 +372,7 @@ module _ (h : Handed) (e : is_opened h) (is : List Input) where
       (text area : List ℕ) →
       ((called (box_after h is) (Input.journal text area)).answer ≡ 15) ↔
       ((area_bytes ≤ length area) ×
-      ((call : Call) × (call_of text ≡ CallRead.Accepted call) × IsStep (box_after h is).state.clock call) ×
+      ((call : Call) × (call_of text ≡ Some call) × IsStep (box_after h is).state.clock call) ×
       LacksPlaces (settings_in h) (account_of h is))
   unfolding box_after called called_on refused_with
   full text area =
@@ -387,7 +387,7 @@ module _ (h : Handed) (e : is_opened h) (is : List Input) where
       ltb (length area) area_bytes ≡ a →
       ((host_if b.state b.lent area 3 (omega arith, omega arith) text (cond a 5 0)).answer ≡ 15) ↔
       ((area_bytes ≤ length area) ×
-      ((call : Call) × (call_of text ≡ CallRead.Accepted call) × IsStep b.state.clock call) ×
+      ((call : Call) × (call_of text ≡ Some call) × IsStep b.state.clock call) ×
       LacksPlaces (settings_in h) (account_of h is))) [
         | true ↦ λ low. (λ q. absurd (omega arith), λ p. absurd (let l : length area < area_bytes = ltb-true _ _ low in omega (arith, p.0)))
         | false ↦ λ whole. (λ q. let p = own.0 q in (ltb-false _ _ whole, p.0, p.1), λ p. own.1 (p.1, p.2))

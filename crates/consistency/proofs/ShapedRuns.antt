@@ -9,9 +9,9 @@ use native.Mathlib.Nat.{mod-lt}
 use borrow.Author.Tests.{eqb-true, eqb-false}
 use lib.Dec.{eqb, ltb}
 use lib.ListN.{length, take}
+use Rattle.std.specs.Prelude.{Option, Some, None}
 use Rattle.settings.specs.declared.Settings.{Settings}
 use Rattle.journal.specs.declared.Call.{Call}
-use Rattle.journal.specs.declared.CallRead.{CallRead}
 use Rattle.journal.specs.JournalLine.{call_answer}
 use Rattle.journal.specs.ReadLine.{call_of}
 use Rattle.store.specs.Lists.{Every}
@@ -98,16 +98,16 @@ module _ (st : Held) (x : Lent) (area : List ℕ) (m : ℕ) (h : OfStore m) wher
   unfolding answer_to tests_of call_tests line_tests step_tests
   meaning_otherwise s n k e = never_answered m (omega arith) (tests_of s n k (kind_of k.kind)) (omega arith) e
 
-  read_otherwise : (read : CallRead) → (called_with st x area read).answer ≡ m → ⊥
+  read_otherwise : (read : Option Call) → (called_with st x area read).answer ≡ m → ⊥
   unfolding called_with refused_with call_answer
-  read_otherwise (CallRead.Accepted k) e =
+  read_otherwise (Some k) e =
       let answer : ℕ = answer_to st.settings (view st x.readings) k in
       (elim (eqb answer 0) as (λ b. (cond b (laid_down st x area k) (refused_with answer st x area)).answer ≡ m → ⊥) [
         | true ↦ λ e. omega arith
         | false ↦ λ e. meaning_otherwise st.settings (view st x.readings) k e
       ])
       e
-  read_otherwise CallRead.Malformed e = omega arith
+  read_otherwise None e = omega arith
 
   -- the host's tests where the store is long enough and the state is in shape: only the area may be short
   pub host_answer :

@@ -5,8 +5,8 @@ use mathlib.Core.Path.{◌≡◌, refl, sym, ◌∙◌, ap, ap₂, subst}
 use mathlib.Core.Bool.{true, false}
 use mathlib.Core.List.{List, [], ◌∷◌, ◌++◌, map, map-map}
 use borrow.Author.Tests.{ne_eqb}
+use Rattle.std.specs.Prelude.{Some}
 use Rattle.record.specs.declared.Record.{Record}
-use Rattle.record.specs.declared.Decoded.TheVariants as Decoded
 use Rattle.record.specs.Decoded.{decoded}
 use Rattle.record.specs.Layout.{bytes_of}
 use Rattle.record.specs.Kinds.{is_tentative}
@@ -98,7 +98,7 @@ stated p =
                 ap (stable_records record_in) bytes ∙ c.stables ∙
                 ap (λ (a : Account). map bytes_of (failure_free s a.stables a.monitor.d).records) (sym account);
             all_records =
-                subst (Every (λ (b : List ℕ). decoded b ≡ Decoded.Is (record_in b))) (sym bytes) (every_to y.bytes form_read c.forms);
+                subst (Every (λ (b : List ℕ). decoded b ≡ Some (record_in b))) (sym bytes) (every_to y.bytes form_read c.forms);
             uncut =
                 subst
                 (λ (a : Account). Every (λ (r : Record). record_in (bytes_of r) ≡ r) (failure_free s a.stables a.monitor.d).records)

@@ -2,7 +2,6 @@
 use Prim.Native.Nat.{ℕ}
 use mathlib.Core.Path.{◌≡◌}
 use mathlib.Core.List.{List}
-use native.Mathlib.Omega.{arith}
 use Rattle.node.specs.Held.{Held}
 use Rattle.node.specs.View.{Lent, with_acknowledged}
 use Rattle.node.specs.Calls.{Called}

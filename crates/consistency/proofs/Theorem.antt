@@ -6,9 +6,9 @@ use mathlib.Core.Bool.{true, false, cond}
 use lib.Dec.{eqb}
 use mathlib.Core.List.{List, [], ◌∷◌, ◌++◌, map, map-append}
 use native.Mathlib.Omega.{arith}
+use Rattle.std.specs.Prelude.{Some}
 use Rattle.settings.specs.declared.Settings.{Settings}
 use Rattle.record.specs.declared.Record.{Record}
-use Rattle.record.specs.declared.Decoded.TheVariants as Decoded
 use Rattle.record.specs.Decoded.{decoded}
 use Rattle.record.specs.Layout.{bytes_of}
 use Rattle.record.specs.Kinds.{is_tentative}
@@ -64,8 +64,8 @@ clean h e is =
       as_they_came =
           ap (stable_records record_in) m.laid ∙ stable_records_bytes_of t.output m.decode ∙ ap (map bytes_of) c.as_they_came ∙ sym free;
       all_records =
-          subst (Every (λ (b : List ℕ). decoded b ≡ Decoded.Is (record_in b))) (sym m.laid)
-          (every_map bytes_of (λ (b : List ℕ). decoded b ≡ Decoded.Is (record_in b)) t.output (every_to t.output is_record m.decode));
+          subst (Every (λ (b : List ℕ). decoded b ≡ Some (record_in b))) (sym m.laid)
+          (every_map bytes_of (λ (b : List ℕ). decoded b ≡ Some (record_in b)) t.output (every_to t.output is_record m.decode));
       uncut =
           subst (Every (λ (r : Record). record_in (bytes_of r) ≡ r)) (sym (free_records h is m))
           (every_to (stable_results s t) record_in_bytes_of (subst (Every Decodes) c.as_they_came (every_keep Decodes _ t.output m.decode)));

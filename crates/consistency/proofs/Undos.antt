@@ -5,9 +5,9 @@ use mathlib.Core.Path.{◌≡◌, refl, sym, ◌∙◌, ap, ap₂}
 use mathlib.Core.Bool.{Bool, true, false, cond, not}
 use mathlib.Core.List.{List, [], ◌∷◌, ◌++◌, map, map-append}
 use lib.Dec.{leb, eqb}
+use Rattle.std.specs.Prelude.{Some}
 use Rattle.journal.specs.Kinds.{letter_u, letter_r}
 use Rattle.record.specs.declared.Record.{Record}
-use Rattle.record.specs.declared.Decoded.TheVariants as Decoded
 use Rattle.record.specs.Decoded.{decoded}
 use Rattle.record.specs.Kinds.{is_result, is_stable, is_tentative}
 use Rattle.record.specs.Layout.{bytes_of}
@@ -23,8 +23,8 @@ pub record_in_bytes_of : (r : Record) → Decodes r → record_in (bytes_of r) �
 unfolding record_in read_as
 record_in_bytes_of r d = ap read_as d
 
-pub is_record : (r : Record) → Decodes r → decoded (bytes_of r) ≡ Decoded.Is (record_in (bytes_of r))
-is_record r d = d ∙ ap Decoded.Is (sym (record_in_bytes_of r d))
+pub is_record : (r : Record) → Decodes r → decoded (bytes_of r) ≡ Some (record_in (bytes_of r))
+is_record r d = d ∙ ap Some (sym (record_in_bytes_of r d))
 
 pub records_read : (rs : List Record) → Every Decodes rs → map record_in (map bytes_of rs) ≡ rs
 records_read [] h = refl

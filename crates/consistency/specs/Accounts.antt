@@ -1,10 +1,10 @@
 -- What a list of calls is measured against, from the texts' fields and whether each call was accepted, and from nothing else: the monitor,
 -- which is document 01's day book, the accepted stable readings (section 'From the opening on'), and what each display has acknowledged
 -- (document 02, W2).
-use Rattle.std.specs.Prelude.{ℕ, Bool, List, [], ◌∷◌, map, eqb, replicate}
+use Rattle.std.specs.Prelude.{ℕ, Bool, List, [], ◌∷◌, map, eqb, replicate, Option, Some, None}
+use Rattle.journal.specs.declared.Call.{Call}
 use Rattle.clock.specs.declared.ReadingTime.{ReadingTime}
 use Rattle.settings.specs.declared.Settings.{Settings}
-use Rattle.journal.specs.declared.CallRead.{CallRead}
 use Rattle.journal.specs.ReadLine.{call_of}
 use Rattle.store.specs.declared.Reading.{Reading}
 use Rattle.protocol.specs.Monitor.{LineMonitor, Monitor, fresh_monitor, observe}
@@ -21,14 +21,14 @@ unfoldable pub empty_account : Settings → Account
 empty_account s = record { monitor = fresh_monitor s; stables = replicate s.lines []; acknowledged = replicate s.displays 0 }
 
 -- a text that is no journal line was refused, and changes nothing
-unfoldable pub account_with : Settings → Account → CallRead → Bool → Account
-account_with s a (CallRead.Accepted k) is_accepted =
+unfoldable pub account_with : Settings → Account → Option Call → Bool → Account
+account_with s a (Some k) is_accepted =
     record {
       monitor = observe s a.monitor k is_accepted;
       stables = stable_after a.stables k is_accepted;
       acknowledged = a.acknowledged;
     }
-account_with s a CallRead.Malformed is_accepted = a
+account_with s a None is_accepted = a
 
 -- accepted: the returned answer is 0; the monitor passes a display's calls over
 unfoldable pub account_next : Settings → Account → Box → Input → Account

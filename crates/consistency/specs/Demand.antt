@@ -1,11 +1,9 @@
 -- Demand 3: the statement. It speaks of texts and areas, states and stores, and of bytes.
-use Rattle.std.specs.Prelude.{ℕ, zero, suc, ◌+◌, ◌≤◌, ◌≡◌, true, false, List, [], ◌∷◌, ◌++◌, map}
+use Rattle.std.specs.Prelude.{ℕ, zero, suc, ◌+◌, ◌≤◌, ◌≡◌, true, false, List, [], ◌∷◌, ◌++◌, map, Some}
 use Rattle.settings.specs.declared.Settings.{Settings}
 use Rattle.journal.specs.declared.Call.{Call}
-use Rattle.journal.specs.declared.CallRead.TheVariants as CallRead
 use Rattle.journal.specs.ReadLine.{call_of}
 use Rattle.record.specs.declared.Record.{Record}
-use Rattle.record.specs.declared.Decoded.TheVariants as Decoded
 use Rattle.record.specs.Layout.{bytes_of}
 use Rattle.record.specs.Kinds.{is_tentative}
 use Rattle.record.specs.Decoded.{decoded}
@@ -65,7 +63,7 @@ pub record Clean (h : Handed) (is : List Input) : Type 0 where
   pub all_tentative : Every (λ (b : List ℕ). is_tentative (record_in b).kind ≡ true) tentative
   pub never_struck : Every (λ (b : List ℕ). is_tentative (record_in b).kind ≡ true) (struck record_in [] (output_of h is))
   pub as_they_came : stable_records record_in (output_of h is) ≡ failure_free_bytes h is
-  pub all_records : Every (λ (b : List ℕ). decoded b ≡ Decoded.Is (record_in b)) (output_of h is)
+  pub all_records : Every (λ (b : List ℕ). decoded b ≡ Some (record_in b)) (output_of h is)
   pub uncut : Every (λ (r : Record). record_in (bytes_of r) ≡ r) (failure_free_records h is)
   pub worked : (account_of h is).monitor.d ≤ stable_buckets (settings_in h) (account_of h is).monitor
 
@@ -74,7 +72,7 @@ pub data Steps : Box → ℕ → List Input → Type 0 where
   rest : {b : Box} → Steps b zero []
   step :
       {b : Box} {n : ℕ} {is : List Input} (text area : List ℕ) (k : Call) →
-      call_of text ≡ CallRead.Accepted k →
+      call_of text ≡ Some k →
       kind_of k.kind ≡ Kind.P →
       (called b (Input.journal text area)).answer ≡ 0 →
       Steps (left b (Input.journal text area)) n is →

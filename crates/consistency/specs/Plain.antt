@@ -1,12 +1,12 @@
 -- Demand 3 once more, in other words, to test the statement: states, stores, texts and areas as they are handed over, one record for all
 -- that a list of calls leaves, and every condition and conclusion written out, for each of the three calls by itself. Whatever weakens a
 -- clause of Demand.antt, a condition more or a conclusion less, no longer gives this table.
-use Rattle.std.specs.Prelude.{ℕ, zero, suc, ◌+◌, ◌-◌, ◌/◌, ◌^◌, ◌≤◌, ◌<◌, ◌≡◌}
+use Rattle.std.specs.Prelude.{ℕ, zero, suc, ◌+◌, ◌-◌, ◌/◌, ◌^◌, ◌≤◌, ◌<◌, ◌≡◌, Option, Some, None}
 use Rattle.std.specs.Prelude.{Bool, true, false, cond, ◌&&◌, List, [], ◌∷◌, ◌++◌, map, eqb, ℤ, length, get_or, take, drop, replicate}
 use Rattle.std.specs.Int.Signed.{mag}
+use Rattle.journal.specs.declared.Call.{Call}
 use Rattle.clock.specs.declared.ReadingTime.{ReadingTime}
 use Rattle.settings.specs.declared.Settings.{Settings}
-use Rattle.journal.specs.declared.CallRead.{CallRead}
 use Rattle.journal.specs.ReadLine.{call_of}
 use Rattle.record.specs.declared.Record.{Record}
 use Rattle.record.specs.Layout.{bytes_of}
@@ -39,13 +39,13 @@ unfoldable pub cut : ℕ → List ℕ → List (List ℕ)
 cut zero area = []
 cut (suc n) area = take 32 area ∷ cut n (drop 32 area)
 
-unfoldable pub noted : Settings → Monitor → CallRead → Bool → Monitor
-noted s y (CallRead.Accepted k) is_accepted = observe s y k is_accepted
-noted s y CallRead.Malformed is_accepted = y
+unfoldable pub noted : Settings → Monitor → Option Call → Bool → Monitor
+noted s y (Some k) is_accepted = observe s y k is_accepted
+noted s y None is_accepted = y
 
-unfoldable pub counted : List (List Reading) → CallRead → Bool → List (List Reading)
-counted lines (CallRead.Accepted k) is_accepted = stable_after lines k is_accepted
-counted lines CallRead.Malformed is_accepted = lines
+unfoldable pub counted : List (List Reading) → Option Call → Bool → List (List Reading)
+counted lines (Some k) is_accepted = stable_after lines k is_accepted
+counted lines None is_accepted = lines
 
 unfoldable pub begun : Held → Lent → List ℕ → Run
 begun st x text =
@@ -58,7 +58,7 @@ begun st x text =
     }
 
 -- a journal call on what is there: the monitor is fed it, and its records come behind those so far
-unfoldable pub answered : Settings → Run → CallRead → Called → Run
+unfoldable pub answered : Settings → Run → Option Call → Called → Run
 answered s y read r =
     record {
       state = r.state;
@@ -98,9 +98,9 @@ is_p Kind.U = false
 is_p Kind.R = false
 is_p Kind.P = true
 
-unfoldable pub reads_as_step : CallRead → Bool
-reads_as_step (CallRead.Accepted k) = is_p (kind_of k.kind)
-reads_as_step CallRead.Malformed = false
+unfoldable pub reads_as_step : Option Call → Bool
+reads_as_step (Some k) = is_p (kind_of k.kind)
+reads_as_step None = false
 
 -- whether every journal call is refused or a step; a display's call may stand anywhere, accepted or not
 unfoldable pub only_steps : Held → Lent → List Input → Bool

@@ -2,10 +2,11 @@
 -- line; what was paid by the bytes at their places, whatever stands beside them; counts and sums each for themselves, over the runs of
 -- Plain.antt. Whatever weakens Balance.antt no longer gives this table.
 use Rattle.std.specs.Prelude.{ℕ, ◌+◌, ◌<◌, ◌≡◌, Bool, cond, ◌&&◌, List, [], ◌∷◌, ◌++◌, eqb, ℤ, pos, ◌+ℤ◌, length, get_or}
+use Rattle.std.specs.Prelude.{Option, Some, None}
 use Rattle.std.specs.Int.Signed.{le_z}
+use Rattle.journal.specs.declared.Call.{Call}
 use Rattle.signed.specs.Twos.{signed_of}
 use Rattle.settings.specs.declared.Settings.{Settings}
-use Rattle.journal.specs.declared.CallRead.{CallRead}
 use Rattle.journal.specs.ReadLine.{call_of}
 use Rattle.record.specs.Fields.{word_at}
 use Rattle.store.specs.declared.Reading.{Reading}
@@ -25,9 +26,9 @@ unfoldable pub value_if : Settings → ℕ → ℕ → ℕ → ℤ → List ℤ
 value_if s i kind meter value = cond (eqb kind 83 && (eqb meter i && (le_z s.low value && le_z value s.high))) (value ∷ []) []
 
 -- the value that a call's text would send in
-unfoldable pub sent_by : Settings → ℕ → CallRead → List ℤ
-sent_by s i (CallRead.Accepted k) = value_if s i k.kind k.meter k.value
-sent_by s i CallRead.Malformed = []
+unfoldable pub sent_by : Settings → ℕ → Option Call → List ℤ
+sent_by s i (Some k) = value_if s i k.kind k.meter k.value
+sent_by s i None = []
 
 -- the values of the accepted journal calls, one call after the other; a display's call sends nothing in
 unfoldable pub sent_values : Settings → ℕ → Held → Lent → List Input → List ℤ

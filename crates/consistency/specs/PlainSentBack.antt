@@ -1,11 +1,11 @@
 -- Document 02, W2 once more, in other words, to test the statement: what a display has acknowledged as a number carried from call to call,
 -- the failure-free results as one run of bytes, the store and what is fetched byte by byte, and the answers as tests in their order, over
 -- the runs of Plain.antt. Whatever weakens a clause of SentBack.antt no longer gives this table.
-use Rattle.std.specs.Prelude.{ℕ, zero, suc, ◌+◌, ◌-◌, ◌*◌, ◌/◌, ◌≤◌, ◌<◌, min, ◌≡◌}
+use Rattle.std.specs.Prelude.{ℕ, zero, suc, ◌+◌, ◌-◌, ◌*◌, ◌/◌, ◌≤◌, ◌<◌, min, ◌≡◌, Option, Some, None}
 use Rattle.std.specs.Prelude.{Bool, true, false, cond, ◌&&◌, ◌||◌, List, [], ◌∷◌, leb, ltb, eqb, length, get_or}
+use Rattle.journal.specs.declared.Call.{Call}
 use Rattle.clock.specs.declared.ArrivalTick.{ArrivalTick}
 use Rattle.settings.specs.declared.Settings.{Settings}
-use Rattle.journal.specs.declared.CallRead.{CallRead}
 use Rattle.journal.specs.ReadLine.{call_of}
 use Rattle.record.specs.declared.Record.{Record}
 use Rattle.record.specs.Layout.{all_bytes}
@@ -62,11 +62,11 @@ answer_if s area display fits =
     cond (ltb (length area) 2080) 5 (cond (eqb display 0 || ltb s.displays display) 16 (cond fits 0 17))
 
 -- a step's text with nothing in it but a `now` that is not before the clock
-unfoldable pub is_bare_step : ArrivalTick → CallRead → Bool
-is_bare_step clock (CallRead.Accepted k) =
+unfoldable pub is_bare_step : ArrivalTick → Option Call → Bool
+is_bare_step clock (Some k) =
     (is_p (kind_of k.kind) && leb clock.0 k.now.0) &&
     (eqb k.line 0 && (eqb k.id 0 && (eqb k.time.0 0 && (eqb k.meter 0 && is_zero k.value))))
-is_bare_step clock CallRead.Malformed = false
+is_bare_step clock None = false
 
 -- a stable bucket is left, no tentative work is out, and with the bucket some display would be more than 512 behind
 unfoldable pub is_lacking : Settings → Run → (ℕ → ℕ) → Bool

@@ -1,8 +1,7 @@
 -- Lists of calls from an opening on, each on the state and stores that the one before left (document 01, section 'From the opening on';
 -- document 02, W2).
-use Rattle.std.specs.Prelude.{ℕ, List, [], ◌∷◌, ◌++◌}
+use Rattle.std.specs.Prelude.{ℕ, List, [], ◌∷◌, ◌++◌, Option, Some, None}
 use Rattle.record.specs.declared.Record.{Record}
-use Rattle.record.specs.declared.Decoded.{Decoded}
 use Rattle.record.specs.Decoded.{decoded}
 use Rattle.record.specs.Markers.{marker}
 use Rattle.node.specs.Held.{Held}
@@ -42,9 +41,9 @@ left_after b [] = b
 left_after b (i ∷ is) = left_after (left b i) is
 
 -- the record that bytes are read as; bytes that are none give one of no kind
-unfoldable pub read_as : Decoded → Record
-read_as (Decoded.Is r) = r
-read_as Decoded.Malformed = marker 0 0 (record { 0 = 0 })
+unfoldable pub read_as : Option Record → Record
+read_as (Some r) = r
+read_as None = marker 0 0 (record { 0 = 0 })
 
 unfoldable pub record_in : List ℕ → Record
 record_in piece = read_as (decoded piece)

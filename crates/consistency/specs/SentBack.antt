@@ -1,10 +1,9 @@
 -- The send-back store: the statement (document 02, W2). It speaks of bytes in the lent store and in the areas. What was acknowledged is
 -- read off the calls, and the newest stable id off the failure-free results, neither off the state.
-use Rattle.std.specs.Prelude.{ℕ, suc, ◌+◌, ◌-◌, ◌*◌, ◌%◌, ◌≤◌, ◌<◌, ◌≡◌, List, [], ◌↔◌, pos, length, take, drop, get_or, replicate}
+use Rattle.std.specs.Prelude.{ℕ, suc, ◌+◌, ◌-◌, ◌*◌, ◌%◌, ◌≤◌, ◌<◌, ◌≡◌, List, [], ◌↔◌, pos, length, take, drop, get_or, replicate, Some}
 use Rattle.clock.specs.declared.ArrivalTick.{ArrivalTick}
 use Rattle.settings.specs.declared.Settings.{Settings}
 use Rattle.journal.specs.declared.Call.{Call}
-use Rattle.journal.specs.declared.CallRead.TheVariants as CallRead
 use Rattle.journal.specs.ReadLine.{call_of}
 use Rattle.record.specs.Sizes.{record_bytes}
 use Rattle.retransmission.specs.Sizes.{held_results, held_bytes, fetch_limit}
@@ -139,5 +138,5 @@ pub record SentBack : Type 0 where
       let b : Box = box_after h is in
       ((called b (Input.journal text area)).answer ≡ 15) ↔
       ((area_bytes ≤ length area) ×
-      ((k : Call) × (call_of text ≡ CallRead.Accepted k) × IsStep b.state.clock k) ×
+      ((k : Call) × (call_of text ≡ Some k) × IsStep b.state.clock k) ×
       LacksPlaces (settings_in h) (account_of h is))

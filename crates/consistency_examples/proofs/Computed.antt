@@ -2,6 +2,8 @@
 -- unfold them. A definition that a change of specs/ adds on the way is added to its line.
 use Prim.Native.Nat.{ℕ}
 use mathlib.Core.List.{List, flatten}
+use Rattle.std.specs.Prelude.{Option, Result}
+use Rattle.answer.specs.declared.Refusal.{Refusal}
 use Rattle.area.specs.Laid.{in_front}
 use Rattle.clock.specs.Buckets.{bucket_of, bucket_end, finishes}
 use Rattle.clock.specs.Windows.{closes_window, window_start}
@@ -11,14 +13,12 @@ use Rattle.signed.specs.Nearest.{nearest}
 use Rattle.signed.specs.Twos.{twos, signed_of}
 use Rattle.endian.specs.LittleEndian.{little_endian, number_of}
 use Rattle.decimal.specs.Spelled.{is_digit, run_length, run_value, misspelled, number_at, negated, as_integer, integer_at}
-use Rattle.fields.specs.Field.{starts_with, ends_line, number_field, integer_field, with_number, with_integer}
+use Rattle.fields.specs.Field.{starts_with, ends_line, number_field, integer_field, with_field}
 use Rattle.settings.specs.declared.Settings.{Settings}
-use Rattle.settings.specs.declared.SettingsRead.{SettingsRead}
 use Rattle.settings.specs.Limits.{within_limits}
 use Rattle.settings.specs.SettingsLine.{limited}
 use Rattle.settings.specs.ReadLine.{settings_at, judged, settings_of}
 use Rattle.journal.specs.declared.Call.{Call}
-use Rattle.journal.specs.declared.CallRead.{CallRead}
 use Rattle.journal.specs.Kinds.{is_letter}
 use Rattle.journal.specs.ReadLine.{letter_at, letter_field, call_at, whole, call_of}
 use Rattle.record.specs.declared.Record.{Record}
@@ -66,12 +66,12 @@ use Rattle.consistency.specs.Balance.{open_heat, kept_stables, kept_heat}
 use Rattle.consistency_examples.proofs.Surely.{itself, surely, noted, gives, Done, doing, ran}
 
 -- texts
-unfoldable pub settings_read : List ℕ → SettingsRead
-unfolding settings_of judged limited settings_at within_limits starts_with ends_line number_field integer_field with_number with_integer is_digit run_length run_value misspelled number_at negated integer_at as_integer
+unfoldable pub settings_read : List ℕ → Result Settings Refusal
+unfolding settings_of judged limited settings_at within_limits starts_with ends_line number_field integer_field with_field is_digit run_length run_value misspelled number_at negated integer_at as_integer
 settings_read text = settings_of text
 
-unfoldable pub call_read : List ℕ → CallRead
-unfolding call_of whole call_at letter_at letter_field is_letter starts_with ends_line number_field integer_field with_number with_integer is_digit run_length run_value misspelled number_at negated integer_at as_integer
+unfoldable pub call_read : List ℕ → Option Call
+unfolding call_of whole call_at letter_at letter_field is_letter starts_with ends_line number_field integer_field with_field is_digit run_length run_value misspelled number_at negated integer_at as_integer
 call_read text = call_of text
 
 -- a call on the node

@@ -7,11 +7,11 @@ use mathlib.Core.List.{List, [], ◌∷◌, ◌++◌, map}
 use native.Mathlib.Omega.{arith}
 use lib.IntN.{pos}
 use lib.ListN.{replicate}
+use Rattle.std.specs.Prelude.{Some}
 use Rattle.signed.specs.Twos.{twos}
 use Rattle.endian.specs.LittleEndian.{little_endian}
 use Rattle.settings.specs.declared.Settings.{Settings}
 use Rattle.journal.specs.declared.Call.{Call}
-use Rattle.journal.specs.declared.CallRead.TheVariants as CallRead
 use Rattle.journal.specs.ReadLine.{call_of}
 use Rattle.protocol.specs.Kinds.{Kind, kind_of}
 use Rattle.record.specs.Layout.{bytes_of}
@@ -120,7 +120,7 @@ fetched = left second fetches
 abbrev pub shown : Box
 shown = left fetched acknowledges
 
-reads : call_of (bytes_in "now=62 line=0 kind=P id=0 time=0 meter=0 value=0\n") ≡ CallRead.Accepted step_call
+reads : call_of (bytes_in "now=62 line=0 kind=P id=0 time=0 meter=0 value=0\n") ≡ Some step_call
 unfolding bytes_in call_read
 reads = refl
 

@@ -1,8 +1,7 @@
 -- The statement on document 01's listing, computed, so that none of its words can come to be said of nothing: the opening is accepted, the
 -- output is what the document prints, with the mean of document 02 (W1), one tentative result is struck, the R is due and then given, steps
 -- settle and fewer do not, and two boxes agree for which everything differs that may.
-use Rattle.std.specs.Prelude.{ℕ, ◌+◌, ◌≡◌, true, false, List, [], ◌∷◌, ◌++◌, replicate}
-use Rattle.record.specs.declared.Decoded.TheVariants as Decoded
+use Rattle.std.specs.Prelude.{ℕ, ◌+◌, ◌≡◌, true, false, List, [], ◌∷◌, ◌++◌, replicate, Some, None}
 use Rattle.record.specs.Layout.{bytes_of}
 use Rattle.record.specs.Decoded.{decoded}
 use Rattle.record.specs.Kinds.{is_tentative}
@@ -42,8 +41,8 @@ pub record Listing : Type 0 where
   pub due_again : done_due record_in false (undo ∷ corrected ∷ undo ∷ []) ≡ true
   pub not_every : Every (λ (b : List ℕ). is_tentative (record_in b).kind ≡ true) (tentative ∷ stable ∷ []) → ⊥
   -- every piece is read as a record; 32 zero bytes are none
-  pub records : Every (λ (b : List ℕ). decoded b ≡ Decoded.Is (record_in b)) (tentative ∷ undo ∷ stable ∷ boundary ∷ corrected ∷ [])
-  pub zeros : decoded (replicate 32 0) ≡ Decoded.Malformed
+  pub records : Every (λ (b : List ℕ). decoded b ≡ Some (record_in b)) (tentative ∷ undo ∷ stable ∷ boundary ∷ corrected ∷ [])
+  pub zeros : decoded (replicate 32 0) ≡ None
   -- the monitor: d is 0 and then 1, t is 1
   pub before : account_of handed readings ≡ account_before
   pub behind : account_of handed (readings ++ step ∷ step ∷ []) ≡ account_behind

@@ -1,18 +1,16 @@
 // The program console: as merge, and it takes the lines of the displays' calls too.
 #![tactic(auto)]
 
-use std::env::FillError;
-use std::rt::Env;
+use playback::Mode;
 
 fn main(rt: HostRuntime) {
-    let has_arguments = !matches!(rt.arg(1, &mut [0u8; 1]), Err(FillError::NotPresent));
-    if has_arguments {
-        let _ = eprintln!(rt;
-            "usage: console <INPUT >OUTPUT (settings, journal and displays' lines in, answers and records out)"
-        );
-        return;
-    }
-    let mixed = true;
-    let acknowledging = false;
-    playback::run(rt, mixed, acknowledging);
+    let mode = Mode {
+        mixed: true,
+        acknowledging: false,
+    };
+    playback::run_or_explain(
+        rt,
+        mode,
+        "usage: console <INPUT >OUTPUT (settings, journal and displays' lines in, answers and records out)",
+    );
 }

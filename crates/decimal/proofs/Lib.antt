@@ -2,6 +2,7 @@
 pub mod Digits
 pub mod Decimals
 pub mod Filled
+pub mod Pairs
 pub mod Runs
 pub mod Scanned
 pub mod Numbers

@@ -9,9 +9,9 @@ use native.Mathlib.Nat.{pow-suc}
 use native.Mathlib.Omega.{arith}
 use lib.ListN.{length, get_or, drop, take, take-append-drop}
 use lib.Seq.{append_snoc, drop-drop, drop-append_seam, length-take-le}
+use Rattle.std.specs.Prelude.{Some}
 use Rattle.decimal.specs.Decimal.{digits_within, digits}
 use Rattle.decimal.specs.Spelled.{is_digit, NoDigit, run_length, run_value, misspelled, number_at}
-use Rattle.decimal.specs.declared.Number.TheVariants as Number
 use Rattle.decimal.proofs.Digits.{one_or_more, within_one, within_more, tenth_below, digits_one, digits_behind, digits_some, length_snoc}
 use Rattle.decimal.proofs.Runs.{is_digit_lem, digit_range, no_run, no_value, run_begins, run_digit, value_digit, run_short, value_grows}
 use Rattle.decimal.proofs.Numbers.{well_spelled, spelled, number_value, number_run, number_end}
@@ -55,7 +55,7 @@ spelled_text (b ∷ t) m h =
 
 -- a number that was read stands there as it is written
 pub number_sound :
-    (most : ℕ) (s : List ℕ) (at v e : ℕ) → most < 2 ^ 64 → number_at most s at ≡ Number.Value v e →
+    (most : ℕ) (s : List ℕ) (at v e : ℕ) → most < 2 ^ 64 → number_at most s at ≡ Some (v, e) →
     (drop at s ≡ digits v ++ drop e s) × (v ≤ most) × (e ≡ at + length (digits v)) × (e ≤ length s)
 number_sound most s at v e l q =
     let t = drop at s in
@@ -115,7 +115,7 @@ digits_begin v r h = run_begins (digits v ++ r) (omega (arith, (digits_read v h 
 -- a number that stands there, with no digit behind it, is read
 pub number_complete :
     (most : ℕ) (s : List ℕ) (at v : ℕ) (r : List ℕ) → drop at s ≡ digits v ++ r → NoDigit r → v ≤ most → most < 2 ^ 64 →
-    number_at most s at ≡ Number.Value v (at + length (digits v))
+    number_at most s at ≡ Some (v, at + length (digits v))
 number_complete most s at v r e n h l =
     let t = drop at s in
     let p = digits_read v (omega arith) r in
@@ -128,7 +128,7 @@ number_complete most s at v r e n h l =
 -- claims of their own: a number behind any text reads back as written
 pub number_reads_back :
     (most : ℕ) (p : List ℕ) (v : ℕ) (r : List ℕ) → NoDigit r → v ≤ most → most < 2 ^ 64 →
-    number_at most (p ++ (digits v ++ r)) (length p) ≡ Number.Value v (length p + length (digits v))
+    number_at most (p ++ (digits v ++ r)) (length p) ≡ Some (v, length p + length (digits v))
 number_reads_back most p v r n h l =
     number_complete most (p ++ (digits v ++ r)) (length p) v r (drop-append_seam p (digits v ++ r)) n h l
 

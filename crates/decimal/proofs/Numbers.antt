@@ -1,5 +1,5 @@
 -- Laws on the number that a text spells from a place on, by the run of digits that stands there.
-use mathlib.Core.Path.{◌≡◌, refl}
+use mathlib.Core.Path.{◌≡◌, refl, sym}
 use mathlib.Core.Bool.{Bool, true, false, cond, ◌&&◌, ◌||◌, or-true}
 use mathlib.Core.List.{List}
 use Prim.Native.Nat.{ℕ, ◌+◌, ◌<◌, ◌≤◌}
@@ -7,9 +7,9 @@ use native.Mathlib.Omega.{arith}
 use lib.Dec.{ltb, eqb}
 use lib.ListN.{length, get_or, drop, length-drop}
 use borrow.Author.Tests.{eq-eqb, ne_eqb, lt-ltb, le-ltb, eqb-true, eqb-false, ltb-false}
-use Rattle.decimal.specs.Spelled.{run_length, run_value, misspelled, number_at, widened}
-use Rattle.decimal.specs.declared.Number.{Number}
-use Rattle.decimal.specs.declared.WideNumber.TheVariants as WideNumber
+use Rattle.std.specs.Prelude.{Option, Some, None}
+use Rattle.decimal.specs.Spelled.{run_length, run_value, misspelled, number_at}
+use Rattle.decimal.proofs.Pairs.{same_read}
 use Rattle.decimal.proofs.Runs.{run_short}
 
 either_false : (x y : Bool) → (x || y) ≡ false → (x ≡ false) × (y ≡ false)
@@ -42,22 +42,22 @@ spelled t e =
 
 -- what the text spells, by its run
 module _ (most : ℕ) (s : List ℕ) (at : ℕ) where
-  pub number_misspelled : misspelled (drop at s) ≡ true → number_at most s at ≡ Number.Malformed
+  pub number_misspelled : misspelled (drop at s) ≡ true → number_at most s at ≡ None
   unfolding number_at
   number_misspelled e = rw e
 
-  pub number_past : most < run_value 0 (drop at s) → number_at most s at ≡ Number.Malformed
+  pub number_past : most < run_value 0 (drop at s) → number_at most s at ≡ None
   unfolding number_at
   number_past h = rw (lt-ltb most (run_value 0 (drop at s)) h, or-true)
 
   pub number_value :
       misspelled (drop at s) ≡ false → run_value 0 (drop at s) ≤ most →
-      number_at most s at ≡ Number.Value (run_value 0 (drop at s)) (at + run_length (drop at s))
+      number_at most s at ≡ Some (run_value 0 (drop at s), at + run_length (drop at s))
   unfolding number_at
   number_value e h = rw (e, le-ltb most (run_value 0 (drop at s)) h)
 
   pub number_run :
-      (v e : ℕ) → number_at most s at ≡ Number.Value v e →
+      (v e : ℕ) → number_at most s at ≡ Some (v, e) →
       (misspelled (drop at s) ≡ false) × (run_value 0 (drop at s) ≤ most) × (v ≡ run_value 0 (drop at s)) × (e ≡ at + run_length (drop at s))
   unfolding number_at
   number_run v e q =
@@ -66,26 +66,15 @@ module _ (most : ℕ) (s : List ℕ) (at : ℕ) where
       let b = either_false (misspelled t) (ltb most (run_value 0 t)) p.0 in
       (b.0, ltb-false most (run_value 0 t) b.1, p.1, p.2)
     where
-      by : (x : Bool) (a b : ℕ) → cond x Number.Malformed (Number.Value a b) ≡ Number.Value v e → (x ≡ false) × (v ≡ a) × (e ≡ b)
-      by true a b r = let z : ◌≡◌ {A = ℕ} 0 1 = cc in absurd (omega arith)
-      by false a b r = (refl, cc, cc)
+      by : (x : Bool) (a b : ℕ) → cond {A = Option (ℕ × ℕ)} x None (Some (a, b)) ≡ Some (v, e) → (x ≡ false) × (v ≡ a) × (e ≡ b)
+      by true a b r = cc
+      by false a b r = let p = same_read v a e b (sym r) in (refl, p.0, p.1)
 
-  pub number_most : (v e : ℕ) → number_at most s at ≡ Number.Value v e → v ≤ most
+  pub number_most : (v e : ℕ) → number_at most s at ≡ Some (v, e) → v ≤ most
   number_most v e q = let r = number_run v e q in omega arith
 
-  pub number_end : (v e : ℕ) → number_at most s at ≡ Number.Value v e → e ≤ length s
+  pub number_end : (v e : ℕ) → number_at most s at ≡ Some (v, e) → e ≤ length s
   number_end v e q =
       let r = number_run v e q in
       let t = drop at s in
       omega (arith, (spelled t r.0).0, run_short t, length-drop at s)
-
--- what was read where 64 bits are read
-pub widened_value : (n : Number) (v e : ℕ) → widened n ≡ WideNumber.Value v e → n ≡ Number.Value v e
-unfolding widened
-widened_value (Number.Value w f) v e q = cc
-widened_value Number.Malformed v e q = let z : ◌≡◌ {A = ℕ} 0 1 = cc in absurd (omega arith)
-
-pub widened_none : (n : Number) → widened n ≡ WideNumber.Malformed → n ≡ Number.Malformed
-unfolding widened
-widened_none (Number.Value v e) q = let z : ◌≡◌ {A = ℕ} 0 1 = cc in absurd (omega arith)
-widened_none Number.Malformed q = refl

@@ -19,10 +19,6 @@ pub below_digits : (b : ℕ) → b < 48 → is_digit b ≡ false
 unfolding is_digit
 below_digits b h = simp (lt-leb 48 b h)
 
-pub above_digits : (b : ℕ) → 57 < b → is_digit b ≡ false
-unfolding is_digit
-above_digits b h = simp (le-leb 48 b (omega arith), lt-leb b 57 h)
-
 pub digit_range : (b : ℕ) → is_digit b ≡ true → (48 ≤ b) × (b ≤ 57)
 unfolding is_digit
 digit_range b e = let p = (and-eq-true_iff (leb 48 b) (leb b 57)).0 e in (leb-true 48 b p.0, leb-true b 57 p.1)

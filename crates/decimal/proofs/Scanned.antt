@@ -1,16 +1,14 @@
 -- The loop that scans a run of digits: what is left of the run from i on, behind the value so far, makes the whole run, and digits only add
--- to a value that is past 64 bits.
+-- to the value.
 use mathlib.Core.Path.{◌≡◌, refl, sym, ap, ◌∙◌}
-use mathlib.Core.Bool.{Bool, true, false, cond}
+use mathlib.Core.Bool.{true, false}
 use mathlib.Core.List.{List, ◌∷◌}
-use Prim.Native.Nat.{ℕ, suc, ◌+◌, ◌-◌, ◌*◌, ◌<◌, ◌≤◌, ◌^◌}
+use Prim.Native.Nat.{ℕ, ◌+◌, ◌-◌, ◌*◌, ◌<◌, ◌≤◌}
+use native.Mathlib.Numerals.{add-one}
 use native.Mathlib.Omega.{arith}
-use borrow.Author.Tests.{lt-ltb, le-ltb, ltb-false}
-use lib.Dec.{ltb}
 use lib.ListN.{length, get_or, drop, get_or-eq_default}
 use lib.Seq.{drop-cons}
-use Rattle.decimal.specs.Spelled.{is_digit, NoDigit, run_length, run_value, run_at}
-use Rattle.decimal.specs.declared.Run.TheVariants as Run
+use Rattle.decimal.specs.Spelled.{is_digit, NoDigit, run_length, run_value}
 use Rattle.decimal.proofs.Runs.{below_digits, head_drop, no_run, no_value, run_digit, value_digit, value_grows}
 
 unfoldable pub Scanned : List ℕ → ℕ → ℕ → ℕ → Type 0
@@ -23,12 +21,12 @@ scanned_none s at = (refl, refl)
 module _ (s : List ℕ) (at i v : ℕ) (so : Scanned s at i v) where
   -- a digit taken in
   pub scanned_digit :
-      (next : ℕ) → i < length s → is_digit (get_or s i 0) ≡ true → next ≡ v * 10 + (get_or s i 0 - 48) → Scanned s at (suc i) next
+      (next : ℕ) → i < length s → is_digit (get_or s i 0) ≡ true → next ≡ v * 10 + (get_or s i 0 - 48) → Scanned s at (i + 1) next
   unfolding Scanned
   scanned_digit next h e q =
       let b = get_or s i 0 in
-      let t = drop (suc i) s in
-      let d : drop i s ≡ b ∷ t = drop-cons s i 0 h in
+      let t = drop (i + 1) s in
+      let d : drop i s ≡ b ∷ t = rw add-one (drop-cons s i 0 h) in
       let r : run_value v (drop i s) ≡ run_value next t = ap (run_value v) d ∙ value_digit v b t e ∙ rw q in
       (omega (arith, so.0, ap run_length d ∙ run_digit b t e), sym r ∙ so.1)
 
@@ -44,34 +42,5 @@ module _ (s : List ℕ) (at i v : ℕ) (so : Scanned s at i v) where
       let n : NoDigit (drop i s) = rw head_drop e in
       (sym (no_value v (drop i s) n) ∙ so.1, omega (arith, so.0, no_run (drop i s) n))
 
-  pub scanned_all : is_digit (get_or s i 0) ≡ false → v < 2 ^ 64 → Run.Digits v i ≡ run_at s at
-  unfolding run_at
-  scanned_all e h =
-      let r = scanned_run e in
-      rw (← r.0, ← r.1, lt-ltb v (2 ^ 64) h)
-
-  -- a value past 64 bits
-  pub scanned_past : 2 ^ 64 ≤ v → Run.Past ≡ run_at s at
-  unfolding run_at
-  scanned_past l = rw (le-ltb (run_value 0 (drop at s)) (2 ^ 64) (omega (arith, scanned_most)))
-
 pub no_digit_past : (s : List ℕ) (i : ℕ) → length s ≤ i → is_digit (get_or s i 0) ≡ false
 no_digit_past s i h = rw (get_or-eq_default s 0 h) (below_digits 0 (omega arith))
-
--- what a run that was scanned tells of the text
-module _ (s : List ℕ) (at : ℕ) where
-  pub run_digits : (v e : ℕ) → run_at s at ≡ Run.Digits v e → (v ≡ run_value 0 (drop at s)) × (e ≡ at + run_length (drop at s))
-  unfolding run_at
-  run_digits v e q = by (ltb (run_value 0 (drop at s)) (2 ^ 64)) (run_value 0 (drop at s)) (at + run_length (drop at s)) q
-    where
-      by : (x : Bool) (a b : ℕ) → cond x (Run.Digits a b) Run.Past ≡ Run.Digits v e → (v ≡ a) × (e ≡ b)
-      by true a b r = (cc, cc)
-      by false a b r = let z : ◌≡◌ {A = ℕ} 0 1 = cc in absurd (omega arith)
-
-  pub run_past : run_at s at ≡ Run.Past → 2 ^ 64 ≤ run_value 0 (drop at s)
-  unfolding run_at
-  run_past q = ltb-false (run_value 0 (drop at s)) (2 ^ 64) (by (ltb (run_value 0 (drop at s)) (2 ^ 64)) (run_value 0 (drop at s)) (at + run_length (drop at s)) q)
-    where
-      by : (x : Bool) (a b : ℕ) → cond x (Run.Digits a b) Run.Past ≡ Run.Past → x ≡ false
-      by true a b r = let z : ◌≡◌ {A = ℕ} 0 1 = cc in absurd (omega arith)
-      by false a b r = refl

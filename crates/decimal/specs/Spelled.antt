@@ -1,11 +1,7 @@
 -- What a text spells from a place on: a number as `Decimal` writes it, and the place behind it. A run of digits may go on for ever; past
--- its width a number is malformed.
+-- its width a number is malformed, which is `None`.
 use Rattle.std.specs.Prelude.{ℕ, suc, ◌+◌, ◌-◌, ◌*◌, ◌^◌, ◌≡◌, Bool, false, cond, ◌&&◌, ◌||◌, List, [], ◌∷◌}
-use Rattle.std.specs.Prelude.{ltb, leb, eqb, pos, neg_ℤ, length, get_or, drop}
-use Rattle.decimal.specs.declared.Number.{Number}
-use Rattle.decimal.specs.declared.WideNumber.{WideNumber}
-use Rattle.decimal.specs.declared.Run.{Run}
-use Rattle.decimal.specs.declared.Integer.{Integer}
+use Rattle.std.specs.Prelude.{Option, Some, None, ltb, leb, eqb, ℤ, pos, neg_ℤ, length, get_or, drop}
 
 -- an ASCII digit
 unfoldable pub is_digit : ℕ → Bool
@@ -29,38 +25,27 @@ unfoldable pub run_value : ℕ → List ℕ → ℕ
 run_value v [] = v
 run_value v (b ∷ s) = cond (is_digit b) (run_value (v * 10 + (b - 48)) s) v
 
--- the digits that the text s has from `at` on
-unfoldable pub run_at : List ℕ → ℕ → Run
-run_at s at =
-    let t = drop at s in
-    cond (ltb (run_value 0 t) (2 ^ 64)) (Run.Digits (run_value 0 t) (at + run_length t)) Run.Past
-
 -- no digit at all, or a zero before another digit
 unfoldable pub misspelled : List ℕ → Bool
 misspelled t = eqb (run_length t) 0 || (eqb (get_or t 0 0) 48 && ltb 1 (run_length t))
 
 -- the unsigned number, of at most `most`, that the text s spells from `at` on
-unfoldable pub number_at : ℕ → List ℕ → ℕ → Number
+unfoldable pub number_at : ℕ → List ℕ → ℕ → Option (ℕ × ℕ)
 number_at most s at =
     let t = drop at s in
-    cond (misspelled t || ltb most (run_value 0 t)) Number.Malformed (Number.Value (run_value 0 t) (at + run_length t))
-
--- the same number where 64 bits are read
-unfoldable pub widened : Number → WideNumber
-widened (Number.Value v e) = WideNumber.Value v e
-widened Number.Malformed = WideNumber.Malformed
+    cond (misspelled t || ltb most (run_value 0 t)) None (Some (run_value 0 t, at + run_length t))
 
 -- the negative number whose magnitude was read: not zero, which has no minus
-unfoldable pub negated : Number → Integer
-negated (Number.Value m e) = cond (eqb m 0) Integer.Malformed (Integer.Value (neg_ℤ (pos m)) e)
-negated Number.Malformed = Integer.Malformed
+unfoldable pub negated : Option (ℕ × ℕ) → Option (ℤ × ℕ)
+negated (Some (m, e)) = cond (eqb m 0) None (Some (neg_ℤ (pos m), e))
+negated None = None
 
 -- the number itself, which is not below zero
-unfoldable pub as_integer : Number → Integer
-as_integer (Number.Value m e) = Integer.Value (pos m) e
-as_integer Number.Malformed = Integer.Malformed
+unfoldable pub as_integer : Option (ℕ × ℕ) → Option (ℤ × ℕ)
+as_integer (Some (m, e)) = Some (pos m, e)
+as_integer None = None
 
 -- the signed number of 32 bits that the text s spells from `at` on
-unfoldable pub integer_at : List ℕ → ℕ → Integer
+unfoldable pub integer_at : List ℕ → ℕ → Option (ℤ × ℕ)
 integer_at s at =
     cond (eqb (get_or (drop at s) 0 0) 45) (negated (number_at (2 ^ 31) s (at + 1))) (as_integer (number_at (2 ^ 31 - 1) s at))

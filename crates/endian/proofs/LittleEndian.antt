@@ -1,15 +1,14 @@
--- A number's bytes and the number of bytes are inverse, at every width; both split where the width is a sum.
--- Each law goes by the width or along the bytes: one byte more is a division by 256.
-use mathlib.Core.Path.{◌≡◌, refl, sym, ap}
+-- A number's bytes and the number of bytes are inverse, at every width. So are what the library makes of words and
+-- of bytes. Each law goes by the width or along the bytes: one byte more is a division by 256.
+use mathlib.Core.Path.{◌≡◌, refl, sym, ap, ap₂, ◌∙◌}
 use mathlib.Core.List.{List, [], ◌∷◌, ◌++◌}
-use Prim.Native.Nat.{ℕ, zero, suc, ◌+◌, ◌*◌, ◌/◌, ◌%◌, ◌^◌, ◌<◌, ◌≤◌}
+use Prim.Native.Nat.{ℕ, zero, suc, ◌+◌, ◌-◌, ◌*◌, ◌/◌, ◌%◌, ◌^◌, ◌<◌}
 use native.Mathlib.Omega.{arith}
-use native.Mathlib.Nat.{pow-suc, pow-succ', one-le-pow, div-one, div-lt_iff_lt-mul, div-div-eq-div-mul, zero-add, suc-add}
-use native.Mathlib.Numerals.{add-one}
-use lib.Arith.{mod-mul}
+use native.Mathlib.Nat.{pow-suc, div-one, div-lt_iff_lt-mul, div-div-eq-div-mul}
 use lib.Dec.{lit<}
-use lib.ListN.{length, get_or, take, drop, length-drop}
-use lib.Seq.{drop-cons, drop-drop, take-add, length-take-le, get_or-drop}
+use lib.ListN.{length, get_or, take, drop}
+use lib.Seq.{length-take-le, get_or-drop, take-suc, take_all}
+use Rattle.std.specs.Int.{Width, w8, w16, w32, w64, w128, byte_at, byte_len, byte_worth, bytes_low_first, sum_through, to_le_bytes, from_le_bytes}
 use Rattle.endian.specs.LittleEndian.{little_endian, number_of}
 
 -- numbers that a slice of bytes can hold: each is below 256
@@ -49,45 +48,54 @@ unfolding number_of
 number_of_bound [] h = omega arith
 number_of_bound (b ∷ bytes) h = omega (arith, h 0, pow-suc 256 (length bytes), number_of_bound bytes (λ i. h (suc i)))
 
--- the bytes of a wider word: those of its low part, then those of the rest
-pub little_endian_add :
-    (low high x : ℕ) → little_endian (low + high) x ≡ little_endian low (x % 256 ^ low) ++ little_endian high (x / 256 ^ low)
-unfolding little_endian
-little_endian_add zero high x = rw (zero-add, div-one)
-little_endian_add (suc low) high x =
-    let parts : x % 256 ^ suc low ≡ x / 256 % 256 ^ low * 256 + x % 256 = rw (pow-suc 256 low) (mod-mul x (one-le-pow low 256 (lit< tt)) (lit< tt)) in
-    let first : x % 256 ^ suc low % 256 ≡ x % 256 = omega arith in
-    let rest : x % 256 ^ suc low / 256 ≡ x / 256 % 256 ^ low = omega arith in
-    let above : x / 256 ^ suc low ≡ x / 256 / 256 ^ low = rw (pow-succ' 256 low) (sym (div-div-eq-div-mul x 256 (256 ^ low))) in
-    rw (suc-add, first, rest, above) (ap (λ (l : List ℕ). x % 256 ∷ l) (little_endian_add low high (x / 256)))
-
 -- the number of two runs of bytes
 pub number_of_append : (low high : List ℕ) → number_of (low ++ high) ≡ number_of low + 256 ^ length low * number_of high
 unfolding number_of
 number_of_append [] high = omega arith
 number_of_append (b ∷ low) high = rw (pow-suc 256 (length low)) (omega (arith, number_of_append low high))
 
--- the number of the bytes from a place on, in two parts
-pub number_of_add : (s : List ℕ) (at low high : ℕ) → at + low ≤ length s
-    → number_of (take (low + high) (drop at s)) ≡ number_of (take low (drop at s)) + 256 ^ low * number_of (take high (drop (at + low) s))
-number_of_add s at low high h =
-    let whole : length (take low (drop at s)) ≡ low = length-take-le low (drop at s) (omega (arith, length-drop at s)) in
-    rw (take-add low high (drop at s), number_of_append, whole, drop-drop)
+-- ---- the library's words as bytes, at a width of the machine
 
--- the number of the bytes from a place on: its first byte, and those from the next place on
-pub number_of_next :
-    (s : List ℕ) (i j width : ℕ) → j ≡ i + 1 → i < length s →
-    number_of (take (suc width) (drop i s)) ≡ get_or s i 0 + 256 * number_of (take width (drop j s))
-unfolding number_of
-number_of_next s i j width e h = rw (e, add-one, drop-cons s i 0)
+byte_at_is : (i n : ℕ) → byte_at i n ≡ n / 256 ^ i % 256
+byte_at_is zero n = ap (λ (k : ℕ). k % 256) (sym (div-one n))
+byte_at_is (suc i) n = refl
 
--- the four bytes of a word of 32 bits, by division of the word itself
-pub little_endian_4 : (x : ℕ) → x < 2 ^ 32 → little_endian 4 x ≡ x % 256 ∷ x / 256 % 256 ∷ x / 65536 % 256 ∷ x / 16777216 ∷ []
+bytes_up : (i k n : ℕ) → bytes_low_first i k n ≡ little_endian k (n / 256 ^ i)
 unfolding little_endian
-little_endian_4 x h =
-    let third : x / 256 / 256 ≡ x / 65536 = omega arith in
-    let last : x / 65536 / 256 % 256 ≡ x / 16777216 = omega arith in
-    rw (third, last)
+bytes_up i zero n = refl
+bytes_up i (suc k) n =
+    let above : n / 256 ^ suc i ≡ n / 256 ^ i / 256 = rw (pow-suc 256 i) (sym (div-div-eq-div-mul n (256 ^ i) 256)) in
+    ap₂ (λ (b : ℕ) (l : List ℕ). b ∷ l) (byte_at_is i n) (bytes_up (suc i) k n ∙ ap (little_endian k) above)
+
+-- a word's bytes
+pub to_bytes : (w : Width) (x : ℕ) → to_le_bytes w x ≡ little_endian (byte_len w) x
+to_bytes w x = bytes_up 0 (byte_len w) x ∙ ap (little_endian (byte_len w)) (div-one x)
+
+byte_worth_is : (i b : ℕ) → byte_worth i b ≡ 256 ^ i * b
+byte_worth_is zero b = omega arith
+byte_worth_is (suc i) b = omega arith
+
+number_up : (s : List ℕ) (k : ℕ) → k < length s → sum_through (λ (i : ℕ). byte_worth i (get_or s i 0)) k ≡ number_of (take (suc k) s)
+unfolding number_of
+number_up s zero h = rw (take-suc s 0 0 h) (omega arith)
+number_up s (suc k) h =
+    let whole : length (take (suc k) s) ≡ suc k = length-take-le (suc k) s (omega arith) in
+    let front = number_up s k (omega arith) in
+    let last = byte_worth_is (suc k) (get_or s (suc k) 0) in
+    rw (take-suc s (suc k) 0 h, number_of_append, whole) (omega arith)
+
+-- and a word of bytes
+pub from_bytes : (w : Width) (s : List ℕ) → length s ≡ byte_len w → from_le_bytes w s ≡ number_of s
+from_bytes w s h =
+    let some : byte_len w ≡ suc (byte_len w - 1) = some_bytes w in
+    number_up s (byte_len w - 1) (omega arith) ∙ ap number_of (take_all (suc (byte_len w - 1)) s (omega arith))
+  where
+    some_bytes : (w : Width) → byte_len w ≡ suc (byte_len w - 1)
+    some_bytes w8 = refl
+    some_bytes w16 = refl
+    some_bytes w32 = refl
+    some_bytes w64 = refl
+    some_bytes w128 = refl
 
 -- ---- bytes of a list and of its parts
 

@@ -12,17 +12,14 @@ use lib.Seq.{drop-cons, get_or-drop, drop-append_seam}
 use borrow.Author.Tests.{eq-eqb, eqb-true}
 use mir.Syntax.{w32}
 use mir.Val.{SFits}
+use Rattle.std.specs.Prelude.{Option, Some, None}
 use Rattle.decimal.specs.Decimal.{digits, decimal}
 use Rattle.decimal.specs.Spelled.{is_digit, NoDigit, Ended, number_at, integer_at}
-use Rattle.decimal.specs.declared.Number.{Number}
-use Rattle.decimal.specs.declared.Number.TheVariants as Number
-use Rattle.decimal.specs.declared.Integer.{Integer}
-use Rattle.decimal.specs.declared.Integer.TheVariants as Integer
 use Rattle.decimal.proofs.Numbers.{number_end}
 use Rattle.decimal.proofs.NumberText.{number_sound, number_complete}
 use Rattle.decimal.proofs.Integers.{integer_sound, integer_complete, integer_end}
 use Rattle.fields.specs.Line.{line_of}
-use Rattle.fields.specs.Field.{starts_with, ends_line, number_field, integer_field, with_number, with_integer}
+use Rattle.fields.specs.Field.{starts_with, ends_line, number_field, integer_field, with_field}
 use Rattle.fields.proofs.Keys.{starts_sound, starts_complete}
 use Rattle.fields.proofs.Spells.{Spells, spells_append, spells_rest, spells_front}
 
@@ -55,84 +52,77 @@ module _ {A : Type 0} (key s t : List ℕ) (at : ℕ) (x none z : A) where
       let stands : starts_with key (drop at s) ≡ true = rw p' (starts_complete key (t ++ r)) in
       rw stands (reads (spells_rest s key (t ++ r) at p'))
 
-pub no_number : (v e : ℕ) → Number.Malformed ≡ Number.Value v e → ⊥
-no_number v e q = let z : ◌≡◌ {A = ℕ} 0 1 = cc in omega arith
-
-pub no_integer : (v : ℤ) (e : ℕ) → Integer.Malformed ≡ Integer.Value v e → ⊥
-no_integer v e q = let z : ◌≡◌ {A = ℕ} 0 1 = cc in omega arith
+module _ {V : Type 0} where
+  pub no_field : (v : V) (e : ℕ) → ◌≡◌ {A = Option (V × ℕ)} None (Some (v, e)) → ⊥
+  no_field v e q = cc
 
 behind : (key t : List ℕ) (at : ℕ) → at + length key + length t ≡ at + length (key ++ t)
 behind key t at = omega (arith, length-append key t)
 
 module _ (key s : List ℕ) (most at v : ℕ) (h : most < 2 ^ 64) where
-  pub number_field_sound : (e : ℕ) → number_field key most s at ≡ Number.Value v e → Spells s at (key ++ digits v) e × (v ≤ most)
+  pub number_field_sound : (e : ℕ) → number_field key most s at ≡ Some (v, e) → Spells s at (key ++ digits v) e × (v ≤ most)
   unfolding number_field
   number_field_sound e q =
-      let read = (picked (starts_with key (drop at s)) (number_at most s (at + length key)) Number.Malformed (Number.Value v e) q (no_number v e)).1 in
+      let read = (picked (starts_with key (drop at s)) (number_at most s (at + length key)) None (Some (v, e)) q (no_field v e)).1 in
       let found = number_sound most s (at + length key) v e h in (
-        field_sound key s (digits v) at (number_at most s (at + length key)) Number.Malformed (Number.Value v e) e (λ x. record { text = (found x).0; end = (found x).2 }) (no_number v e) q,
+        field_sound key s (digits v) at (number_at most s (at + length key)) None (Some (v, e)) e (λ x. record { text = (found x).0; end = (found x).2 }) (no_field v e) q,
         (found read).1,
       )
 
   pub number_field_complete :
       {G : Type 0} (r : List ℕ) → v ≤ most → NoDigit r → drop at s ≡ (key ++ digits v) ++ r →
-      ((e : ℕ) → e ≡ at + length (key ++ digits v) → number_field key most s at ≡ Number.Value v e → drop e s ≡ r → G) → G
+      ((e : ℕ) → e ≡ at + length (key ++ digits v) → number_field key most s at ≡ Some (v, e) → drop e s ≡ r → G) → G
   unfolding number_field
   number_field_complete r l n p k =
       let read =
-      field_complete key s (digits v) at (number_at most s (at + length key)) Number.Malformed (Number.Value v (at + length (key ++ digits v))) r
-      (λ found. number_complete most s (at + length key) v r found n l h ∙ ap (Number.Value v) (behind key (digits v) at))
+      field_complete key s (digits v) at (number_at most s (at + length key)) None (Some (v, at + length (key ++ digits v))) r
+      (λ found. number_complete most s (at + length key) v r found n l h ∙ ap (λ (e : ℕ). Some (v, e)) (behind key (digits v) at))
       p in
       k (at + length (key ++ digits v)) refl read (spells_rest s (key ++ digits v) r at p)
 
 module _ (key s : List ℕ) (at : ℕ) (v : ℤ) where
-  pub integer_field_sound : (e : ℕ) → integer_field key s at ≡ Integer.Value v e → Spells s at (key ++ decimal v) e × SFits w32 v
+  pub integer_field_sound : (e : ℕ) → integer_field key s at ≡ Some (v, e) → Spells s at (key ++ decimal v) e × SFits w32 v
   unfolding integer_field
   integer_field_sound e q =
-      let read = (picked (starts_with key (drop at s)) (integer_at s (at + length key)) Integer.Malformed (Integer.Value v e) q (no_integer v e)).1 in
+      let read = (picked (starts_with key (drop at s)) (integer_at s (at + length key)) None (Some (v, e)) q (no_field v e)).1 in
       let found = integer_sound s (at + length key) v e in (
-        field_sound key s (decimal v) at (integer_at s (at + length key)) Integer.Malformed (Integer.Value v e) e (λ x. record { text = (found x).0; end = (found x).2 }) (no_integer v e) q,
+        field_sound key s (decimal v) at (integer_at s (at + length key)) None (Some (v, e)) e (λ x. record { text = (found x).0; end = (found x).2 }) (no_field v e) q,
         (found read).1,
       )
 
   pub integer_field_complete :
       {G : Type 0} (r : List ℕ) → SFits w32 v → NoDigit r → drop at s ≡ (key ++ decimal v) ++ r →
-      ((e : ℕ) → e ≡ at + length (key ++ decimal v) → integer_field key s at ≡ Integer.Value v e → drop e s ≡ r → G) → G
+      ((e : ℕ) → e ≡ at + length (key ++ decimal v) → integer_field key s at ≡ Some (v, e) → drop e s ≡ r → G) → G
   unfolding integer_field
   integer_field_complete r f n p k =
       let read =
-      field_complete key s (decimal v) at (integer_at s (at + length key)) Integer.Malformed (Integer.Value v (at + length (key ++ decimal v))) r
-      (λ found. integer_complete s (at + length key) v r found n f ∙ ap (Integer.Value v) (behind key (decimal v) at))
+      field_complete key s (decimal v) at (integer_at s (at + length key)) None (Some (v, at + length (key ++ decimal v))) r
+      (λ found. integer_complete s (at + length key) v r found n f ∙ ap (λ (e : ℕ). Some (v, e)) (behind key (decimal v) at))
       p in
       k (at + length (key ++ decimal v)) refl read (spells_rest s (key ++ decimal v) r at p)
 
 -- the place behind a field lies within the text
 pub number_field_within :
-    (key : List ℕ) (most : ℕ) (s : List ℕ) (at v e : ℕ) → number_field key most s at ≡ Number.Value v e → e ≤ length s
+    (key : List ℕ) (most : ℕ) (s : List ℕ) (at v e : ℕ) → number_field key most s at ≡ Some (v, e) → e ≤ length s
 unfolding number_field
 number_field_within key most s at v e q =
     number_end most s (at + length key) v e
-    (picked (starts_with key (drop at s)) (number_at most s (at + length key)) Number.Malformed (Number.Value v e) q (no_number v e)).1
+    (picked (starts_with key (drop at s)) (number_at most s (at + length key)) None (Some (v, e)) q (no_field v e)).1
 
 pub integer_field_within :
-    (key s : List ℕ) (at : ℕ) (v : ℤ) (e : ℕ) → integer_field key s at ≡ Integer.Value v e → e ≤ length s
+    (key s : List ℕ) (at : ℕ) (v : ℤ) (e : ℕ) → integer_field key s at ≡ Some (v, e) → e ≤ length s
 unfolding integer_field
 integer_field_within key s at v e q =
     integer_end s (at + length key) v e
-    (picked (starts_with key (drop at s)) (integer_at s (at + length key)) Integer.Malformed (Integer.Value v e) q (no_integer v e)).1
+    (picked (starts_with key (drop at s)) (integer_at s (at + length key)) None (Some (v, e)) q (no_field v e)).1
 
 -- what a chain of fields answers, if it is not `none`, it answers behind a field that was read
-module _ {A G : Type 0} (none x : A) (differs : none ≡ x → ⊥) where
-  pub with_number_lem : (n : Number) (go : ℕ → ℕ → A) → with_number n none go ≡ x → ((v e : ℕ) → n ≡ Number.Value v e → go v e ≡ x → G) → G
-  unfolding with_number
-  with_number_lem (Number.Value v e) go q k = k v e refl q
-  with_number_lem Number.Malformed go q k = absurd (differs q)
-
-  pub with_integer_lem :
-      (n : Integer) (go : ℤ → ℕ → A) → with_integer n none go ≡ x → ((v : ℤ) (e : ℕ) → n ≡ Integer.Value v e → go v e ≡ x → G) → G
-  unfolding with_integer
-  with_integer_lem (Integer.Value v e) go q k = k v e refl q
-  with_integer_lem Integer.Malformed go q k = absurd (differs q)
+module _ {V A G : Type 0} (none x : A) (differs : none ≡ x → ⊥) where
+  pub with_field_lem :
+      (f : Option (V × ℕ)) (go : V → ℕ → A) → with_field f none go ≡ x → ((v : V) (e : ℕ) → f ≡ Some (v, e) → go v e ≡ x → G) → G
+  unfolding with_field
+  with_field_lem (Some (v, e)) go q k = k v e refl q
+  with_field_lem None go q k = absurd (differs q)
 
 -- the end of a line
 pub end_inside : (s : List ℕ) (at : ℕ) → ends_line s at ≡ true → at < length s

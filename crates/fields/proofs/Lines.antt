@@ -1,32 +1,27 @@
 -- Laws on the next line of a text: where a 0A stands, which ends it, and how long it is.
 use mathlib.Core.Path.{◌≡◌, refl, sym, ap, ◌∙◌}
-use mathlib.Core.Bool.{Bool, true, false, cond, ◌||◌, or_assoc, or-false, true≢false}
+use mathlib.Core.Bool.{Bool, true, false, cond, ◌||◌, true≢false}
 use mathlib.Core.List.{List, [], ◌∷◌, ◌++◌}
-use Prim.Native.Nat.{ℕ, suc, ◌+◌, ◌<◌, ◌≤◌}
+use Prim.Native.Nat.{ℕ, zero, suc, ◌+◌, ◌<◌, ◌≤◌}
 use native.Mathlib.Omega.{arith}
 use native.Mathlib.Numerals.{add-one}
 use lib.Dec.{eqb}
-use lib.ListN.{length, get_or, take, drop, length-drop, take-append-drop}
-use lib.Seq.{drop-cons, take-suc, take-add, get_or-drop}
+use lib.ListN.{length, get_or, take, drop, take-append-drop}
+use lib.Seq.{drop-cons, take-suc}
 use Rattle.fields.specs.Line.{next_line, holds_line}
 
--- a 0A is among two runs of bytes if it is among either
-held_either : (a b : List ℕ) → holds_line (a ++ b) ≡ holds_line a || holds_line b
+-- no 0A among the first n bytes, as none of them is one
+pub no_end_before :
+    (s : List ℕ) (n : ℕ) → n ≤ length s → ((k : ℕ) → k < n → eqb (get_or s k 0) 10 ≡ true → ⊥) → holds_line (take n s) ≡ false
 unfolding holds_line
-held_either [] b = refl
-held_either (x ∷ a) b = rw (held_either a b) (sym (or_assoc (eqb x 10) (holds_line a) (holds_line b)))
-
--- one byte more
-pub held_further : (s : List ℕ) (at i : ℕ) → at + i < length s
-    → holds_line (take i (drop at s)) || eqb (get_or s (at + i) 0) 10 ≡ holds_line (take (i + 1) (drop at s))
-unfolding holds_line
-held_further s at i h =
-    let inside : i < length (drop at s) = omega (arith, length-drop at s) in
-    rw (add-one, take-suc (drop at s) i 0 inside, held_either, get_or-drop at s i 0, or-false)
-
--- a block without a 0A
-pub held_block : (s : List ℕ) (at n : ℕ) → holds_line (take n (drop at s)) ≡ false → holds_line (take (at + n) s) ≡ holds_line (take at s)
-held_block s at n none = rw (take-add at n s, held_either, none, or-false)
+no_end_before s zero l h = refl
+no_end_before [] (suc n) l h = refl
+no_end_before (b ∷ s) (suc n) l h =
+    by (eqb b 10) (h 0 (omega arith)) (no_end_before s n (omega arith) (λ k q. h (suc k) (omega arith)))
+  where
+    by : (x : Bool) → (x ≡ true → ⊥) → holds_line (take n s) ≡ false → (x || holds_line (take n s)) ≡ false
+    by true other rest = absurd (other refl)
+    by false other rest = rest
 
 part_turn : (t : Bool) (b : ℕ) (x y : List ℕ) (h : Bool) → (t || h) ≡ false → (h ≡ false → x ≡ y) → cond t (b ∷ []) (b ∷ x) ≡ b ∷ y
 part_turn true b x y h e same = absurd (true≢false e)
@@ -45,11 +40,10 @@ part_line (b ∷ s) h = part_turn (eqb b 10) b (next_line s) s (holds_line s) h 
 
 -- the first 0A ends the line
 pub line_found :
-    (s : List ℕ) (i : ℕ) → i < length s → holds_line (take i s) ≡ false → holds_line (take 1 (drop i s)) ≡ true → take (i + 1) s ≡ next_line s
-unfolding holds_line next_line
-line_found s i h none one =
+    (s : List ℕ) (i : ℕ) → i < length s → holds_line (take i s) ≡ false → eqb (get_or s i 0) 10 ≡ true → take (i + 1) s ≡ next_line s
+unfolding next_line
+line_found s i h none byte =
     let parts : next_line s ≡ take i s ++ next_line (drop i s) = ap next_line (sym (take-append-drop i s)) ∙ part_append (take i s) (drop i s) none in
-    let byte : eqb (get_or s i 0) 10 ≡ true = rw (drop-cons s i 0 h, or-false) at one in
     rw (add-one, take-suc s i 0 h) (sym (rw (drop-cons s i 0 h, byte) at parts))
 
 some_within :

@@ -1,9 +1,5 @@
 -- One field read from a place on: its key with what stands before it, then its number.
-use Rattle.std.specs.Prelude.{ℕ, ◌+◌, Bool, true, false, cond, ◌&&◌, List, [], ◌∷◌, ◌++◌, eqb, ℤ, length, get_or, drop}
-use Rattle.decimal.specs.declared.Number.{Number}
-use Rattle.decimal.specs.declared.Number.TheVariants as Number
-use Rattle.decimal.specs.declared.Integer.{Integer}
-use Rattle.decimal.specs.declared.Integer.TheVariants as Integer
+use Rattle.std.specs.Prelude.{ℕ, ◌+◌, Bool, true, false, cond, ◌&&◌, List, [], ◌∷◌, ◌++◌, Option, Some, None, eqb, ℤ, length, get_or, drop}
 use Rattle.decimal.specs.Spelled.{number_at, integer_at}
 
 -- a key with its `=`: the first field's, and a later one's, behind the space before it
@@ -24,21 +20,14 @@ unfoldable pub ends_line : List ℕ → ℕ → Bool
 ends_line s at = eqb (get_or s at 0) 10
 
 -- the unsigned number, of at most `most`, of the field that s has from `at` on
-unfoldable pub number_field : List ℕ → ℕ → List ℕ → ℕ → Number
-number_field key most s at =
-    cond (starts_with key (drop at s)) (number_at most s (at + length key)) Number.Malformed
+unfoldable pub number_field : List ℕ → ℕ → List ℕ → ℕ → Option (ℕ × ℕ)
+number_field key most s at = cond (starts_with key (drop at s)) (number_at most s (at + length key)) None
 
 -- the signed number of the field that s has from `at` on
-unfoldable pub integer_field : List ℕ → List ℕ → ℕ → Integer
-integer_field key s at =
-    cond (starts_with key (drop at s)) (integer_at s (at + length key)) Integer.Malformed
+unfoldable pub integer_field : List ℕ → List ℕ → ℕ → Option (ℤ × ℕ)
+integer_field key s at = cond (starts_with key (drop at s)) (integer_at s (at + length key)) None
 
--- with the number that was read and the place behind it, go on; else `none`
-module _ {A : Type 0} where
-  unfoldable pub with_number : Number → A → (ℕ → ℕ → A) → A
-  with_number (Number.Value v e) none go = go v e
-  with_number Number.Malformed none go = none
-
-  unfoldable pub with_integer : Integer → A → (ℤ → ℕ → A) → A
-  with_integer (Integer.Value z e) none go = go z e
-  with_integer Integer.Malformed none go = none
+-- with the value that was read and the place behind it, go on; else `none`
+unfoldable pub with_field : {V A : Type 0} → Option (V × ℕ) → A → (V → ℕ → A) → A
+with_field (Some (v, e)) none go = go v e
+with_field None none go = none

@@ -1,142 +1,126 @@
 // Lines of text: the next line of a text, and keyed fields, read and written.
 #![tactic(auto)]
 
-ghost use Rattle.std.specs.Prelude.{◌≡◌, true, [], ◌∷◌, ◌++◌, ◌+◌, ◌-◌, ◌<◌, ◌≤◌, pos, length, take, drop};
+ghost use Rattle.std.specs.Prelude.{◌≡◌, true, [], ◌∷◌, ◌++◌, ◌+◌, ◌-◌, ◌<◌, ◌≤◌, ℤ, pos, length, take, drop};
 ghost use Rattle.area.specs.Laid.{laid};
 ghost use Rattle.decimal.specs.Decimal.{decimal};
-ghost use Rattle.decimal.specs.Spelled.{Ended, widened};
+ghost use Rattle.decimal.specs.Spelled.{Ended};
 ghost use Rattle.fields.specs.Line.{holds_line, next_line};
 ghost use Rattle.fields.specs.Field.{starts_with, ends_line, number_field, integer_field};
-
-use decimal::{Integer, Number, WideNumber};
-
-// What a writer of text into a lent area answers: the text's length, or why nothing was written.
-#[derive(Clone, Copy)]
-pub enum Written {
-    Text(usize),
-    ShortArea,
-    Malformed,
-}
-
-// A 0A is looked for by these blocks of bytes while it is far and once it is near, and byte by byte at the end.
-const FAR: usize = 16;
-
-const NEAR: usize = 8;
-
-// Whether 0A is among the n bytes from `at` on. Without an early end, so that they are looked at side by side.
-fn holds_end(s: &[u8], at: usize, n: usize) -> bool
-    requires { at + n ≤ length s.now }
-    ensures { result ≡ holds_line (take n (drop at s.now)) }
-{
-    let mut found = false;
-    let mut i = 0;
-    while i < n {
-        found = found | (s[at + i] == 10);
-        i += 1;
-    }
-    found
-}
-
-// Passes whole blocks of n bytes without a 0A, from `from` on: to the first with one, or to where less than a block is left.
-fn pass_blocks(s: &[u8], from: usize, n: usize) -> usize
-    requires { (0 < n) × (from ≤ length s.now) }
-    ensures upper_bound { result ≤ length s.now }
-    ensures s_value { holds_line (take result s.now) ≡ holds_line (take from s.now) }
-    ensures s_value_2 { result + n ≤ length s.now → holds_line (take n (drop result s.now)) ≡ true }
-{
-    let mut at = from;
-    while n <= s.len() - at {
-        if holds_end(s, at, n) {
-            return at;
-        }
-        at += n;
-    }
-    at
-}
 
 // A text's first line with its 0A, as a part of that text; a text without a 0A is one line.
 pub fn next_line(s: &[u8]) -> &[u8]
     ensures result_value { result.now ≡ next_line s.now }
     ensures ref_ptr_value { result.ref_ptr ≡ s.entry.ref_ptr }
 {
-    let far = pass_blocks(s, 0, FAR);
-    let near = pass_blocks(s, far, NEAR);
-    let at = pass_blocks(s, near, 1);
-    if at < s.len() { &s[..at + 1] } else { s }
+    match memchr::memchr(b'\n', s) {
+        Some(at) => &s[..at + 1],
+        None => s,
+    }
 }
 
-// Whether a text begins with the bytes of a key from `at` on: the first four as one word, the others one by one.
+// Whether a text begins with the bytes of a key from `at` on.
 pub fn has_key(s: &[u8], at: usize, key: &[u8]) -> bool
-    requires { (at ≤ length s.now) × (4 ≤ length key.now) }
+    requires { at ≤ length s.now }
     ensures { result ≡ starts_with key.now (drop at s.now) }
 {
-    if s.len() - at < key.len() {
-        return false;
-    }
-    if endian::get4(s, at) != endian::get4(key, 0) {
-        return false;
-    }
-    let mut i = 4;
-    while i < key.len() {
-        if s[at + i] != key[i] {
-            return false;
-        }
-        i += 1;
-    }
-    true
+    key.len() <= s.len() - at && key == &s[at..at + key.len()]
 }
 
 // Whether 0A stands at a place, which ends the line.
+#[tactic(auto, unfolding(crate::specs::Field::ends_line))]
 pub fn ends_line(s: &[u8], at: usize) -> bool
     ensures { result ≡ ends_line s.now at }
 {
-    if at < s.len() { s[at] == 10 } else { false }
+    at < s.len() && s[at] == b'\n'
 }
 
 // Whether a text ends with 0A.
+#[tactic(auto, unfolding(crate::specs::Field::ends_line))]
 pub fn is_line(s: &[u8]) -> bool
     ensures { result ≡ ends_line s.now (length s.now - 1) }
 {
-    if s.len() > 0 {
-        s[s.len() - 1] == 10
-    } else {
-        false
-    }
+    !s.is_empty() && s[s.len() - 1] == b'\n'
 }
 
-// The unsigned number, of at most `most`, of the field that the text has from `at` on.
-pub fn number_field(s: &[u8], at: usize, key: &[u8], most: u32) -> Number
-    requires { (at ≤ length s.now) × (4 ≤ length key.now) × Ended s.now }
+// Three readers of a field and not one: each has its reader of decimal, which ask for different things.
+
+// The unsigned number, of at most `most`, of the field that the text has from `at` on, and the place behind it.
+#[tactic(auto, unfolding(crate::specs::Field::number_field))]
+pub fn number_field(s: &[u8], at: usize, key: &[u8], most: u32) -> Option<(u32, usize)>
+    requires { (at ≤ length s.now) × Ended s.now }
     ensures { result ≡ number_field key.now most s.now at }
 {
     if has_key(s, at, key) {
         decimal::read_number(s, at + key.len(), most)
     } else {
-        Number::Malformed
+        None
     }
 }
 
-// The unsigned number of 64 bits, of at most `most`, of the field that the text has from `at` on.
-pub fn wide_field(s: &[u8], at: usize, key: &[u8], most: u64) -> WideNumber
-    requires { (at ≤ length s.now) × (4 ≤ length key.now) }
-    ensures { result ≡ widened (number_field key.now most s.now at) }
+// The unsigned number of 64 bits, of at most `most`, of the field that the text has from `at` on, and the place behind it.
+#[tactic(auto, unfolding(crate::specs::Field::number_field))]
+pub fn wide_field(s: &[u8], at: usize, key: &[u8], most: u64) -> Option<(u64, usize)>
+    requires { at ≤ length s.now }
+    ensures { result ≡ number_field key.now most s.now at }
 {
     if has_key(s, at, key) {
         decimal::read_wide(s, at + key.len(), most)
     } else {
-        WideNumber::Malformed
+        None
     }
 }
 
-// The signed number of the field that the text has from `at` on.
-pub fn integer_field(s: &[u8], at: usize, key: &[u8]) -> Integer
-    requires { (at ≤ length s.now) × (4 ≤ length key.now) × Ended s.now }
+// The signed number of the field that the text has from `at` on, and the place behind it.
+#[tactic(auto, unfolding(crate::specs::Field::integer_field))]
+pub fn integer_field(s: &[u8], at: usize, key: &[u8]) -> Option<(i32, usize)>
+    requires { (at ≤ length s.now) × Ended s.now }
     ensures { result ≡ integer_field key.now s.now at }
 {
     if has_key(s, at, key) {
         decimal::read_integer(s, at + key.len())
     } else {
-        Integer::Malformed
+        None
+    }
+}
+
+// A whole number of any of the widths that lines hold.
+pub trait Whole: Copy {
+    ghost whole: { Self → ℤ };
+
+    fn widen(self) -> i64
+        ensures { result ≡ whole self };
+}
+
+impl Whole for u8 {
+    ghost whole = { pos };
+
+    fn widen(self) -> i64 {
+        i64::from(self)
+    }
+}
+
+impl Whole for u32 {
+    ghost whole = { pos };
+
+    fn widen(self) -> i64 {
+        i64::from(self)
+    }
+}
+
+impl Whole for i32 {
+    ghost whole = { λ z. z };
+
+    fn widen(self) -> i64 {
+        i64::from(self)
+    }
+}
+
+impl Whole for i64 {
+    ghost whole = { λ z. z };
+
+    fn widen(self) -> i64 {
+        self
     }
 }
 
@@ -153,32 +137,14 @@ pub fn put_letter(out: &mut [u8], at: usize, key: &[u8], letter: u8) -> usize
     place + 1
 }
 
-// A signed number of 64 bits.
-pub fn put_i64(out: &mut [u8], at: usize, key: &[u8], value: i64) -> usize
-    requires { at + length (key.now ++ decimal value) ≤ length out.old }
-    ensures value { result ≡ at + length (key.now ++ decimal value) }
-    ensures out_after { out.new ≡ laid out.old at (key.now ++ decimal value) }
+// A whole number.
+pub fn put_number<V: Whole>(out: &mut [u8], at: usize, key: &[u8], value: V) -> usize
+    requires { at + length (key.now ++ decimal (V.whole value)) ≤ length out.old }
+    ensures value { result ≡ at + length (key.now ++ decimal (V.whole value)) }
+    ensures out_after { out.new ≡ laid out.old at (key.now ++ decimal (V.whole value)) }
 {
     let place = area::put_bytes(out, at, key);
-    decimal::put_decimal(out, place, value)
-}
-
-// A signed number of 32 bits.
-pub fn put_i32(out: &mut [u8], at: usize, key: &[u8], value: i32) -> usize
-    requires { at + length (key.now ++ decimal value) ≤ length out.old }
-    ensures value { result ≡ at + length (key.now ++ decimal value) }
-    ensures out_after { out.new ≡ laid out.old at (key.now ++ decimal value) }
-{
-    put_i64(out, at, key, value as i64)
-}
-
-// An unsigned number of 32 bits.
-pub fn put_u32(out: &mut [u8], at: usize, key: &[u8], value: u32) -> usize
-    requires { at + length (key.now ++ decimal (pos value)) ≤ length out.old }
-    ensures value { result ≡ at + length (key.now ++ decimal (pos value)) }
-    ensures out_after { out.new ≡ laid out.old at (key.now ++ decimal (pos value)) }
-{
-    put_i64(out, at, key, value as i64)
+    decimal::put_decimal(out, place, value.widen())
 }
 
 // The last field of a line, a signed number of 32 bits, with the 0A behind it.
@@ -187,7 +153,7 @@ pub fn put_last(out: &mut [u8], at: usize, key: &[u8], value: i32) -> usize
     ensures value { result ≡ at + length (key.now ++ (decimal value ++ 10 ∷ [])) }
     ensures out_after { out.new ≡ laid out.old at (key.now ++ (decimal value ++ 10 ∷ [])) }
 {
-    let end = put_i32(out, at, key, value);
-    out[end] = 10;
+    let end = put_number(out, at, key, value);
+    out[end] = b'\n';
     end + 1
 }

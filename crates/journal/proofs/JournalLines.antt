@@ -7,18 +7,18 @@ use Prim.Native.Nat.{ℕ, ◌+◌, ◌-◌, ◌<◌, ◌^◌}
 use native.Mathlib.Omega.{arith}
 use lib.IntN.{pos}
 use lib.ListN.{length, drop, length-append}
+use Rattle.std.specs.Prelude.{Option, Some, None}
 use Rattle.decimal.specs.Decimal.{digits, decimal}
 use Rattle.decimal.specs.Spelled.{is_digit}
 use Rattle.fields.specs.Line.{field, line_of}
-use Rattle.fields.specs.Field.{ends_line, with_number, with_integer, first, later}
+use Rattle.fields.specs.Field.{ends_line, with_field, first, later}
 use Rattle.fields.proofs.Spells.{Spells, spells_append}
-use Rattle.fields.proofs.Fields.{picked, number_field_sound, number_field_complete, integer_field_sound, integer_field_complete, with_number_lem, with_integer_lem, end_sound, end_complete}
+use Rattle.fields.proofs.Fields.{picked, number_field_sound, number_field_complete, integer_field_sound, integer_field_complete, with_field_lem, end_sound, end_complete}
 use Rattle.fields.specs.Keys.{now_key, line_key, kind_key, id_key, time_key, meter_key, value_key}
 use Rattle.journal.specs.JournalLine.{line_text, CallFits}
 use Rattle.journal.specs.ReadLine.{call_at}
 use Rattle.journal.specs.JournalParts.{call_head, call_tail}
 use Rattle.journal.specs.declared.Call.{Call}
-use Rattle.journal.specs.declared.CallAt.{CallAt}
 use Rattle.journal.proofs.Letters.{letter_field_sound, letter_field_complete}
 
 -- the line as its two parts
@@ -32,28 +32,25 @@ text_parts c =
       append_assoc (decimal (pos c.line)) kind (call_tail c),
     )
 
-none : (c : Call) (e : ℕ) → CallAt.Malformed ≡ CallAt.Line c e → ⊥
-none c e q = let z : ◌≡◌ {A = ℕ} 0 1 = cc in omega arith
-
 -- what is claimed of an answer that is a line
-abbrev Claim : List ℕ → ℕ → CallAt → Type 0
-Claim s at (CallAt.Line c f) = Spells s at (line_text c) f × CallFits c
-Claim s at CallAt.Malformed = Unit {0}
+abbrev Claim : List ℕ → ℕ → Option (Call × ℕ) → Type 0
+Claim s at (Some (c, f)) = Spells s at (line_text c) f × CallFits c
+Claim s at None = Unit {0}
 
 -- what is read is what the text spells
-pub call_sound : (s : List ℕ) (at f : ℕ) (c : Call) → call_at s at ≡ CallAt.Line c f → Spells s at (line_text c) f × CallFits c
+pub call_sound : (s : List ℕ) (at f : ℕ) (c : Call) → call_at s at ≡ Some (c, f) → Spells s at (line_text c) f × CallFits c
 unfolding call_at call_head call_tail decimal
 call_sound s at f c q =
-    let z = CallAt.Malformed in
-    let y = CallAt.Line c f in
-    let no = none c f in
-    with_number_lem z y no _ _ q λ now e1 q1 g1.
-    with_number_lem z y no _ _ g1 λ line e2 q2 g2.
-    with_number_lem z y no _ _ g2 λ kind e3 q3 g3.
-    with_number_lem z y no _ _ g3 λ id e4 q4 g4.
-    with_number_lem z y no _ _ g4 λ time e5 q5 g5.
-    with_number_lem z y no _ _ g5 λ meter e6 q6 g6.
-    with_integer_lem z y no _ _ g6 λ value e7 q7 g7.
+    let z : Option (Call × ℕ) = None in
+    let y : Option (Call × ℕ) = Some (c, f) in
+    let no : z ≡ y → ⊥ = λ e. cc in
+    with_field_lem z y no _ _ q λ now e1 q1 g1.
+    with_field_lem z y no _ _ g1 λ line e2 q2 g2.
+    with_field_lem z y no _ _ g2 λ kind e3 q3 g3.
+    with_field_lem z y no _ _ g3 λ id e4 q4 g4.
+    with_field_lem z y no _ _ g4 λ time e5 q5 g5.
+    with_field_lem z y no _ _ g5 λ meter e6 q6 g6.
+    with_field_lem z y no _ _ g6 λ value e7 q7 g7.
     let read : Call =
     record {
       now = record { 0 = now };
@@ -64,7 +61,7 @@ call_sound s at f c q =
       kind = kind;
       meter = meter;
     } in
-    let p = picked (ends_line s e7) (CallAt.Line read (e7 + 1)) z y g7 no in
+    let p = picked {A = Option (Call × ℕ)} (ends_line s e7) (Some (read, e7 + 1)) z y g7 no in
     let f1 = number_field_sound (first now_key) s (2 ^ 32 - 1) at now (omega arith) e1 q1 in
     let f2 = number_field_sound (later line_key) s 255 e1 line (omega arith) e2 q2 in
     let f3 = letter_field_sound (later kind_key) s e2 kind e3 q3 in
@@ -90,8 +87,8 @@ call_sound s at f c q =
 
 -- what the text spells is read
 pub call_complete :
-    (s r : List ℕ) (at : ℕ) (c : Call) → CallFits c → drop at s ≡ line_text c ++ r → call_at s at ≡ CallAt.Line c (at + length (line_text c))
-unfolding call_at call_head call_tail decimal with_number with_integer is_digit
+    (s r : List ℕ) (at : ℕ) (c : Call) → CallFits c → drop at s ≡ line_text c ++ r → call_at s at ≡ Some (c, at + length (line_text c))
+unfolding call_at call_head call_tail decimal with_field is_digit
 call_complete s r at c fit p =
     let most : 2 ^ 32 - 1 < 2 ^ 64 = omega arith in
     let byte : 255 < 2 ^ 64 = omega arith in
@@ -107,4 +104,4 @@ call_complete s r at c fit p =
     let size : length (line_text c) ≡ length (call_head c ++ call_tail c) = ap length (text_parts c) in
     let end : e7 + 1 ≡ at + length (line_text c) = omega (arith, simp length-append at size) in
     let ended : ends_line s e7 ≡ true = end_complete s r e7 p7 in
-    rw (q1, q2, q3, q4, q5, q6, q7, ended) (ap (CallAt.Line c) end)
+    rw (q1, q2, q3, q4, q5, q6, q7, ended) (ap (λ (n : ℕ). Some (c, n)) end)

@@ -1,5 +1,5 @@
 -- The journal line: its text, and that a text is read exactly (document 01, sections 'Clocks, lines and readings' and 'Refusal by whom').
-use Rattle.std.specs.Prelude.{◌≡◌, ℕ, ◌<◌, ◌^◌, Bool, true, List, [], ◌∷◌, eqb, pos}
+use Rattle.std.specs.Prelude.{◌≡◌, ℕ, ◌<◌, ◌^◌, Bool, true, List, [], ◌∷◌, eqb, pos, Option, Some, None}
 use Rattle.std.specs.Int.{w32}
 use Rattle.std.proofs.Common.{SFits}
 use Rattle.answer.specs.Numbers as Answer
@@ -9,7 +9,6 @@ use Rattle.fields.specs.Keys.{now_key, line_key, kind_key, id_key, time_key, met
 use Rattle.journal.specs.Kinds.{is_letter}
 use Rattle.journal.specs.ReadLine.{call_of}
 use Rattle.journal.specs.declared.Call.{Call}
-use Rattle.journal.specs.declared.CallRead.{CallRead}
 
 -- the line of a call
 unfoldable pub line_text : Call → List ℕ
@@ -34,15 +33,15 @@ pub record CallFits (c : Call) : Type 0 where
   pub value : SFits w32 c.value
 
 -- document 01's number of the answer
-unfoldable pub call_answer : CallRead → ℕ
-call_answer (CallRead.Accepted c) = Answer.accepted
-call_answer CallRead.Malformed = Answer.malformed
+unfoldable pub call_answer : Option Call → ℕ
+call_answer (Some c) = Answer.accepted
+call_answer None = Answer.malformed
 
 -- whether a text has the form
 unfoldable pub has_form : List ℕ → Bool
 has_form text = eqb (call_answer (call_of text)) 0
 
 -- an answer is exact: a text that is the line of a call is read as that call, and every other text gets 6
-pub record ExactCall (text : List ℕ) (answer : CallRead) : Type 0 where
-  pub line : (c : Call) → CallFits c → text ≡ line_text c → answer ≡ CallRead.Accepted c
+pub record ExactCall (text : List ℕ) (answer : Option Call) : Type 0 where
+  pub line : (c : Call) → CallFits c → text ≡ line_text c → answer ≡ Some c
   pub only : (call_answer answer ≡ Answer.malformed → ⊥) → (c : Call) × CallFits c × (text ≡ line_text c)

@@ -1,6 +1,6 @@
 -- Definitions on the journal line.
 pub mod Kinds
-pub mod NumberParts
 pub mod ReadLine
+pub mod FieldParts
 pub mod JournalLine
 pub mod JournalParts

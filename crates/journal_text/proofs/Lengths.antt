@@ -1,7 +1,6 @@
 -- The longest journal line of the form, and that its length is reached.
 use mathlib.Core.Path.{◌≡◌, refl, ap}
-use mathlib.Core.List.{[], ◌∷◌}
-use Prim.Native.Nat.{◌-◌, ◌≤◌, ◌^◌}
+use Prim.Native.Nat.{◌+◌, ◌-◌, ◌≤◌, ◌^◌}
 use native.Mathlib.Omega.{arith}
 use lib.IntN.{negsuc}
 use lib.ListN.{length, length-append}
@@ -12,18 +11,15 @@ use Rattle.journal_text.specs.Sizes.{longest_journal_line}
 use Rattle.journal.specs.JournalLine.{line_text, CallFits}
 use Rattle.journal.specs.JournalParts.{call_head, call_tail}
 use Rattle.journal.specs.declared.Call.{Call}
-use Rattle.journal_text.proofs.CallParts.{length_head, length_tail}
 use Rattle.journal.proofs.JournalLines.{text_parts}
 
 pub journal_line_short : (c : Call) → CallFits c → length (line_text c) ≤ longest_journal_line
+unfolding call_head call_tail
 journal_line_short c fit =
+    let size = simp length-append at (ap length (text_parts c)) in
     omega (
       arith,
-      ap length (text_parts c),
-      length-append (call_head c) (call_tail c),
-      length_head c,
-      length_tail c,
-      length-append (decimal c.value) (10 ∷ []),
+      size,
       unsigned32_short c.now.0 fit.now,
       unsigned8_short c.line fit.line,
       unsigned32_short c.id fit.id,
@@ -31,6 +27,10 @@ journal_line_short c fit =
       unsigned8_short c.meter fit.meter,
       decimal32_short c.value fit.value,
     )
+
+-- so its two parts behind each other have room where the longest line has
+pub parts_short : (c : Call) → CallFits c → length (call_head c) + length (call_tail c) ≤ longest_journal_line
+parts_short c fit = omega (arith, journal_line_short c fit, ap length (text_parts c), length-append (call_head c) (call_tail c))
 
 abbrev pub longest_call : Call
 longest_call =

@@ -1,5 +1,4 @@
 -- Laws on the text of a journal line.
-pub mod CallParts
 pub mod Lengths
 pub mod Answers
 pub mod ReadsBack

@@ -9,21 +9,21 @@ use native.Mathlib.Omega.{arith}
 use lib.Count.{count_trailing_zeros}
 use lib.ListN.{length, get_or}
 use Rattle.signed.proofs.Comparing.{lt_or_le}
-use Rattle.marks.specs.declared.NextMark.{NextMark}
+use Rattle.std.proofs.Common.{Option, Some, None}
 use Rattle.marks.specs.Words.{word_bits}
 use Rattle.marks.specs.Marks.{is_marked, first_marked, next_marked}
 use Rattle.marks.specs.Next.{SmallestMarked, NoneMarked, IsNext}
 use Rattle.marks.proofs.Places.{rest, unmarked_behind, word_none, word_next}
 
 -- what an answer claims
-abbrev Claim : List ℕ → ℕ → NextMark → Type 0
-Claim words from (NextMark.At i) = SmallestMarked words from i
-Claim words from NextMark.Nothing = NoneMarked words from
+abbrev Claim : List ℕ → ℕ → Option ℕ → Type 0
+Claim words from (Some i) = SmallestMarked words from i
+Claim words from None = NoneMarked words from
 
 module _ (words : List ℕ) where
   -- ---- a step of the definition
 
-  next_here : (from : ℕ) → from < word_bits * length words → is_marked words from ≡ true → next_marked words from ≡ NextMark.At from
+  next_here : (from : ℕ) → from < word_bits * length words → is_marked words from ≡ true → next_marked words from ≡ Some from
   unfolding next_marked first_marked
   next_here from h e =
       let one : word_bits * length words - from ≡ suc (word_bits * length words - suc from) = omega arith in
@@ -36,7 +36,7 @@ module _ (words : List ℕ) where
       let one : word_bits * length words - from ≡ suc (word_bits * length words - suc from) = omega arith in
       rw one (rw e)
 
-  pub next_behind : (from : ℕ) → word_bits * length words ≤ from → next_marked words from ≡ NextMark.Nothing
+  pub next_behind : (from : ℕ) → word_bits * length words ≤ from → next_marked words from ≡ None
   unfolding next_marked first_marked
   next_behind from h =
       let none : word_bits * length words - from ≡ 0 = omega arith in
@@ -47,14 +47,14 @@ module _ (words : List ℕ) where
   earlier : (from k : ℕ) → from ≤ k → is_marked words from ≡ false → (suc from ≤ k → is_marked words k ≡ false) → is_marked words k ≡ false
   earlier from k h e later = ⊎_elim later (λ g. let q : k ≡ from = omega arith in rw q e) (lt_or_le from k)
 
-  claim_earlier : (from : ℕ) (r : NextMark) → is_marked words from ≡ false → Claim words (suc from) r → Claim words from r
-  claim_earlier from (NextMark.At i) e c =
+  claim_earlier : (from : ℕ) (r : Option ℕ) → is_marked words from ≡ false → Claim words (suc from) r → Claim words from r
+  claim_earlier from (Some i) e c =
       record {
         above = omega (arith, c.above);
         marked = c.marked;
         smallest = λ k p q. earlier from k p e (λ s. c.smallest k s q);
       }
-  claim_earlier from NextMark.Nothing e c = λ k p. earlier from k p e (c k)
+  claim_earlier from None e c = λ k p. earlier from k p e (c k)
 
   claim_here : (from : ℕ) (b : Bool) → from < word_bits * length words → is_marked words from ≡ b
       → Claim words (suc from) (next_marked words (suc from)) → Claim words from (next_marked words from)
@@ -74,21 +74,21 @@ module _ (words : List ℕ) where
       (claim_end from)
       (lt_or_le from (word_bits * length words))
 
-  only_at : (from i : ℕ) (r : NextMark) → Claim words from r → SmallestMarked words from i → r ≡ NextMark.At i
-  only_at from i (NextMark.At j) c g =
+  only_at : (from i : ℕ) (r : Option ℕ) → Claim words from r → SmallestMarked words from i → r ≡ Some i
+  only_at from i (Some j) c g =
       ⊎_elim
       (λ l. absurd (true≢false (sym c.marked ∙ g.smallest j c.above l)))
       (λ l.
       ⊎_elim
       (λ k. absurd (true≢false (sym g.marked ∙ c.smallest i g.above k)))
-      (λ k. let e : j ≡ i = omega arith in ap NextMark.At e)
+      (λ k. let e : j ≡ i = omega arith in ap Some e)
       (lt_or_le i j))
       (lt_or_le j i)
-  only_at from i NextMark.Nothing c g = absurd (true≢false (sym g.marked ∙ c i g.above))
+  only_at from i None c g = absurd (true≢false (sym g.marked ∙ c i g.above))
 
-  only_nothing : (from : ℕ) (r : NextMark) → Claim words from r → NoneMarked words from → r ≡ NextMark.Nothing
-  only_nothing from (NextMark.At j) c g = absurd (true≢false (sym c.marked ∙ g j c.above))
-  only_nothing from NextMark.Nothing c g = refl
+  only_nothing : (from : ℕ) (r : Option ℕ) → Claim words from r → NoneMarked words from → r ≡ None
+  only_nothing from (Some j) c g = absurd (true≢false (sym c.marked ∙ g j c.above))
+  only_nothing from None c g = refl
 
   its_claim : (from : ℕ) → Claim words from (next_marked words from)
   its_claim from = claims (word_bits * length words) from (omega arith)
@@ -124,9 +124,9 @@ module _ (words : List ℕ) where
 
   -- where something is left, the place is found
   pub next_in_word : (from : ℕ) → get_or words (from / word_bits) 0 < 2 ^ word_bits → 0 < rest words from
-      → next_marked words from ≡ NextMark.At (from + count_trailing_zeros word_bits (rest words from))
+      → next_marked words from ≡ Some (from + count_trailing_zeros word_bits (rest words from))
   next_in_word from fits some = ((next_is_next from).one (from + count_trailing_zeros word_bits (rest words from))).1 (word_next words from fits some)
 
   -- an answer that meets the equation is also the one that the sentence asks for
-  pub next_answered : (from : ℕ) {r : NextMark} → r ≡ next_marked words from → (r ≡ next_marked words from) × IsNext words from r
+  pub next_answered : (from : ℕ) {r : Option ℕ} → r ≡ next_marked words from → (r ≡ next_marked words from) × IsNext words from r
   next_answered from e = (e, subst (IsNext words from) (sym e) (next_is_next from))

@@ -6,10 +6,11 @@ use mathlib.Core.Bool.{Bool, true, false, cond}
 use mathlib.Core.List.{List, [], ◌∷◌, ◌++◌, map}
 use mathlib.Core.Logic.{⊎_elim}
 use native.Mathlib.Omega.{arith}
-use native.Mathlib.Nat.{pow-suc, add-zero, lt_of_lt_of_le}
+use native.Mathlib.Nat.{pow-suc, add_comm, lt_of_lt_of_le}
 use lib.Dec.{ltb}
 use lib.ListN.{length, get_or, take, drop, set, length-take, length-drop, length-map, drop_of_length-le, get_or-eq_default, get_or-map}
 use lib.Pow.{pow_mono}
+use mir.Val.{bool_byte}
 use lib.Seq.{drop-cons, drop-drop, get_or-take, get_or-drop, take-suc, take-suc-set, take_all}
 use Rattle.signed.proofs.Comparing.{lt_or_le}
 use Rattle.marks.specs.Words.{word_bits, word_of, words_of}
@@ -127,6 +128,15 @@ marked_count_of n bs h =
 abbrev pub tests : List ℕ → ℕ → ℕ → List Bool
 tests counts from i = take (word_bits - i) (drop (from + i) (map (ltb 0) counts))
 
+-- a test as a bit
+bit_counted : (b : Bool) → bool_byte b ≡ cond b 1 0
+bit_counted true = refl
+bit_counted false = refl
+
+pub bit_small : (b : Bool) → bool_byte b ≤ 1
+bit_small true = omega arith
+bit_small false = omega arith
+
 module _ (counts : List ℕ) (from i w : ℕ) (packed : w ≡ word_of (tests counts from i)) (some : 0 < i) where
   -- there is room for a bit more
   pub packed_room : w < 2 ^ 63
@@ -135,24 +145,18 @@ module _ (counts : List ℕ) (from i w : ℕ) (packed : w ≡ word_of (tests cou
       rw packed (lt_of_lt_of_le (word_room (word_bits - i) (drop (from + i) (map (ltb 0) counts))) (pow_mono short))
 
   -- and it is the test of the count at its place
-  pub packed_more : (b : Bool) → i ≤ word_bits → from + i ≤ length counts → ltb 0 (get_or counts (from + (i - 1)) 0) ≡ b
-      → cond b 1 0 + 2 * w ≡ word_of (tests counts from (i - 1))
-  packed_more b h g e =
+  pub packed_more : (bit : ℕ) → bit ≡ bool_byte (ltb 0 (get_or counts (from + (i - 1)) 0)) → i ≤ word_bits → from + i ≤ length counts
+      → 2 * w + bit ≡ word_of (tests counts from (i - 1))
+  packed_more bit e h g =
       let more : suc (word_bits - i) ≡ word_bits - (i - 1) = omega arith in
       let next : from + i ≡ suc (from + (i - 1)) = omega arith in
       let inside : from + (i - 1) < length (map (ltb 0) counts) = rw (length-map counts (ltb 0)) (omega arith) in
-      ap₂ (λ (t : Bool) (n : ℕ). cond t 1 0 + 2 * n)
-      (sym (get_or-map (ltb 0) counts (from + (i - 1)) 0 ∙ e))
+      add_comm (2 * w) bit ∙
+      ap₂ (λ (t n : ℕ). t + 2 * n)
+      (e ∙ bit_counted (ltb 0 (get_or counts (from + (i - 1)) 0)) ∙ ap (λ (t : Bool). cond t 1 0) (sym (get_or-map (ltb 0) counts (from + (i - 1)) 0)))
       (packed ∙ ap (λ (k : ℕ). word_of (take (word_bits - i) (drop k (map (ltb 0) counts)))) next) ∙
       sym (word_down (map (ltb 0) counts) (from + (i - 1)) (word_bits - i) inside) ∙
       ap (λ (n : ℕ). word_of (take n (drop (from + (i - 1)) (map (ltb 0) counts)))) more
-
--- down to the first place
-pub packed_all : (counts : List ℕ) (from i : ℕ) → i ≡ 0
-    → word_of (tests counts from i) ≡ word_of (take word_bits (drop from (map (ltb 0) counts)))
-packed_all counts from i e =
-    ap (λ (k : ℕ). word_of (tests counts from k)) e ∙
-    ap (λ (k : ℕ). word_of (take word_bits (drop k (map (ltb 0) counts)))) (add-zero from)
 
 -- ---- words written one after the other
 

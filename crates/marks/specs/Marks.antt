@@ -1,6 +1,5 @@
 -- Marks by the word (document 02, W3): a bit for each place, the lowest for the first.
-use Rattle.std.specs.Prelude.{ℕ, zero, suc, ◌+◌, ◌*◌, ◌-◌, ◌/◌, ◌%◌, ◌^◌, Bool, cond, List, eqb, length, get_or}
-use Rattle.marks.specs.declared.NextMark.{NextMark}
+use Rattle.std.specs.Prelude.{ℕ, zero, suc, ◌+◌, ◌*◌, ◌-◌, ◌/◌, ◌%◌, ◌^◌, Bool, cond, List, Option, Some, None, eqb, length, get_or}
 use Rattle.marks.specs.Words.{word_bits}
 
 -- place i is marked: its bit is set; behind the last word nothing is
@@ -8,12 +7,12 @@ unfoldable pub is_marked : List ℕ → ℕ → Bool
 is_marked words i = eqb (get_or words (i / word_bits) 0 / 2 ^ (i % word_bits) % 2) 1
 
 -- the first marked one of so many places from i on
-unfoldable pub first_marked : List ℕ → ℕ → ℕ → NextMark
-first_marked words i zero = NextMark.Nothing
-first_marked words i (suc left) = cond (is_marked words i) (NextMark.At i) (first_marked words (suc i) left)
+unfoldable pub first_marked : List ℕ → ℕ → ℕ → Option ℕ
+first_marked words i zero = None
+first_marked words i (suc left) = cond (is_marked words i) (Some i) (first_marked words (suc i) left)
 
 -- the next marked place at or above `from`
-unfoldable pub next_marked : List ℕ → ℕ → NextMark
+unfoldable pub next_marked : List ℕ → ℕ → Option ℕ
 next_marked words from = first_marked words from (word_bits * length words - from)
 
 -- how many of so many places from i on are marked

@@ -1,7 +1,6 @@
 -- Document 02, W3, as it is asked: 'It answers with the smallest marked meter at or above the given one, or with none exactly if there is
 -- none.' A place is a meter's number.
-use Rattle.std.specs.Prelude.{ℕ, ◌≤◌, ◌<◌, ◌≡◌, true, false, List, ◌↔◌}
-use Rattle.marks.specs.declared.NextMark.{NextMark}
+use Rattle.std.specs.Prelude.{ℕ, ◌≤◌, ◌<◌, ◌≡◌, true, false, List, Option, Some, None, ◌↔◌}
 use Rattle.marks.specs.Marks.{is_marked}
 
 -- place i is the smallest marked one at or above `from`
@@ -15,6 +14,6 @@ abbrev pub NoneMarked : List ℕ → ℕ → Type 0
 NoneMarked words from = (k : ℕ) → from ≤ k → is_marked words k ≡ false
 
 -- the answer is i exactly if i is the smallest marked place at or above `from`, and none exactly if no place there is marked
-pub record IsNext (words : List ℕ) (from : ℕ) (r : NextMark) : Type 0 where
-  pub one : (i : ℕ) → (r ≡ NextMark.At i) ↔ SmallestMarked words from i
-  pub none : (r ≡ NextMark.Nothing) ↔ NoneMarked words from
+pub record IsNext (words : List ℕ) (from : ℕ) (r : Option ℕ) : Type 0 where
+  pub one : (i : ℕ) → (r ≡ Some i) ↔ SmallestMarked words from i
+  pub none : (r ≡ None) ↔ NoneMarked words from

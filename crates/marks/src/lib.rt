@@ -15,37 +15,29 @@ const WORD_BITS: usize = 64;
 // How many places the words have.
 pub const PLACES: usize = WORDS * WORD_BITS;
 
-// The next marked place.
-#[derive(Clone, Copy)]
-pub enum NextMark {
-    At(usize),
-    Nothing,
-}
-
 // The next marked place at or above `from`, a word at a time: the smallest one, or none exactly if there is none.
-pub fn next_marked(words: [u64; WORDS], mut from: usize) -> NextMark
+pub fn next_marked(words: [u64; WORDS], mut from: usize) -> Option<usize>
     ensures { (result ≡ next_marked words from) × IsNext words from result }
 {
+    // A `while` and no `for`: from any place of a word it goes on with the first of the next.
     while from < PLACES {
         let word = from / WORD_BITS;
         let rest = words[word] >> (from % WORD_BITS);
         if rest != 0 {
-            return NextMark::At(from + (u64::trailing_zeros(rest) as usize));
+            return Some(from + (u64::trailing_zeros(rest) as usize));
         }
         from = (word + 1) * WORD_BITS;
     }
-    NextMark::Nothing
+    None
 }
 
 // How many places are marked.
 pub fn marked_count(words: [u64; WORDS]) -> u32
     ensures { result ≡ marked_count words }
 {
-    let mut n = 0u32;
-    let mut i = 0;
-    while i < WORDS {
-        n += u64::count_ones(words[i]);
-        i += 1;
+    let mut n = 0;
+    for word in &words {
+        n += word.count_ones();
     }
     n
 }
@@ -55,14 +47,9 @@ fn word_of(counts: [u32; PLACES], from: usize) -> u64
     requires { from + word_bits ≤ word_bits * word_count }
     ensures { result ≡ word_of (take word_bits (drop from (map (ltb 0) counts))) }
 {
-    let mut word = 0u64;
-    let mut i = WORD_BITS;
-    while 0 < i {
-        i -= 1;
-        word = 2 * word;
-        if 0 < counts[from + i] {
-            word += 1;
-        }
+    let mut word = 0;
+    for i in (0..WORD_BITS).rev() {
+        word = 2 * word + u64::from(0 < counts[from + i]);
     }
     word
 }
@@ -72,10 +59,8 @@ pub fn marks_of(counts: [u32; PLACES]) -> [u64; WORDS]
     ensures { result ≡ words_of word_count (map (ltb 0) counts) }
 {
     let mut words = [0u64; WORDS];
-    let mut i = 0;
-    while i < WORDS {
+    for i in 0..WORDS {
         words[i] = word_of(counts, i * WORD_BITS);
-        i += 1;
     }
     words
 }

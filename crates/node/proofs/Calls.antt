@@ -8,9 +8,8 @@ use native.Mathlib.Omega.{arith}
 use borrow.Author.Tests.{ltb-false, eqb-true, eqb-false, not-false, le-ltb}
 use lib.Dec.{eqb}
 use lib.ListN.{length}
+use Rattle.std.specs.Prelude.{Option, Some, None}
 use Rattle.journal.specs.declared.Call.{Call}
-use Rattle.journal.specs.declared.CallRead.{CallRead}
-use Rattle.journal.specs.declared.CallRead.TheVariants as CallRead
 use Rattle.journal.specs.JournalLine.{line_text, call_answer, CallFits}
 use Rattle.journal.specs.ReadLine.{call_of}
 use Rattle.journal.proofs.Exact.{accepted_line}
@@ -49,7 +48,7 @@ pub record HostPassed (st : Held) (x : Lent) (area : List ℕ) : Type 0 where
 pub record AcceptedOn (st : Held) (x : Lent) (text area : List ℕ) : Type 0 where
   pub host : HostPassed st x area
   pub call : Call
-  pub read : call_of text ≡ CallRead.Accepted call
+  pub read : call_of text ≡ Some call
   pub fits : CallFits call
   pub spelled : text ≡ line_text call
   pub answered : answer_to st.settings (view st x.readings) call ≡ 0
@@ -82,16 +81,16 @@ module _ (st : Held) (x : Lent) (area : List ℕ) where
   unfolding refused_with
   refused_with_lem n = record { records = refl; state = refl; lent = refl; bytes = refl }
 
-  refused_read : (r : CallRead) → ((called_with st x area r).answer ≡ 0 → ⊥) → Untouched st x area (called_with st x area r)
+  refused_read : (r : Option Call) → ((called_with st x area r).answer ≡ 0 → ⊥) → Untouched st x area (called_with st x area r)
   unfolding called_with
-  refused_read (CallRead.Accepted k) e =
+  refused_read (Some k) e =
       (elim (eqb (answer_to st.settings (view st x.readings) k) 0) as
       (λ b. ((journal_if k b).answer ≡ 0 → ⊥) → Untouched st x area (journal_if k b)) [
         | true ↦ λ e. absurd (e refl)
         | false ↦ λ e. refused_with_lem (answer_to st.settings (view st x.readings) k)
       ])
       e
-  refused_read CallRead.Malformed e = refused_with_lem (call_answer CallRead.Malformed)
+  refused_read None e = refused_with_lem (call_answer None)
 
 -- ---- a call
 
@@ -115,9 +114,9 @@ module _ (st : Held) (x : Lent) (text area : List ℕ) where
   unfolding called_on
   called_past_host h = rw (host_passes st x area h)
 
-  accepted_read : HostPassed st x area → (r : CallRead) → call_of text ≡ r → (called_with st x area r).answer ≡ 0 → AcceptedOn st x text area
+  accepted_read : HostPassed st x area → (r : Option Call) → call_of text ≡ r → (called_with st x area r).answer ≡ 0 → AcceptedOn st x text area
   unfolding called_with refused_with call_answer
-  accepted_read h (CallRead.Accepted k) q e =
+  accepted_read h (Some k) q e =
       (elim (eqb (answer_to st.settings (view st x.readings) k) 0) as
       (λ b. eqb (answer_to st.settings (view st x.readings) k) 0 ≡ b → (journal_if st x area k b).answer ≡ 0 → AcceptedOn st x text area) [
         | true ↦ λ t e.
@@ -133,7 +132,7 @@ module _ (st : Held) (x : Lent) (text area : List ℕ) where
         | false ↦ λ t e. absurd (eqb-false _ _ t e)
       ])
       refl e
-  accepted_read h CallRead.Malformed q e = absurd (omega (arith, e))
+  accepted_read h None q e = absurd (omega (arith, e))
 
   -- an accepted call passed every test
   pub accepted_call : (called_on st x text area).answer ≡ 0 → AcceptedOn st x text area

@@ -25,7 +25,6 @@ use Rattle.operator.specs.Work.{close, work}
 use Rattle.protocol.specs.Kinds.{Kind, kind_of, uses, is_step}
 use Rattle.protocol.specs.Node.{Line, Node, no_line, opened, kept_of, reading_of, on_line}
 use Rattle.protocol.specs.declared.Rule.{Rule}
-use Rattle.protocol.specs.declared.Rule.TheVariants as Rule
 use Rattle.protocol.specs.Rules.{Outcome, rule_of, without, worked, act}
 use Rattle.protocol.specs.Refusals.{answer_to}
 use Rattle.protocol.specs.Calls.{input, done, accepted, outcome_of}

@@ -14,6 +14,7 @@ pub mod Shape
 pub mod KeptLines
 pub mod Outcomes
 pub mod Calls
+pub mod Replies
 pub mod AfterCalls
 pub mod Displays
 pub mod Sent

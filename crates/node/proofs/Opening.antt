@@ -8,9 +8,10 @@ use native.Mathlib.Omega.{arith}
 use borrow.Author.Tests.{ltb-false, le-ltb}
 use lib.Dec.{ltb}
 use lib.ListN.{length, take, drop, replicate, length-replicate}
+use Rattle.std.specs.Prelude.{Result, Ok, Err}
+use Rattle.answer.specs.declared.Refusal.{Refusal}
+use Rattle.answer.specs.Refusals.{number}
 use Rattle.settings.specs.declared.Settings.{Settings}
-use Rattle.settings.specs.declared.SettingsRead.{SettingsRead}
-use Rattle.settings.specs.declared.SettingsRead.TheVariants as SettingsRead
 use Rattle.settings.specs.Limits.{max_lines, max_displays, within_limits, SettingsFit}
 use Rattle.settings.specs.SettingsLine.{settings_text, settings_answer, limited}
 use Rattle.settings.specs.ReadLine.{settings_of}
@@ -35,27 +36,46 @@ use Rattle.node.proofs.View.{Fits}
 
 -- ---- the settings that were read
 
-same_settings : (s t : Settings) → SettingsRead.Accepted s ≡ SettingsRead.Accepted t → s ≡ t
+same_settings : (s t : Settings) → ◌≡◌ {A = Result Settings Refusal} (Ok s) (Ok t) → s ≡ t
 same_settings s t e = cc
 
-outside_accepted : (s : Settings) → SettingsRead.OutsideLimits ≡ SettingsRead.Accepted s → ⊥
+outside_accepted : (s : Settings) → Err Refusal.OutsideLimits ≡ Ok s → ⊥
 outside_accepted s e = let z : ◌≡◌ {A = ℕ} 0 1 = cc in omega arith
 
-accepted_one : (s : Settings) → settings_answer (SettingsRead.Accepted s) ≡ 1 → ⊥
-unfolding settings_answer
+accepted_one : (s : Settings) → settings_answer (Ok s) ≡ 1 → ⊥
 accepted_one s e = omega (arith, e)
 
-limited_accepted : (s t : Settings) → limited s ≡ SettingsRead.Accepted t → (s ≡ t) × (within_limits s ≡ true)
+limited_accepted : (s t : Settings) → limited s ≡ Ok t → (s ≡ t) × (within_limits s ≡ true)
 unfolding limited
 limited_accepted s t e =
     (elim (within_limits s) as
     (λ b.
-    within_limits s ≡ b → cond b (SettingsRead.Accepted s) SettingsRead.OutsideLimits ≡ SettingsRead.Accepted t →
+    within_limits s ≡ b → cond b (Ok s) (Err Refusal.OutsideLimits) ≡ Ok t →
     (s ≡ t) × (within_limits s ≡ true)) [
       | true ↦ λ q e. (same_settings s t e, q)
       | false ↦ λ q e. absurd (outside_accepted t e)
     ])
     refl e
+
+-- no refusal has the number of an accepted call
+pub refused_some : (refusal : Refusal) → number refusal ≡ 0 → ⊥
+refused_some Refusal.MalformedSettings e = omega (arith, e)
+refused_some Refusal.OutsideLimits e = omega (arith, e)
+refused_some Refusal.ShortStore e = omega (arith, e)
+refused_some Refusal.OutOfShape e = omega (arith, e)
+refused_some Refusal.ShortArea e = omega (arith, e)
+refused_some Refusal.Malformed e = omega (arith, e)
+refused_some Refusal.EarlierCall e = omega (arith, e)
+refused_some Refusal.WrongLine e = omega (arith, e)
+refused_some Refusal.UnusedField e = omega (arith, e)
+refused_some Refusal.WrongMeter e = omega (arith, e)
+refused_some Refusal.WrongId e = omega (arith, e)
+refused_some Refusal.TooEarly e = omega (arith, e)
+refused_some Refusal.HeldBack e = omega (arith, e)
+refused_some Refusal.FullLine e = omega (arith, e)
+refused_some Refusal.LacksPlaces e = omega (arith, e)
+refused_some Refusal.WrongDisplay e = omega (arith, e)
+refused_some Refusal.WrongResultId e = omega (arith, e)
 
 -- settings that are accepted are those of the text, each within its width and its limits
 pub record Accepts (text : List ℕ) (s : Settings) : Type 0 where
@@ -63,7 +83,7 @@ pub record Accepts (text : List ℕ) (s : Settings) : Type 0 where
   pub fit : SettingsFit s
   pub limits : within_limits s ≡ true
 
-pub settings_accepted : (text : List ℕ) (s : Settings) → settings_of text ≡ SettingsRead.Accepted s → Accepts text s
+pub settings_accepted : (text : List ℕ) (s : Settings) → settings_of text ≡ Ok s → Accepts text s
 settings_accepted text s e =
     let found = (exact_settings text).only (λ m. accepted_one s (sym (ap settings_answer e) ∙ m)) in
     let q = limited_accepted found.0 s (sym ((exact_settings text).line found.0 found.1 found.2) ∙ e) in
@@ -163,7 +183,7 @@ long_enough lines x h g = rw (le-ltb (store_length x.readings) (lines * readings
 -- what an accepted opening was handed, and what it leaves
 pub record OpenedOn (st : Held) (x : Lent) (text : List ℕ) : Type 0 where
   pub settings : Settings
-  pub read : settings_of text ≡ SettingsRead.Accepted settings
+  pub read : settings_of text ≡ Ok settings
   pub accepts : Accepts text settings
   pub room : settings.lines * readings_per_line ≤ store_length x.readings
   pub places : held_bytes ≤ length x.sent
@@ -176,10 +196,10 @@ opened_if st x s short =
     (record { answer = 0; state = fresh_state s; lent = zeroed_lent s x })
 
 opened_read :
-    (st : Held) (x : Lent) (text : List ℕ) (r : SettingsRead) → settings_of text ≡ r → (opened_with st x r).answer ≡ 0 →
+    (st : Held) (x : Lent) (text : List ℕ) (r : Result Settings Refusal) → settings_of text ≡ r → (opened_with st x r).answer ≡ 0 →
     OpenedOn st x text
-unfolding opened_on opened_with is_short settings_answer
-opened_read st x text (SettingsRead.Accepted s) q e =
+unfolding opened_on opened_with is_short
+opened_read st x text (Ok s) q e =
     (elim (is_short s.lines x) as
     (λ b.
     is_short s.lines x ≡ b →
@@ -197,26 +217,24 @@ opened_read st x text (SettingsRead.Accepted s) q e =
           }
     ])
     refl e
-opened_read st x text SettingsRead.Malformed q e = absurd (omega (arith, e))
-opened_read st x text SettingsRead.OutsideLimits q e = absurd (omega (arith, e))
+opened_read st x text (Err refusal) q e = absurd (refused_some refusal e)
 
 pub opened_on_lem : (st : Held) (x : Lent) (text : List ℕ) → (opened_on st x text).answer ≡ 0 → OpenedOn st x text
 unfolding opened_on
 opened_on_lem st x text e = opened_read st x text (settings_of text) refl e
 
 refused_read :
-    (st : Held) (x : Lent) (r : SettingsRead) → ((opened_with st x r).answer ≡ 0 → ⊥) →
+    (st : Held) (x : Lent) (r : Result Settings Refusal) → ((opened_with st x r).answer ≡ 0 → ⊥) →
     ((opened_with st x r).state ≡ st) × ((opened_with st x r).lent ≡ x)
 unfolding opened_with
-refused_read st x (SettingsRead.Accepted s) e =
+refused_read st x (Ok s) e =
     (elim (is_short s.lines x) as
     (λ b. ((opened_if st x s b).answer ≡ 0 → ⊥) → ((opened_if st x s b).state ≡ st) × ((opened_if st x s b).lent ≡ x)) [
       | true ↦ λ e. (refl, refl)
       | false ↦ λ e. absurd (e refl)
     ])
     e
-refused_read st x SettingsRead.Malformed e = (refl, refl)
-refused_read st x SettingsRead.OutsideLimits e = (refl, refl)
+refused_read st x (Err refusal) e = (refl, refl)
 
 -- a refused opening changes nothing (document 01, section 'Refusal by whom'): a claim of its own, which no proof needs
 pub refused_opening :

@@ -19,7 +19,6 @@ use Rattle.protocol.specs.Kinds.{Kind, kind_of, uses, is_step}
 use Rattle.protocol.specs.Node.{Line, Node, no_line, on_line}
 use Rattle.protocol.specs.Refusals.{named_line, is_full, answer_to}
 use Rattle.protocol.specs.declared.Rule.{Rule}
-use Rattle.protocol.specs.declared.Rule.TheVariants as Rule
 use Rattle.protocol.specs.Rules.{Outcome, rule_of, without, act}
 use Rattle.protocol.specs.Calls.{input, done, accepted, outcome_of}
 use Rattle.protocol.proofs.Places.{length_modify}

@@ -7,6 +7,7 @@ use mathlib.Core.List.{List, [], ◌∷◌}
 use native.Mathlib.Omega.{arith}
 use lib.Dec.{eqb, ltb}
 use lib.ListN.{length, length-append}
+use Rattle.std.specs.Prelude.{Some}
 use Rattle.clock.specs.declared.ArrivalTick.{ArrivalTick}
 use Rattle.clock.specs.Buckets.{bucket_end}
 use Rattle.clock.specs.Windows.{closes_window}
@@ -15,7 +16,6 @@ use Rattle.settings.specs.Limits.{max_lines, within_limits}
 use Rattle.journal.specs.declared.Call.{Call}
 use Rattle.journal.specs.Kinds.{letter_s, letter_t, letter_b, letter_u, letter_r}
 use Rattle.record.specs.declared.Record.{Record}
-use Rattle.record.specs.declared.Decoded.TheVariants as Decoded
 use Rattle.record.specs.Kinds.{is_record, is_result, is_stable, is_tentative}
 use Rattle.record.specs.Layout.{bytes_of}
 use Rattle.record.specs.Decoded.{decoded}
@@ -27,7 +27,6 @@ use Rattle.record.specs.Markers.{marker}
 use Rattle.protocol.specs.Kinds.{Kind, kind_of, uses, is_step}
 use Rattle.protocol.specs.Node.{Line, Node, is_stable_bucket, kept_of}
 use Rattle.protocol.specs.declared.Rule.{Rule}
-use Rattle.protocol.specs.declared.Rule.TheVariants as Rule
 use Rattle.protocol.specs.Rules.{is_correcting, some_overdue, rule_of, boundary_at, worked, act}
 use Rattle.protocol.specs.Refusals.{answer_to}
 use Rattle.store.specs.Sizes.{readings_per_line}
@@ -173,7 +172,7 @@ module _ (s : Settings) (n : Node) (fits : NodeFits n) (shape : ShapeFacts s n) 
 
 -- the record's bytes are read as the record
 abbrev pub Decodes : Record → Type 0
-Decodes r = decoded (bytes_of r) ≡ Decoded.Is r
+Decodes r = decoded (bytes_of r) ≡ Some r
 
 pub readable_decodes : (rs : List Record) → Every Readable rs → Every Decodes rs
 readable_decodes rs h = every_to rs (λ (r : Record) (g : Readable r). decoded_bytes_of r g.0 g.1) h

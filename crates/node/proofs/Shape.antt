@@ -17,7 +17,6 @@ use Rattle.store.proofs.Choices.{and_parts}
 use Rattle.store.proofs.Pairs.{every_to, every_passes}
 use Rattle.operator.specs.Meters.{meter_count}
 use Rattle.protocol.specs.declared.Phase.{Phase}
-use Rattle.protocol.specs.declared.Phase.TheVariants as Phase
 use Rattle.protocol.specs.Node.{Line}
 use Rattle.store.specs.Sizes.{readings_per_line}
 use Rattle.node.specs.Sizes.{results_per_bucket, last_bucket}

@@ -1,10 +1,11 @@
 -- A journal call on what is held, stores, text and area: refusals 3 to 15 in order, and what it leaves (document 01, section 'Refusal by
 -- whom'; document 02, W2).
-use Rattle.std.specs.Prelude.{ℕ, cond, not, List, [], ◌∷◌, ltb, eqb, length}
+use Rattle.std.specs.Prelude.{ℕ, cond, not, List, [], ◌∷◌, ltb, eqb, length, Option, Some, None, Result, Ok, Err}
+use Rattle.journal.specs.declared.Call.{Call}
 use Rattle.answer.specs.Numbers as Answer
+use Rattle.answer.specs.Refusals.{answer_of}
+use Rattle.answer.specs.declared.Refusal.{Refusal}
 use Rattle.area.specs.Laid.{in_front}
-use Rattle.journal.specs.declared.CallRead.{CallRead}
-use Rattle.journal.specs.declared.CallRead.TheVariants as CallRead
 use Rattle.journal.specs.JournalLine.{call_answer}
 use Rattle.journal.specs.ReadLine.{call_of}
 use Rattle.record.specs.Layout.{all_bytes}
@@ -14,11 +15,12 @@ use Rattle.protocol.specs.Refusals.{Test, first_failed, answer_to}
 use Rattle.protocol.specs.Calls.{outcome_of}
 use Rattle.node.specs.Sizes.{area_bytes}
 use Rattle.retransmission.specs.Places.{places_of, with_places, holding}
-use Rattle.node.specs.View.{Lent, view, put_state, put_columns}
+use Rattle.node.specs.View.{Lent, lent, view, put_state, put_columns}
 use Rattle.node.specs.Shape.{in_shape}
 use Rattle.node.specs.Opening.{is_short}
-use Rattle.node.specs.Held.{Held, Arrays, held}
-use Rattle.node.specs.declared.CallReply.{CallReply}
+use Rattle.node.specs.Held.{Held, held}
+use Rattle.node.specs.declared.State.{State}
+use Rattle.node.specs.declared.Stores.{Stores}
 
 -- what a call answers and leaves
 pub record Called : Type 0 where
@@ -28,10 +30,15 @@ pub record Called : Type 0 where
   pub lent : Lent
   pub area : List ℕ
 
--- the code's reply, with the arrays, the stores and the area that it leaves
-abbrev pub called_of : CallReply → Arrays → Lent → List ℕ → Called
-called_of r arrays x area =
-    record { answer = r.answer; records = r.records; state = held r.state arrays; lent = x; area = area }
+-- how many records a reply gives: none where the call is refused
+unfoldable pub records_of : Result ℕ Refusal → ℕ
+records_of (Ok n) = n
+records_of (Err refusal) = 0
+
+-- the code's reply, with the state, the stores and the area that it leaves
+abbrev pub called_of : Result ℕ Refusal → State → Stores → List ℕ → Called
+called_of reply s x area =
+    record { answer = answer_of reply; records = records_of reply; state = held s; lent = lent x; area = area }
 
 -- refusals 3, 4 and 5: what the host lends, whatever it asks
 unfoldable pub host_tests : Held → Lent → List ℕ → List Test
@@ -64,12 +71,12 @@ unfoldable pub refused_with : ℕ → Held → Lent → List ℕ → Called
 refused_with n st x area = record { answer = n; records = 0; state = st; lent = x; area = area }
 
 -- a journal call that the host's tests let through: refusals 7 to 15, or its outcome laid down
-unfoldable pub called_with : Held → Lent → List ℕ → CallRead → Called
-called_with st x area (CallRead.Accepted k) =
+unfoldable pub called_with : Held → Lent → List ℕ → Option Call → Called
+called_with st x area (Some k) =
     let n : Node = view st x.readings in
     let answer : ℕ = answer_to st.settings n k in
     cond (eqb answer 0) (laid_outcome st x area (outcome_of st.settings n k)) (refused_with answer st x area)
-called_with st x area CallRead.Malformed = refused_with (call_answer CallRead.Malformed) st x area
+called_with st x area None = refused_with (call_answer None) st x area
 
 unfoldable pub called_on : Held → Lent → List ℕ → List ℕ → Called
 called_on st x text area =

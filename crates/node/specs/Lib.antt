@@ -1,8 +1,7 @@
--- The node on what is really handed over: state, arrays, stores, text and area.
+-- The node on what is really handed over: state, stores, text and area.
 pub mod Sizes
 pub mod Held
 pub mod View
-pub mod Changed
 pub mod Shape
 pub mod Opening
 pub mod Calls

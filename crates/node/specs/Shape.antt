@@ -9,7 +9,6 @@ use Rattle.store_columns.specs.Shape.{rises, is_reading_kind}
 use Rattle.operator.specs.Meters.{meter_count}
 use Rattle.operator_meter.specs.Bounds.{meter_ok}
 use Rattle.protocol.specs.declared.Phase.{Phase}
-use Rattle.protocol.specs.declared.Phase.TheVariants as Phase
 use Rattle.protocol.specs.Node.{Line}
 use Rattle.node.specs.Sizes.{results_per_bucket, last_bucket}
 use Rattle.protocol.specs.Displays.{least_of}

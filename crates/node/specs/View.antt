@@ -1,11 +1,13 @@
 -- What is held and the stores stand for, and a node laid into them again (document 01, section 'Store and output area'; document 02, W2).
-use Rattle.std.specs.Prelude.{ℕ, zero, suc, ◌*◌, ◌-◌, max, List, [], ◌∷◌, ◌++◌, length, take, drop, replicate}
+use Rattle.std.specs.Prelude.{ℕ, zero, suc, ◌*◌, ◌-◌, ◌≡◌, max, List, [], ◌∷◌, ◌++◌, length, take, drop, replicate}
 use Rattle.area.specs.Laid.{in_front}
 use Rattle.store.specs.declared.Reading.{Reading}
 use Rattle.protocol.specs.Node.{Line, Node}
 use Rattle.store.specs.Sizes.{readings_per_line}
 use Rattle.store.specs.Columns.{Columns, rows, with_rows, zeroed}
+use Rattle.store.specs.Lent.{columns, SameLoans}
 use Rattle.node.specs.declared.LineHead.{LineHead}
+use Rattle.node.specs.declared.Stores.{Stores}
 use Rattle.node.specs.Held.{Held}
 
 -- the two lent stores: readings, and results to be sent back
@@ -15,6 +17,14 @@ pub record Lent : Type 0 where
 
 abbrev pub lent_of : Columns → List ℕ → Lent
 lent_of readings sent = record { readings = readings; sent = sent }
+
+-- what stands in the lent slices
+abbrev pub lent : Stores → Lent
+lent x = lent_of (columns x.readings) x.sent.now
+
+-- the same slices are lent
+abbrev pub SameStores : Stores → Stores → Type 0
+SameStores x y = SameLoans x.readings y.readings × (y.sent.ghost_name ≡ x.sent.ghost_name)
 
 -- ---- what they stand for
 

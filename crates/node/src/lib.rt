@@ -1,23 +1,17 @@
-// The node as its caller holds it: a small state by value, lent arrays with the meters and the lines' heads, and two lent stores: readings
-// in columns, and results to be sent back.
+// The node as its caller holds it: its state, and two lent stores, readings in columns and results to be sent back.
 #![tactic(auto)]
 
-ghost use Rattle.std.specs.Prelude.{◌≡◌};
+ghost use Rattle.std.specs.Prelude.{◌≡◌, length};
+ghost use Rattle.settings.specs.Limits.{max_lines, max_displays};
 
 use clock::{ArrivalTick, ReadingTime};
+use operator::Operator;
 use protocol::Phase;
 use settings::Settings;
-
-mod changed;
+use store::Store;
 
 // Lines that there are heads for: as many as the settings allow.
 pub const HEADS: usize = store::LINES;
-
-// Numbers of a line's head: boundary, last id, last stable id, readings kept.
-pub const HEAD_NUMBERS: usize = 4;
-
-// Numbers of all heads, as they are lent.
-pub const ALL_HEADS: usize = HEADS * HEAD_NUMBERS;
 
 // Displays that a state has room for: as many as the settings allow.
 pub const DISPLAYS: usize = settings::MAX_DISPLAYS as usize;
@@ -34,8 +28,8 @@ pub struct LineHead {
     pub kept: u32,
 }
 
-// A state with lines 0 is closed: no network is open, and every call on it is refused. The two numberings are the operator's, the id of the
-// newest result, and the checkpoint's, that of the last stable one; 0 if there is none.
+// What is held between calls. A state with lines 0 is closed, as `closed_state` says: no network is open, and every call on it is refused.
+// The operator's number is the id of the newest result, the checkpoint's that of the last stable one; 0 if there is none.
 #[derive(Clone, Copy)]
 pub struct State {
     pub settings: Settings,
@@ -43,26 +37,18 @@ pub struct State {
     pub c: u32,
     pub p: u32,
     pub phase: Phase,
-    pub newest: u64,
-    pub last_stable: u64,
+    pub heads: [LineHead; HEADS],
     pub acknowledged: [u64; DISPLAYS],
+    pub operator: Operator,
+    pub checkpoint: Operator,
+    // The lengths of the two arrays, which proofs read off a state.
+    pub ghost all_heads: { length heads ≡ max_lines },
+    pub ghost all_displays: { length acknowledged ≡ max_displays },
 }
 
-// What a call answers; the records stand in the output area.
-#[derive(Clone, Copy)]
-pub struct CallReply {
-    pub state: State,
-    pub records: u32,
-    pub answer: u32,
-}
-
-// What a refused call answers: no record, and the state as it was.
-pub fn refused(state: State, answer: u32) -> CallReply
-    ensures { result ≡ record { state = state; records = 0; answer = answer } }
-{
-    CallReply {
-        state: state,
-        records: 0,
-        answer: answer,
-    }
+// The two stores as a host lends them: kept readings, and stable results that some display has not acknowledged.
+#[derive(Drop)]
+pub struct Stores<'a> {
+    pub readings: Store<'a>,
+    pub sent: &'a mut [u8],
 }

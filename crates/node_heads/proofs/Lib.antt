@@ -1,6 +1,2 @@
--- Laws on the lines' heads as they are lent.
-pub mod Heads
-pub mod Laying
-pub mod Fields
-pub mod Pinned
+-- What is held fixes the state.
 pub mod HeldPinned

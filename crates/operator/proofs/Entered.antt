@@ -1,33 +1,28 @@
 -- A reading entered in columns: its meter's sum and count in every case, its last value and newest time where no newer reading was met.
 -- By the law that one meter set in the three columns is that meter set in the list.
-use Prim.Native.Nat.{ℕ, ◌+◌, ◌≤◌, ◌<◌}
+use Prim.Native.Nat.{ℕ, ◌+◌, ◌≤◌, ◌<◌, ◌^◌}
 use mathlib.Core.Path.{◌≡◌, sym, ◌∙◌, ap}
 use mathlib.Core.List.{List}
 use lib.IntN.{ℤ, pos, ◌+ℤ◌}
-use lib.ListN.{length, get_or, set, length-set}
+use lib.ListN.{get_or, set}
 use lib.Seq.{set-get_or}
+use native.Mathlib.Omega.{arith}
 use borrow.Author.Tests.{le-leb, lt-leb}
+use mir.Syntax.{w32, w64}
+use mir.Val.{SFits, to_z, of_z}
+use mir.Facts.{to_z-of_z, sfits_widen}
 use Rattle.signed.specs.Range.{InRange}
 use Rattle.store.specs.Lists.{Every}
 use Rattle.store.proofs.Pairs.{every_at}
 use Rattle.operator_meter.specs.declared.Meter.{Meter}
 use Rattle.operator_meter.specs.Values.{no_meter, with_value}
+use Rattle.operator_meter.proofs.Sums.{range_fits, add_range}
 use Rattle.operator_meter.proofs.Bounds.{Counted, no_counted}
 use Rattle.operator.specs.Meters.{meter_count}
 use Rattle.operator.specs.declared.Operator.{Operator as Loaded}
 use Rattle.operator.specs.Loaded.{meter_at, meters_of, operator_of}
-use Rattle.operator.proofs.Loaded.{meter_of, meter_laid}
-use Rattle.operator.proofs.Pass.{Passing, with_older_value, valued, entered}
-
--- a pass whose operator is in columns
-abbrev pub passing : Loaded → List ℕ → Passing
-passing o newest = record { operator = operator_of o; newest = newest }
-
--- the columns have a place for each meter
-pub record Long (o : Loaded) : Type 0 where
-  pub sums : length o.sums ≡ meter_count
-  pub counts : length o.counts ≡ meter_count
-  pub lasts : length o.lasts ≡ meter_count
+use Rattle.operator.proofs.Loaded.{Long, meter_of, meter_laid}
+use Rattle.operator.specs.Pass.{with_older_value, valued, entered, passing}
 
 -- the operator with one value more in meter m, which makes its sum z, and with these last values
 abbrev pub with_sum : Loaded → ℕ → ℤ → List ℤ → Loaded
@@ -37,15 +32,6 @@ with_sum o m z lasts =
       counts = set o.counts m (get_or o.counts m 0 + 1);
       lasts = lasts;
       number = o.number;
-    }
-
--- the columns keep their places
-pub with_sum_long : (o : Loaded) (m : ℕ) (z : ℤ) (lasts : List ℤ) → Long o → length lasts ≡ meter_count → Long (with_sum o m z lasts)
-with_sum_long o m z lasts h l =
-    record {
-      sums = length-set o.sums m z ∙ h.sums;
-      counts = length-set o.counts m (get_or o.counts m 0 + 1) ∙ h.counts;
-      lasts = l;
     }
 
 -- what is known of every meter is known of the one in the columns' place m
@@ -58,6 +44,15 @@ counted_at o n m h all =
     rw (meter_of o.counts o.sums o.lasts m h) at
     (every_at (Counted n) (meters_of o.counts o.sums o.lasts) m no_meter (no_counted n) all) in
     (g.count, g.range)
+
+-- the sum of few values and one more, as the code makes it
+pub sum_made :
+    (z v : ℤ) (n : ℕ) → n < 2 ^ 16 → InRange z n → SFits w32 v →
+    to_z w64 (of_z w64 (to_z w64 (of_z w64 z) +ℤ to_z w64 (of_z w64 (to_z w32 (of_z w32 v))))) ≡ z +ℤ v
+sum_made z v n few range value =
+    let sum : SFits w64 z = record { sfits = range_fits n z (omega arith) range } in
+    let next : SFits w64 (z +ℤ v) = record { sfits = range_fits (n + 1) (z +ℤ v) (omega arith) (add_range n z v range value.sfits) } in
+    rw (to_z-of_z sum, to_z-of_z value, to_z-of_z (sfits_widen tt value)) (to_z-of_z next)
 
 module _ (o : Loaded) (newest : List ℕ) (t : ℕ) (v : ℤ) (m : ℕ) (long : Long o) (h : m < meter_count) (z : ℤ) (sum : z ≡ get_or o.sums m (pos 0) +ℤ v) where
   -- the value is the last one of its meter

@@ -7,6 +7,7 @@ use native.Mathlib.Omega.{arith}
 use native.Mathlib.Numerals.{add-one}
 use lib.ListN.{length, get_or, take, drop, replicate}
 use lib.Seq.{sets-eq}
+use Rattle.std.specs.Prelude.{Some, None}
 use Rattle.area.specs.Laid.{laid, in_front}
 use Rattle.area.proofs.Laid.{laid_laid, laid_none, laid_front, length_laid}
 use Rattle.clock.specs.declared.ReadingTime.{ReadingTime}
@@ -18,7 +19,6 @@ use Rattle.record.specs.Layout.{bytes_of, all_bytes}
 use Rattle.record.proofs.BytesOf.{length_bytes_of}
 use Rattle.record.proofs.AllBytes.{length_all_bytes}
 use Rattle.operator_meter.specs.declared.Meter.{Meter}
-use Rattle.marks.specs.declared.NextMark.TheVariants as NextMark
 use Rattle.marks.specs.Marks.{next_marked}
 use Rattle.operator.specs.Meters.{Operator, meter_count, clear}
 use Rattle.operator_meter.specs.Values.{no_meter}
@@ -47,22 +47,22 @@ module _ (kind : ℕ) (start : ReadingTime) (ms : List Meter) where
 
   -- for the list of all meters
   module _ (sized : length ms ≡ meter_count) where
-    givers_next : (from n i : ℕ) → next_marked (marks_of ms) from ≡ NextMark.At i → givers (drop from ms) ≡ suc (givers (drop (suc i) ms))
+    givers_next : (from n i : ℕ) → next_marked (marks_of ms) from ≡ Some i → givers (drop from ms) ≡ suc (givers (drop (suc i) ms))
     givers_next from n i e =
         sym (results_length kind start from n (drop from ms)) ∙
         ap length (results_next kind start ms sized from n i e) ∙
         ap suc (results_length kind start (suc i) (suc n) (drop (suc i) ms))
 
-    givers_nothing : (from n : ℕ) → next_marked (marks_of ms) from ≡ NextMark.Nothing → givers (drop from ms) ≡ 0
+    givers_nothing : (from n : ℕ) → next_marked (marks_of ms) from ≡ None → givers (drop from ms) ≡ 0
     givers_nothing from n e =
         sym (results_length kind start from n (drop from ms)) ∙ ap length (results_nothing kind start ms sized from n e)
 
-    rest_next : (from n i : ℕ) → next_marked (marks_of ms) from ≡ NextMark.At i
+    rest_next : (from n i : ℕ) → next_marked (marks_of ms) from ≡ Some i
         → rest from n ≡ bytes_of (result_of kind start i (suc n) (get_or ms i no_meter)) ++ rest (suc i) (suc n)
     unfolding rest all_bytes
     rest_next from n i e = ap all_bytes (results_next kind start ms sized from n i e)
 
-    rest_nothing : (from n : ℕ) → next_marked (marks_of ms) from ≡ NextMark.Nothing → rest from n ≡ []
+    rest_nothing : (from n : ℕ) → next_marked (marks_of ms) from ≡ None → rest from n ≡ []
     unfolding rest all_bytes
     rest_nothing from n e = ap all_bytes (results_nothing kind start ms sized from n e)
 
@@ -95,7 +95,7 @@ module _ (kind : ℕ) (start : ReadingTime) (ms : List Meter) (area₀ : List �
       }
 
   module _ (area : List ℕ) (number at from : ℕ) (v : Laying kind start ms area₀ number₀ area number at from) where
-    pub room_next : (i : ℕ) → next_marked (marks_of ms) from ≡ NextMark.At i → RoomFor i number₀ area number at from
+    pub room_next : (i : ℕ) → next_marked (marks_of ms) from ≡ Some i → RoomFor i number₀ area number at from
     room_next i e =
         let g = next_gives ms v.whole from i e in
         let k = givers_next kind start ms v.whole from number i e in
@@ -107,7 +107,7 @@ module _ (kind : ℕ) (start : ReadingTime) (ms : List Meter) (area₀ : List �
           bytes = omega (arith, v.places, v.whole, v.size);
         }
 
-    pub laying_next : (i : ℕ) → next_marked (marks_of ms) from ≡ NextMark.At i
+    pub laying_next : (i : ℕ) → next_marked (marks_of ms) from ≡ Some i
         → (r : Record) → r ≡ result_of kind start i (number + 1) (get_or ms i no_meter)
         → (next : List ℕ) → next ≡ take at area ++ bytes_of r ++ drop (at + record_bytes) area
         → Laying kind start ms area₀ number₀ next (number + 1) (at + record_bytes) (i + 1)
@@ -137,7 +137,7 @@ module _ (kind : ℕ) (start : ReadingTime) (ms : List Meter) (area₀ : List �
               v.bytes;
         })
 
-    pub laying_ends : next_marked (marks_of ms) from ≡ NextMark.Nothing
+    pub laying_ends : next_marked (marks_of ms) from ≡ None
         → (number ≡ number₀ + givers ms) × (area ≡ in_front (rest kind start ms 0 number₀) area₀)
     laying_ends e =
         let none = rest_nothing kind start ms v.whole from number e in (

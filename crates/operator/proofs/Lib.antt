@@ -12,10 +12,10 @@ pub mod FromPlace
 pub mod NextResults
 pub mod Laying
 pub mod Loaded
-pub mod Owned
 pub mod FromColumns
 pub mod Pass
 pub mod Turns
 pub mod Entered
 pub mod KnownMeters
 pub mod OneReading
+pub mod Pinned

@@ -10,6 +10,13 @@ use Rattle.operator_meter.specs.declared.Meter.{Meter}
 use Rattle.operator_meter.specs.Values.{no_meter}
 use Rattle.operator.specs.Meters.{meter_count}
 use Rattle.operator.specs.Loaded.{meter_at, meters_from, meters_of}
+use Rattle.operator.specs.declared.Operator.{Operator as Loaded}
+
+-- the columns have a place for each meter
+pub record Long (o : Loaded) : Type 0 where
+  pub sums : length o.sums ≡ meter_count
+  pub counts : length o.counts ≡ meter_count
+  pub lasts : length o.lasts ≡ meter_count
 
 length_from : (c : List ℕ) (s l : List ℤ) (k n : ℕ) → length (meters_from c s l k n) ≡ n
 unfolding meters_from

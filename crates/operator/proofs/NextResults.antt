@@ -8,9 +8,9 @@ use mathlib.Core.Logic.{⊎_elim}
 use native.Mathlib.Omega.{arith}
 use native.Mathlib.Nat.{add-zero}
 use lib.ListN.{length, get_or, drop, length-map, get_or-map, get_or-eq_default}
+use Rattle.std.specs.Prelude.{Some, None}
 use Rattle.clock.specs.declared.ReadingTime.{ReadingTime}
 use Rattle.signed.proofs.Comparing.{lt_or_le}
-use Rattle.marks.specs.declared.NextMark.TheVariants as NextMark
 use Rattle.marks.specs.Words.{word_bits, word_count}
 use Rattle.marks.specs.Marks.{is_marked, next_marked, marked_count}
 use Rattle.marks.proofs.Next.{next_is_next}
@@ -71,7 +71,7 @@ module _ (ms : List Meter) (sized : length ms ≡ meter_count) where
       (λ h. not_both e (ap has_result (get_or-eq_default ms no_meter h) ∙ gives_nothing))
       (lt_or_le i (length ms))
 
-  pub next_gives : (from i : ℕ) → next_marked (marks_of ms) from ≡ NextMark.At i → FirstGiver from ms i
+  pub next_gives : (from i : ℕ) → next_marked (marks_of ms) from ≡ Some i → FirstGiver from ms i
   next_gives from i e =
       let n = ((next_is_next (marks_of ms) from).one i).0 e in
       let g : has_result (get_or ms i no_meter) ≡ true = sym (marked_gives i) ∙ n.marked in
@@ -82,7 +82,7 @@ module _ (ms : List Meter) (sized : length ms ≡ meter_count) where
         first = λ k p q. sym (marked_gives k) ∙ n.smallest k p q;
       }
 
-  none_gives : (from : ℕ) → next_marked (marks_of ms) from ≡ NextMark.Nothing → (k : ℕ) → from ≤ k → has_result (get_or ms k no_meter) ≡ false
+  none_gives : (from : ℕ) → next_marked (marks_of ms) from ≡ None → (k : ℕ) → from ≤ k → has_result (get_or ms k no_meter) ≡ false
   none_gives from e k h = sym (marked_gives k) ∙ (next_is_next (marks_of ms) from).none.0 e k h
 
 -- ---- the results from a place on
@@ -99,7 +99,7 @@ module _ (kind : ℕ) (start : ReadingTime) (ms : List Meter) where
       ap (λ (i : ℕ). results kind start i n (drop i ms)) e
 
   module _ (sized : length ms ≡ meter_count) where
-    pub results_next : (from n i : ℕ) → next_marked (marks_of ms) from ≡ NextMark.At i
+    pub results_next : (from n i : ℕ) → next_marked (marks_of ms) from ≡ Some i
         → results kind start from n (drop from ms) ≡
         result_of kind start i (suc n) (get_or ms i no_meter) ∷ results kind start (suc i) (suc n) (drop (suc i) ms)
     results_next from n i e =
@@ -109,7 +109,7 @@ module _ (kind : ℕ) (start : ReadingTime) (ms : List Meter) where
         ap (λ (k : ℕ). results kind start k n (drop k ms)) there ∙
         results_from_giver kind start ms i n g.within g.gives
 
-    pub results_nothing : (from n : ℕ) → next_marked (marks_of ms) from ≡ NextMark.Nothing → results kind start from n (drop from ms) ≡ []
+    pub results_nothing : (from n : ℕ) → next_marked (marks_of ms) from ≡ None → results kind start from n (drop from ms) ≡ []
     results_nothing from n e =
         ⊎_elim
         (λ l.

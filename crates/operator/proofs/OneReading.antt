@@ -16,7 +16,7 @@ use Rattle.operator.specs.Bucket.{BucketAdded}
 -- where the lines keep exactly one reading of bucket j, it is the one that is added
 pub one_reading_added :
     (s : Settings) (j : ℕ) (kept : List ℕ) (x : Columns) (o r : Operator) →
-    BucketAdded s j kept x.times x.values x.meters o r → length kept * readings_per_line ≤ store_length x →
+    BucketAdded s j kept x o r → length kept * readings_per_line ≤ store_length x →
     Every Rising (kept_from x 0 kept) → (q : Placed) → gather s.bucket j 1 (kept_from x 0 kept) ≡ q ∷ [] →
     r ≡ add s o q.reading
 unfolding in_bucket sort insert add_all

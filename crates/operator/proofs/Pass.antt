@@ -9,7 +9,7 @@ use mathlib.Core.List.{List, [], ◌∷◌, map}
 use native.Mathlib.Omega.{arith}
 use lib.Dec.{eqb, leb, leb-zero}
 use lib.IntN.{ℤ, pos, ◌+ℤ◌, +ℤ_idr, +ℤ_assoc}
-use lib.ListN.{length, get_or, set, replicate, length-set, get_or-replicate}
+use lib.ListN.{length, get_or, replicate, length-set, get_or-replicate}
 use lib.Seq.{ext_get_or}
 use borrow.Author.Tests.{leb-true, le-leb, lt-leb}
 use Rattle.settings.specs.declared.Settings.{Settings}
@@ -25,6 +25,7 @@ use Rattle.store.proofs.Order.{before_times, not_before_times}
 use Rattle.store.proofs.Sorting.{sort_permutes, sort_sorted}
 use Rattle.operator_meter.specs.declared.Meter.{Meter}
 use Rattle.operator.specs.Meters.{Operator, meter_count, add_all}
+use Rattle.operator.specs.Pass.{Passing, with_older_value, valued, entered}
 use Rattle.operator_meter.specs.Values.{no_meter, with_value, is_counted}
 use Rattle.operator.proofs.Values.{counts_for, values_of, total, last_or, count_of, sum_of, count_of_permuted, sum_of_permuted}
 use Rattle.operator.proofs.Adding.{meter_of, set_read, add_all_length, add_all_number}
@@ -45,33 +46,9 @@ Passed s times values meters places o r =
 
 -- ---- the pass
 
--- the operator in a pass, and for each meter the time of its newest reading met so far
-pub record Passing : Type 0 where
-  pub operator : Operator
-  pub newest : List ℕ
-
 -- the start of a pass: no reading is met
 unfoldable pub started : Operator → Passing
 started o = record { operator = o; newest = replicate meter_count 0 }
-
--- a meter with one value more, where a newer value is there already
-unfoldable pub with_older_value : ℤ → Meter → Meter
-with_older_value v m = record { sum = m.sum +ℤ v; count = m.count + 1; last = m.last }
-
--- a meter with one value more, of a time that is the newest met or not
-unfoldable pub valued : Bool → ℤ → Meter → Meter
-valued isNewest v m = cond isNewest (with_value v m) (with_older_value v m)
-
--- a reading that counts, entered: its time, its value and its meter
-unfoldable pub entered : Passing → ℕ → ℤ → ℕ → Passing
-entered p t v m =
-    record {
-      operator = record {
-        meters = set p.operator.meters m (valued (leb (get_or p.newest m 0) t) v (get_or p.operator.meters m no_meter));
-        number = p.operator.number;
-      };
-      newest = set p.newest m (cond (leb (get_or p.newest m 0) t) t (get_or p.newest m 0));
-    }
 
 -- a reading met
 unfoldable pub meet : Settings → Passing → ℕ → ℤ → ℕ → Passing

@@ -17,7 +17,7 @@ use Rattle.signed.specs.Range.{InRange}
 use Rattle.store.specs.Sizes.{readings_per_line}
 use Rattle.store.specs.Lists.{Every}
 use Rattle.store.specs.Order.{gather, in_bucket}
-use Rattle.store.specs.Columns.{row_at}
+use Rattle.store.specs.Columns.{Columns, row_at}
 use Rattle.store.specs.Parts.{share, kept_from}
 use Rattle.store.proofs.Apart.{gather_ties}
 use Rattle.store.proofs.Choices.{cond_either}
@@ -34,7 +34,8 @@ use Rattle.operator_meter.proofs.Sums.{add_range}
 use Rattle.operator_meter.proofs.Bounds.{Counted, no_counted}
 use Rattle.operator.specs.Meters.{Operator, meter_count}
 use Rattle.operator.specs.Bucket.{BucketAdded}
-use Rattle.operator.proofs.Pass.{Passing, started, valued, valued_count, valued_sum, entered, meet, meet_places, places_passed}
+use Rattle.operator.specs.Pass.{Passing, valued, entered}
+use Rattle.operator.proofs.Pass.{started, valued_count, valued_sum, meet, meet_places, places_passed}
 
 -- the places of bucket j's readings from `at` up to `end`
 abbrev places_up_to : Settings → ℕ → List ℕ → ℕ → ℕ → List ℕ
@@ -44,17 +45,16 @@ places_up_to s j times at end = places_where (is_time_of true s.bucket j) at (sh
 unfoldable pub after_visit : Settings → ℕ → Passing → ℕ → ℤ → ℕ → Passing
 after_visit s j p t v m = cond (eqb (bucket_of s.bucket (record { 0 = t })) j && is_counted s v) (entered p t v m) p
 
-pub visit_enters :
-    (s : Settings) (j : ℕ) (p : Passing) (t : ℕ) (v : ℤ) (m : ℕ) →
-    eqb (bucket_of s.bucket (record { 0 = t })) j && is_counted s v ≡ true → after_visit s j p t v m ≡ entered p t v m
-unfolding after_visit
-visit_enters s j p t v m e = rw e
+-- what the code's two tests tell of it
+module _ (s : Settings) (j : ℕ) (p : Passing) (t : ℕ) (v : ℤ) (m : ℕ) (inside counts : Bool)
+    (in_told : inside ≡ eqb (bucket_of s.bucket (record { 0 = t })) j) (told : counts ≡ is_counted s v) where
+  pub visit_enters : inside && counts ≡ true → entered p t v m ≡ after_visit s j p t v m
+  unfolding after_visit
+  visit_enters e = rw (rw (in_told, told) at e)
 
-pub visit_passes :
-    (s : Settings) (j : ℕ) (p : Passing) (t : ℕ) (v : ℤ) (m : ℕ) →
-    eqb (bucket_of s.bucket (record { 0 = t })) j && is_counted s v ≡ false → after_visit s j p t v m ≡ p
-unfolding after_visit
-visit_passes s j p t v m e = rw e
+  pub visit_passes : inside && counts ≡ false → p ≡ after_visit s j p t v m
+  unfolding after_visit
+  visit_passes e = rw (rw (in_told, told) at e)
 
 -- ---- how much a pass counts
 
@@ -230,16 +230,17 @@ module _ (s : Settings) (j : ℕ) (times : List ℕ) (values : List ℤ) (meters
     pub lines_in_range : Every (λ (m : Meter). InRange m.sum m.count) p.operator.meters
     lines_in_range = every_to p.operator.meters (λ m g. g.range) h.counted
 
-    -- the shares of all lines are behind: the bucket's readings are added
-    pub lines_end :
-        length kept ≤ i → length o.meters ≡ meter_count → Every (λ n. n ≤ readings_per_line) kept →
-        BucketAdded s j kept times values meters o p.operator
-    unfolding bucket_places meet_places in_bucket
-    lines_end l long small x t v m room rising =
-        let places = bucket_places s.bucket j times 0 kept in
-        let end : p ≡ meet_places s times values meters (started o) places = rw (drop_of_length-le kept {i = i} l) at h.left in
-        ap (λ (q : Passing). q.operator) end ∙
-        places_passed s times values meters places o long x t v m (gather s.bucket j 1 (kept_from x 0 kept))
-        (sym (bucket_readings x s.bucket j kept small room) ∙
-        ap (λ (ts : List ℕ). map (row_at x) (bucket_places s.bucket j ts 0 kept)) t)
-        (gather_ties s.bucket j 1 (kept_from x 0 kept) rising)
+-- the shares of all lines are behind: the bucket's readings are added
+pub lines_end :
+    (s : Settings) (j : ℕ) (x : Columns) (kept : List ℕ) (o : Operator) (p : Passing) (i : ℕ) →
+    Lines s j x.times x.values x.meters kept o p i → length kept ≤ i → length o.meters ≡ meter_count →
+    Every (λ n. n ≤ readings_per_line) kept → BucketAdded s j kept x o p.operator
+unfolding bucket_places meet_places in_bucket
+lines_end s j x kept o p i h l long small y t v m room rising =
+    let places = bucket_places s.bucket j x.times 0 kept in
+    let end : p ≡ meet_places s x.times x.values x.meters (started o) places = rw (drop_of_length-le kept {i = i} l) at h.left in
+    ap (λ (q : Passing). q.operator) end ∙
+    places_passed s x.times x.values x.meters places o long y t v m (gather s.bucket j 1 (kept_from y 0 kept))
+    (sym (bucket_readings y s.bucket j kept small room) ∙
+    ap (λ (ts : List ℕ). map (row_at y) (bucket_places s.bucket j ts 0 kept)) t)
+    (gather_ties s.bucket j 1 (kept_from y 0 kept) rising)

@@ -5,3 +5,4 @@ pub mod Parts
 pub mod Work
 pub mod Loaded
 pub mod Bucket
+pub mod Pass

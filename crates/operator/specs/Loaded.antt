@@ -17,6 +17,6 @@ meters_from counts sums lasts i (suc n) = meter_at counts sums lasts i ∷ meter
 unfoldable pub meters_of : List ℕ → List ℤ → List ℤ → List Meter
 meters_of counts sums lasts = meters_from counts sums lasts 0 meter_count
 
--- what a loaded operator stands for
+-- what the operator that the code holds stands for
 abbrev pub operator_of : Loaded → Operator
 operator_of o = record { meters = meters_of o.counts o.sums o.lasts; number = o.number }

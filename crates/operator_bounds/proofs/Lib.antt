@@ -1,4 +1,4 @@
--- Laws on the bounds of the lent meters: one meter's, loops over a row, both rows at once, and small sums.
+-- Laws on the bounds of the meters: of one meter, of a loop over them, of operator and checkpoint at once, and of small sums.
 pub mod OneMeter
 pub mod Turns
 pub mod Places

@@ -1,12 +1,18 @@
 -- The word for one meter, made of how many values are left to it, how far the sum is above the lowest and how far below the highest: its
 -- highest bit is clear exactly if the meter is within its bounds. By the sum's sign.
-use Rattle.std.proofs.Common.{◌≡◌, ℕ, suc, ◌+◌, ◌-◌, ◌*◌, ◌%◌, ◌^◌, ◌<◌, ◌≤◌, true, false, ◌&&◌, ltb, leb, ℤ, pos, negsuc, refl, ◌∙◌, ap₂, arith, le-ltb, lt-ltb, leb-false, leb-true}
+use Rattle.std.proofs.Common.{◌≡◌, ℕ, suc, ◌+◌, ◌-◌, ◌*◌, ◌%◌, ◌^◌, ◌<◌, ◌≤◌, true, false, ◌&&◌, ltb, leb, length, get_or, ℤ, pos, negsuc, sym, refl, ◌∙◌, ap₂, arith, le-ltb, lt-ltb, leb-false, leb-true}
 use mathlib.Core.Bool.{and-false}
 use lib.Bits.{bit_or}
 use lib.Signed.{mag}
 use Rattle.signed.specs.Twos.{twos}
 use Rattle.store.proofs.Over.{below_over}
 use Rattle.operator_meter.specs.Bounds.{count_limit, sum_ok, meter_ok}
+use Rattle.operator_meter.specs.Values.{no_meter}
+use Rattle.operator.specs.Meters.{meter_count}
+use Rattle.operator.specs.Loaded.{meter_at, operator_of}
+use Rattle.operator.specs.declared.Operator.{Operator}
+use Rattle.operator.proofs.Loaded.{length_meters, meter_of}
+use Rattle.operator_bounds.proofs.Turns.{SoFar, so_far_turn}
 
 pub first_below : (a b k : ℕ) → k ≤ a → (ltb a k && ltb b k) ≡ false
 first_below a b k h = rw (le-ltb a k h) refl
@@ -60,3 +66,14 @@ module _ (n word left above below : ℕ) (x last : ℤ) where
         | true ↦ λ t. sum_told n word above below (leb-true n count_limit t) below_fits x x_Fits e low high
         | false ↦ λ t. refl
       ]) refl
+
+-- one turn of the loop: the word of the meter at place i is laid over those before
+pub meter_turn :
+    (o : Operator) (all word i : ℕ) → i < meter_count →
+    ((last : ℤ) → ltb word (2 ^ 63) ≡ meter_ok (record { sum = get_or o.sums i (pos 0); count = get_or o.counts i 0; last = last })) →
+    SoFar meter_ok (operator_of o).meters (ltb all (2 ^ 63)) i → SoFar meter_ok (operator_of o).meters (ltb (bit_or all word) (2 ^ 63)) (suc i)
+unfolding meter_at
+meter_turn o all word i h told e =
+    let g : i < length (operator_of o).meters = omega (arith, length_meters o.counts o.sums o.lasts) in
+    rw (below_over 63 all word, told (get_or o.lasts i (pos 0)), sym (meter_of o.counts o.sums o.lasts i h))
+    (so_far_turn meter_ok (operator_of o).meters (ltb all (2 ^ 63)) i no_meter g e)

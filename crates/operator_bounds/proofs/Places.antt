@@ -1,5 +1,5 @@
--- Both rows place by place: one turn of the loops that test them, and what the tests say of the bounds. A meter without count and sum is
--- within its bounds; of two with one count and one sum, both are or neither is.
+-- Operator and checkpoint place by place: one turn of the loops that test them, and what the tests say of the bounds. A meter without count
+-- and sum is within its bounds; of two with one count and one sum, both are or neither is.
 use Rattle.std.proofs.Common.{◌≡◌, ℕ, zero, suc, ◌-◌, ◌^◌, ◌<◌, Bool, true, false, ◌&&◌, eqb, ltb, leb, List, [], ◌∷◌, length, get_or, ℤ, pos, negsuc, sym, refl, ap, ◌∙◌, ap₂, arith, ltb-true, eq-eqb, ne_eqb, eqb-true}
 use borrow.Author.Tests.{eqb-false}
 use lib.Bits.{bit_or, bit_xor}
@@ -12,7 +12,9 @@ use Rattle.operator_meter.specs.declared.Meter.{Meter}
 use Rattle.operator_meter.specs.Values.{no_meter}
 use Rattle.operator_meter.specs.Bounds.{count_limit, sum_ok, meter_ok}
 use Rattle.operator.specs.Meters.{meter_count}
-use Rattle.operator_rows.specs.Rows.{Rows, operator_row, checkpoint_row, meters_in}
+use Rattle.operator.specs.Loaded.{meter_at, operator_of}
+use Rattle.operator.specs.declared.Operator.{Operator}
+use Rattle.operator.proofs.Loaded.{length_meters, meter_of}
 use Rattle.operator_bounds.specs.Places.{
   all_below,
   same_sum,
@@ -23,9 +25,8 @@ use Rattle.operator_bounds.specs.Places.{
   counts_equal_at,
   sums_zero_at,
   sums_equal_at,
-  rows_equal,
+  meters_equal,
 }
-use Rattle.operator_rows.proofs.InRow.{meter_in, length_in, meter_in_lem}
 
 -- ---- sums
 
@@ -50,51 +51,44 @@ same_sum_lem (negsuc a) (negsuc b) e = ap negsuc (eqb-true a b e)
 -- ---- one turn
 
 -- n is made of what stands before place i; v and w are the words of the sums there
-module _ (counts : List (List ℕ)) (i n : ℕ) where
+module _ (o p : Operator) (i n : ℕ) where
   pub counts_over_turn :
-      ((k : ℕ) → ltb n (2 ^ k) ≡ all_below (counts_below_at k counts) i) →
-      (k : ℕ) → ltb (bit_or n (bit_or (count_in counts operator_row i) (count_in counts checkpoint_row i))) (2 ^ k) ≡
-      all_below (counts_below_at k counts) (suc i)
+      ((k : ℕ) → ltb n (2 ^ k) ≡ all_below (counts_below_at o p k) i) →
+      (k : ℕ) → ltb (bit_or n (bit_or (count_in o i) (count_in p i))) (2 ^ k) ≡ all_below (counts_below_at o p k) (suc i)
   unfolding all_below counts_below_at
   counts_over_turn e k =
-      let a = count_in counts operator_row i in
-      let b = count_in counts checkpoint_row i in
+      let a = count_in o i in
+      let b = count_in p i in
       below_over k n (bit_or a b) ∙ ap₂ ◌&&◌ (e k) (below_over k a b)
 
   pub counts_equal_turn :
-      eqb n 0 ≡ all_below (counts_equal_at counts) i →
-      eqb (bit_or n (bit_xor (count_in counts operator_row i) (count_in counts checkpoint_row i))) 0 ≡ all_below (counts_equal_at counts) (suc i)
+      eqb n 0 ≡ all_below (counts_equal_at o p) i →
+      eqb (bit_or n (bit_xor (count_in o i) (count_in p i))) 0 ≡ all_below (counts_equal_at o p) (suc i)
   unfolding all_below counts_equal_at
   counts_equal_turn e =
-      let a = count_in counts operator_row i in
-      let b = count_in counts checkpoint_row i in
+      let a = count_in o i in
+      let b = count_in p i in
       zero_over n (bit_xor a b) ∙ ap₂ ◌&&◌ e (zero_apart a b)
 
-module _ (sums : List (List ℤ)) (i n v w : ℕ) where
-  abbrev WordsAt : Type 0
-  WordsAt =
-      (mag (sum_in sums operator_row i) < 2 ^ 63) × (mag (sum_in sums checkpoint_row i) < 2 ^ 63) ×
-      (v ≡ twos 64 (sum_in sums operator_row i)) × (w ≡ twos 64 (sum_in sums checkpoint_row i))
+  module _ (v w : ℕ) where
+    abbrev WordsAt : Type 0
+    WordsAt =
+        (mag (sum_in o i) < 2 ^ 63) × (mag (sum_in p i) < 2 ^ 63) × (v ≡ twos 64 (sum_in o i)) × (w ≡ twos 64 (sum_in p i))
 
-  zero_word : (x : ℤ) (u : ℕ) → mag x < 2 ^ 63 → u ≡ twos 64 x → eqb u 0 ≡ same_sum x (pos 0)
-  unfolding twos
-  zero_word x u f e = ap (λ (m : ℕ). eqb m 0) e ∙ sum_same x (pos 0) f (omega arith)
+    zero_word : (x : ℤ) (u : ℕ) → mag x < 2 ^ 63 → u ≡ twos 64 x → eqb u 0 ≡ same_sum x (pos 0)
+    unfolding twos
+    zero_word x u f e = ap (λ (m : ℕ). eqb m 0) e ∙ sum_same x (pos 0) f (omega arith)
 
-  pub sums_zero_turn :
-      WordsAt → eqb n 0 ≡ all_below (sums_zero_at sums) i → eqb (bit_or n (bit_or v w)) 0 ≡ all_below (sums_zero_at sums) (suc i)
-  unfolding all_below sums_zero_at
-  sums_zero_turn (f, g, p, q) e =
-      let x = sum_in sums operator_row i in
-      let y = sum_in sums checkpoint_row i in
-      zero_over n (bit_or v w) ∙ ap₂ ◌&&◌ e (zero_over v w ∙ ap₂ ◌&&◌ (zero_word x v f p) (zero_word y w g q))
+    pub sums_zero_turn : WordsAt → eqb n 0 ≡ all_below (sums_zero_at o p) i → eqb (bit_or n (bit_or v w)) 0 ≡ all_below (sums_zero_at o p) (suc i)
+    unfolding all_below sums_zero_at
+    sums_zero_turn (f, g, a, b) e =
+        zero_over n (bit_or v w) ∙
+        ap₂ ◌&&◌ e (zero_over v w ∙ ap₂ ◌&&◌ (zero_word (sum_in o i) v f a) (zero_word (sum_in p i) w g b))
 
-  pub sums_equal_turn :
-      WordsAt → eqb n 0 ≡ all_below (sums_equal_at sums) i → eqb (bit_or n (bit_xor v w)) 0 ≡ all_below (sums_equal_at sums) (suc i)
-  unfolding all_below sums_equal_at
-  sums_equal_turn (f, g, p, q) e =
-      let x = sum_in sums operator_row i in
-      let y = sum_in sums checkpoint_row i in
-      zero_over n (bit_xor v w) ∙ ap₂ ◌&&◌ e (zero_apart v w ∙ ap₂ eqb p q ∙ sum_same x y f g)
+    pub sums_equal_turn : WordsAt → eqb n 0 ≡ all_below (sums_equal_at o p) i → eqb (bit_or n (bit_xor v w)) 0 ≡ all_below (sums_equal_at o p) (suc i)
+    unfolding all_below sums_equal_at
+    sums_equal_turn (f, g, a, b) e =
+        zero_over n (bit_xor v w) ∙ ap₂ ◌&&◌ e (zero_apart v w ∙ ap₂ eqb a b ∙ sum_same (sum_in o i) (sum_in p i) f g)
 
 -- ---- all places
 
@@ -136,38 +130,37 @@ unfolding meter_ok
 equal_ok m o e f =
     ap₂ (λ (n : ℕ) (x : ℤ). leb n count_limit && sum_ok x n) (eqb-true m.count o.count e) (same_sum_lem m.sum o.sum f)
 
-module _ (x : Rows) where
-  abbrev EmptyRow : ℕ → Type 0
-  EmptyRow k = (i : ℕ) → i < meter_count → (ltb (meter_in x k i).count 1 ≡ true) × (same_sum (meter_in x k i).sum (pos 0) ≡ true)
+-- every meter passes a test that each place's meter passes
+pub each_ok : (o : Operator) → ((i : ℕ) → i < meter_count → meter_ok (meter_at o.counts o.sums o.lasts i) ≡ true) → all_of meter_ok (operator_of o).meters ≡ true
+each_ok o f =
+    all_pass meter_ok no_meter (operator_of o).meters
+    (λ i h.
+    let g : i < meter_count = omega (arith, length_meters o.counts o.sums o.lasts) in
+    rw (meter_of o.counts o.sums o.lasts i g) (f i g))
 
-  row_ok : (k : ℕ) → EmptyRow k → all_of meter_ok (meters_in k x) ≡ true
-  row_ok k f =
-      all_pass meter_ok no_meter (meters_in k x)
-      (λ i h.
-      let g : i < meter_count = omega (arith, length_in x k) in
-      rw (meter_in_lem x k i g) (empty_ok (meter_in x k i) (f i g).0 (f i g).1))
-
+module _ (o p : Operator) where
   pub empty_within :
-      (over : ℕ) → CountsOver over x.counts → (eqb over 0 && all_below (sums_zero_at x.sums) meter_count) ≡ true →
-      (all_of meter_ok (meters_in operator_row x) ≡ true) × (all_of meter_ok (meters_in checkpoint_row x) ≡ true)
-  unfolding counts_below_at sums_zero_at
+      (over : ℕ) → CountsOver o p over → (eqb over 0 && all_below (sums_zero_at o p) meter_count) ≡ true →
+      (all_of meter_ok (operator_of o).meters ≡ true) × (all_of meter_ok (operator_of p).meters ≡ true)
+  unfolding counts_below_at sums_zero_at meter_at
   empty_within over told e =
-      let (none, summed) = and_parts (eqb over 0) (all_below (sums_zero_at x.sums) meter_count) e in
-      let counted : all_below (counts_below_at 0 x.counts) meter_count ≡ true = rw (eqb-true over 0 none) at (sym (told 0)) in
-      let count : (i : ℕ) → i < meter_count → _ = λ i h. and_parts _ _ (below_all (counts_below_at 0 x.counts) meter_count counted i h) in
-      let sum : (i : ℕ) → i < meter_count → _ = λ i h. and_parts _ _ (below_all (sums_zero_at x.sums) meter_count summed i h) in
-      (row_ok operator_row (λ i h. ((count i h).0, (sum i h).0)), row_ok checkpoint_row (λ i h. ((count i h).1, (sum i h).1)))
+      let (none, summed) = and_parts (eqb over 0) (all_below (sums_zero_at o p) meter_count) e in
+      let counted : all_below (counts_below_at o p 0) meter_count ≡ true = rw (eqb-true over 0 none) at (sym (told 0)) in
+      let count : (i : ℕ) → i < meter_count → _ = λ i h. and_parts _ _ (below_all (counts_below_at o p 0) meter_count counted i h) in
+      let sum : (i : ℕ) → i < meter_count → _ = λ i h. and_parts _ _ (below_all (sums_zero_at o p) meter_count summed i h) in (
+        each_ok o (λ i h. empty_ok (meter_at o.counts o.sums o.lasts i) (count i h).0 (sum i h).0),
+        each_ok p (λ i h. empty_ok (meter_at p.counts p.sums p.lasts i) (count i h).1 (sum i h).1),
+      )
 
-  pub equal_within :
-      rows_equal x.counts x.sums ≡ true → all_of meter_ok (meters_in operator_row x) ≡ all_of meter_ok (meters_in checkpoint_row x)
-  unfolding rows_equal counts_equal_at sums_equal_at
+  pub equal_within : meters_equal o p ≡ true → all_of meter_ok (operator_of o).meters ≡ all_of meter_ok (operator_of p).meters
+  unfolding meters_equal counts_equal_at sums_equal_at meter_at
   equal_within e =
-      let (counted, summed) = and_parts (all_below (counts_equal_at x.counts) meter_count) (all_below (sums_equal_at x.sums) meter_count) e in
-      all_same meter_ok no_meter (meters_in operator_row x) (meters_in checkpoint_row x)
-      (length_in x operator_row ∙ sym (length_in x checkpoint_row))
+      let (counted, summed) = and_parts (all_below (counts_equal_at o p) meter_count) (all_below (sums_equal_at o p) meter_count) e in
+      all_same meter_ok no_meter (operator_of o).meters (operator_of p).meters
+      (length_meters o.counts o.sums o.lasts ∙ sym (length_meters p.counts p.sums p.lasts))
       (λ i h.
-      let g : i < meter_count = omega (arith, length_in x operator_row) in
-      rw (meter_in_lem x operator_row i g, meter_in_lem x checkpoint_row i g)
-      (equal_ok (meter_in x operator_row i) (meter_in x checkpoint_row i)
-      (below_all (counts_equal_at x.counts) meter_count counted i g)
-      (below_all (sums_equal_at x.sums) meter_count summed i g)))
+      let g : i < meter_count = omega (arith, length_meters o.counts o.sums o.lasts) in
+      rw (meter_of o.counts o.sums o.lasts i g, meter_of p.counts p.sums p.lasts i g)
+      (equal_ok (meter_at o.counts o.sums o.lasts i) (meter_at p.counts p.sums p.lasts i)
+      (below_all (counts_equal_at o p) meter_count counted i g)
+      (below_all (sums_equal_at o p) meter_count summed i g)))

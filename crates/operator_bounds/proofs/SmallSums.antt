@@ -1,6 +1,6 @@
--- Sums whose magnitude is at most 2^30 for each value: the word that tells one, one turn of the loop over a row, and that a row of them
--- with counts below the limit is within its bounds.
-use Rattle.std.proofs.Common.{◌≡◌, ℕ, zero, suc, ◌+◌, ◌-◌, ◌*◌, ◌%◌, ◌^◌, ◌<◌, ◌≤◌, true, false, ◌&&◌, ltb, leb, List, ℤ, pos, negsuc, refl, ◌∙◌, ap₂, arith, ltb-true, le-leb, leb-false, leb-true}
+-- Sums whose magnitude is at most 2^30 for each value: the word that tells one, one turn of the loop over them, and that meters with such
+-- sums and counts below the limit are within their bounds.
+use Rattle.std.proofs.Common.{◌≡◌, ℕ, suc, ◌+◌, ◌-◌, ◌*◌, ◌%◌, ◌^◌, ◌<◌, ◌≤◌, true, false, ◌&&◌, ltb, leb, ℤ, pos, negsuc, sym, refl, ◌∙◌, ap₂, arith, ltb-true, lt-ltb, le-leb, leb-false, leb-true}
 use lib.Bits.{bit_or}
 use lib.Signed.{mag}
 use Rattle.signed.specs.Twos.{twos}
@@ -8,14 +8,13 @@ use Rattle.store.specs.Lists.{all_of}
 use Rattle.store.proofs.Choices.{and_parts}
 use Rattle.store.proofs.Over.{below_over}
 use Rattle.operator_meter.specs.declared.Meter.{Meter}
-use Rattle.operator_meter.specs.Values.{no_meter}
 use Rattle.operator_meter.specs.Bounds.{count_limit, sum_ok, meter_ok}
 use Rattle.operator.specs.Meters.{meter_count}
-use Rattle.operator_rows.specs.Rows.{Rows, operator_row, checkpoint_row, meters_in}
-use Rattle.operator_rows.proofs.InRow.{meter_in, length_in, meter_in_lem}
-use Rattle.operator_bounds.specs.Places.{all_below, count_in, sum_in, counts_below_at, sum_small, sum_small_at}
+use Rattle.operator.specs.Loaded.{meter_at, operator_of}
+use Rattle.operator.specs.declared.Operator.{Operator}
+use Rattle.operator_bounds.specs.Places.{all_below, count_in, sum_in, CountsOver, counts_below_at, sum_small, sum_small_at}
 use Rattle.operator_bounds.proofs.OneMeter.{first_below, second_below, both_below}
-use Rattle.operator_bounds.proofs.Places.{below_all, all_pass}
+use Rattle.operator_bounds.proofs.Places.{below_all, each_ok}
 
 -- ---- one meter
 
@@ -57,36 +56,29 @@ small_ok : (m : Meter) → m.count < 2 ^ 15 → sum_small m.sum m.count ≡ true
 unfolding meter_ok
 small_ok m few e = ap₂ ◌&&◌ (le-leb m.count count_limit (omega arith)) (small_sum_ok m.sum m.count e)
 
--- ---- a row
+-- ---- every meter
 
 pub sums_small_turn :
-    (row : ℕ) (counts : List (List ℕ)) (sums : List (List ℤ)) (i all word : ℕ) →
-    ltb word (2 ^ 63) ≡ sum_small (sum_in sums row i) (count_in counts row i) →
-    ltb all (2 ^ 63) ≡ all_below (sum_small_at row counts sums) i →
-    ltb (bit_or all word) (2 ^ 63) ≡ all_below (sum_small_at row counts sums) (suc i)
+    (o : Operator) (i all word : ℕ) → ltb word (2 ^ 63) ≡ sum_small (sum_in o i) (count_in o i) →
+    ltb all (2 ^ 63) ≡ all_below (sum_small_at o) i → ltb (bit_or all word) (2 ^ 63) ≡ all_below (sum_small_at o) (suc i)
 unfolding all_below sum_small_at
-sums_small_turn row counts sums i all word told e = below_over 63 all word ∙ ap₂ ◌&&◌ e told
-
--- either row's count
-count_below : (k : ℕ) (counts : List (List ℕ)) (i row : ℕ) → row < 2 → counts_below_at k counts i ≡ true → count_in counts row i < 2 ^ k
-unfolding counts_below_at
-count_below k counts i zero h e =
-    ltb-true (count_in counts operator_row i) (2 ^ k)
-    (and_parts (ltb (count_in counts operator_row i) (2 ^ k)) (ltb (count_in counts checkpoint_row i) (2 ^ k)) e).0
-count_below k counts i (suc zero) h e =
-    ltb-true (count_in counts checkpoint_row i) (2 ^ k)
-    (and_parts (ltb (count_in counts operator_row i) (2 ^ k)) (ltb (count_in counts checkpoint_row i) (2 ^ k)) e).1
-count_below k counts i (suc (suc row)) h e = absurd (omega arith)
+sums_small_turn o i all word told e = below_over 63 all word ∙ ap₂ ◌&&◌ e told
 
 pub small_within :
-    (x : Rows) (row : ℕ) → row < 2 → all_below (counts_below_at 15 x.counts) meter_count ≡ true →
-    all_below (sum_small_at row x.counts x.sums) meter_count ≡ true → all_of meter_ok (meters_in row x) ≡ true
-unfolding sum_small_at
-small_within x row two few small =
-    all_pass meter_ok no_meter (meters_in row x)
-    (λ i h.
-    let g : i < meter_count = omega (arith, length_in x row) in
-    rw (meter_in_lem x row i g)
-    (small_ok (meter_in x row i)
-    (count_below 15 x.counts i row two (below_all (counts_below_at 15 x.counts) meter_count few i g))
-    (below_all (sum_small_at row x.counts x.sums) meter_count small i g)))
+    (o : Operator) → ((i : ℕ) → i < meter_count → count_in o i < count_limit) → all_below (sum_small_at o) meter_count ≡ true →
+    all_of meter_ok (operator_of o).meters ≡ true
+unfolding sum_small_at meter_at
+small_within o few small =
+    each_ok o (λ i g. small_ok (meter_at o.counts o.sums o.lasts i) (few i g) (below_all (sum_small_at o) meter_count small i g))
+
+-- what is below the limit laid over is in each operator
+pub counts_few :
+    (o p : Operator) (over : ℕ) → CountsOver o p over → over < count_limit →
+    ((i : ℕ) → i < meter_count → count_in o i < count_limit) × ((i : ℕ) → i < meter_count → count_in p i < count_limit)
+unfolding counts_below_at
+counts_few o p over told h =
+    let few : all_below (counts_below_at o p 15) meter_count ≡ true = sym (told 15) ∙ lt-ltb over (2 ^ 15) (omega arith) in
+    let parts : (i : ℕ) → i < meter_count → _ = λ i g. and_parts _ _ (below_all (counts_below_at o p 15) meter_count few i g) in (
+      λ i g. ltb-true (count_in o i) (2 ^ 15) (parts i g).0,
+      λ i g. ltb-true (count_in p i) (2 ^ 15) (parts i g).1,
+    )

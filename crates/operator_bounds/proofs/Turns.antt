@@ -1,4 +1,4 @@
--- A loop over the meters of a row: what is found so far and what the meters left say, together, are what all say.
+-- A loop over meters: what is found so far and what the meters left say, together, are what all say.
 use Rattle.std.proofs.Common.{◌≡◌, ℕ, suc, ◌<◌, ◌≤◌, Bool, ◌&&◌, List, length, get_or, drop, sym, ap, ◌∙◌, drop_of_length-le, drop-cons}
 use mathlib.Core.Bool.{and-true, and_assoc}
 use Rattle.store.specs.Lists.{all_of}

@@ -1,2 +1,2 @@
--- Tests of the lent meters.
+-- Tests of the meters of operator and checkpoint.
 pub mod Places

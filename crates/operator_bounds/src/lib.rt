@@ -1,16 +1,16 @@
 // Refusal 4's bounds over the meters of operator and checkpoint.
 #![tactic(auto)]
 
-ghost use Rattle.std.specs.Prelude.{◌≡◌, ◌^◌, ◌<◌, ◌&&◌, List, ℤ, ◌==◌, nat_lt};
+ghost use Rattle.std.specs.Prelude.{◌≡◌, ◌^◌, ◌<◌, ◌&&◌, ℕ, ℤ, true, ◌==◌, nat_lt};
 ghost use Rattle.store.specs.Lists.{all_of};
-ghost use Rattle.operator_meter.specs.Bounds.{meter_ok};
+ghost use Rattle.operator_meter.specs.Bounds.{count_limit, meter_ok};
 ghost use Rattle.operator.specs.Meters.{meter_count};
-ghost use Rattle.operator_rows.specs.Rows.{Rows, rows_of, operator_row, checkpoint_row, meters_in};
-ghost use Rattle.operator_bounds.specs.Places.{CountsOver, all_below, sum_small, sum_small_at, sums_zero_at, counts_equal_at};
-ghost use Rattle.operator_bounds.specs.Places.{sums_equal_at, rows_equal};
+ghost use Rattle.operator.specs.Loaded.{operator_of};
+ghost use Rattle.operator_bounds.specs.Places.{CountsOver, all_below, count_in, sum_small, sum_small_at, sums_zero_at};
+ghost use Rattle.operator_bounds.specs.Places.{counts_equal_at, sums_equal_at, meters_equal};
 
-use operator::METERS;
-use operator_rows::{CHECKPOINT, OPERATOR, ROWS};
+use operator::Operator;
+use signed::Signed;
 
 // What a word's highest bit counts.
 const HIGHEST_BIT: u64 = 9_223_372_036_854_775_808;
@@ -22,29 +22,20 @@ fn beyond(count: u32, sum: i64) -> u64
     ensures { (last : ℤ) → nat_lt result (2 ^ 63) ≡ meter_ok (record { sum = sum; count = count; last = last }) }
 {
     let n = count as u64;
-    let bits = signed::bits64(sum);
+    let bits = sum.to_word();
     let left = std::num::wrapping_sub_u64(operator_meter::COUNT_LIMIT as u64, n);
     let above_lowest = std::num::wrapping_add_u64(2_147_483_648 * n, bits);
     let below_highest = std::num::wrapping_sub_u64(2_147_483_647 * n, bits);
     left | (above_lowest | below_highest)
 }
 
-// Whether every meter of a row is within its bounds. Every one is looked at, so that the loop has no way out but its end.
-fn is_row_within_bounds(
-    counts: &[[u32; METERS]; ROWS],
-    sums: &[[i64; METERS]; ROWS],
-    row: usize,
-) -> bool
-    requires { row < 2 }
-    ensures { (lasts : List (List ℤ)) → (let rows : Rows = rows_of counts.now sums.now lasts in
-        result ≡ all_of meter_ok (meters_in row rows)) }
+// Whether every meter is within its bounds. Every one is looked at, so that the loop has no way out but its end.
+fn is_each_within_bounds(o: &Operator) -> bool
+    ensures { result ≡ all_of meter_ok (operator_of o.now).meters }
 {
-    let mut all = 0u64;
-    let mut i = 0usize;
-    while i < METERS {
-        let sum = sums[row][i];
-        all = all | beyond(counts[row][i], sum);
-        i = i + 1;
+    let mut all = 0;
+    for (n, sum) in o.counts.iter().zip(o.sums.iter()) {
+        all |= beyond(*n, *sum);
     }
     all < HIGHEST_BIT
 }
@@ -55,146 +46,124 @@ fn beyond_half(count: u32, sum: i64) -> u64
     ensures { nat_lt result (2 ^ 63) ≡ sum_small sum count }
 {
     let most = 1_073_741_824 * (count as u64);
-    let bits = signed::bits64(sum);
+    let bits = sum.to_word();
     std::num::wrapping_add_u64(most, bits) | std::num::wrapping_sub_u64(most, bits)
 }
 
-// Whether the sums of a row are in the inner half of their bounds, as they mostly are. The loop is shorter than that of the bounds, and
-// leaves the counts' limit out.
-fn are_sums_small(counts: &[[u32; METERS]; ROWS], sums: &[[i64; METERS]; ROWS], row: usize) -> bool
-    requires { row < 2 }
-    ensures { result ≡ all_below (sum_small_at row counts.now sums.now) meter_count }
+// Whether the sums are in the inner half of their bounds, as they mostly are. The loop is shorter than that of the bounds, and leaves the
+// counts' limit out.
+fn are_sums_small(o: &Operator) -> bool
+    ensures { result ≡ all_below (sum_small_at o.now) meter_count }
 {
-    let mut all = 0u64;
-    let mut place = 0usize;
-    while place < METERS {
-        let sum = sums[row][place];
-        all = all | beyond_half(counts[row][place], sum);
-        place = place + 1;
+    let mut all = 0;
+    for (count, sum) in o.counts.iter().zip(o.sums.iter()) {
+        all |= beyond_half(*count, *sum);
     }
     all < HIGHEST_BIT
 }
 
-// All counts of both rows, laid over each other. Here and below, counts and sums have a loop each, without a way out but its end, so that
-// the compiler takes as many places side by side as their width allows.
-pub fn counts_over(counts: &[[u32; METERS]; ROWS]) -> u32
-    ensures { CountsOver result counts.now }
+// All counts of both, laid over each other. Here and below, counts and sums have a loop each, without a way out but its end, so that the
+// compiler takes as many places side by side as their width allows.
+pub fn counts_over(operator: &Operator, checkpoint: &Operator) -> u32
+    ensures { CountsOver operator.now checkpoint.now result }
 {
-    let mut over = 0u32;
-    let mut place = 0usize;
-    while place < METERS {
-        over = over | (counts[OPERATOR][place] | counts[CHECKPOINT][place]);
-        place = place + 1;
+    let mut over = 0;
+    for (first, second) in operator.counts.iter().zip(checkpoint.counts.iter()) {
+        over |= *first | *second;
     }
     over
 }
 
-// Whether every meter of a row is within its bounds; `over` is all counts, laid over each other.
-fn is_row_ok(
-    counts: &[[u32; METERS]; ROWS],
-    sums: &[[i64; METERS]; ROWS],
-    row: usize,
-    over: u32,
-) -> bool
-    requires { (row < 2) × CountsOver over counts.now }
-    ensures { (lasts : List (List ℤ)) → (let rows : Rows = rows_of counts.now sums.now lasts in
-        result ≡ all_of meter_ok (meters_in row rows)) }
+// Whether every meter is within its bounds, where a caller knows whether all counts are few.
+fn is_each_ok(o: &Operator, few: bool) -> bool
+    requires { few ≡ true → ((i : ℕ) → i < meter_count → count_in o.now i < count_limit) }
+    ensures { result ≡ all_of meter_ok (operator_of o.now).meters }
 {
-    if over < operator_meter::COUNT_LIMIT {
-        if are_sums_small(counts, sums, row) {
+    if few {
+        if are_sums_small(o) {
             return true;
         }
     }
-    is_row_within_bounds(counts, sums, row)
+    is_each_within_bounds(o)
 }
 
-// Whether every sum of both rows is 0.
-fn are_sums_zero(sums: &[[i64; METERS]; ROWS]) -> bool
-    ensures { result ≡ all_below (sums_zero_at sums.now) meter_count }
+// Whether every sum of both is 0.
+fn are_sums_zero(operator: &Operator, checkpoint: &Operator) -> bool
+    ensures { result ≡ all_below (sums_zero_at operator.now checkpoint.now) meter_count }
 {
-    let mut any = 0u64;
-    let mut place = 0usize;
-    while place < METERS {
-        let first = sums[OPERATOR][place];
-        let second = sums[CHECKPOINT][place];
-        any = any | (signed::bits64(first) | signed::bits64(second));
-        place = place + 1;
+    let mut any = 0;
+    for (first, second) in operator.sums.iter().zip(checkpoint.sums.iter()) {
+        any |= first.to_word() | second.to_word();
     }
     any == 0
 }
 
 // Whether the checkpoint's counts are the operator's.
-fn are_counts_equal(counts: &[[u32; METERS]; ROWS]) -> bool
-    ensures { result ≡ all_below (counts_equal_at counts.now) meter_count }
+fn are_counts_equal(operator: &Operator, checkpoint: &Operator) -> bool
+    ensures { result ≡ all_below (counts_equal_at operator.now checkpoint.now) meter_count }
 {
-    let mut apart = 0u32;
-    let mut place = 0usize;
-    while place < METERS {
-        apart = apart | (counts[OPERATOR][place] ^ counts[CHECKPOINT][place]);
-        place = place + 1;
+    let mut apart = 0;
+    for (first, second) in operator.counts.iter().zip(checkpoint.counts.iter()) {
+        apart |= *first ^ *second;
     }
     apart == 0
 }
 
 // Whether the checkpoint's sums are the operator's.
-fn are_sums_equal(sums: &[[i64; METERS]; ROWS]) -> bool
-    ensures { result ≡ all_below (sums_equal_at sums.now) meter_count }
+fn are_sums_equal(operator: &Operator, checkpoint: &Operator) -> bool
+    ensures { result ≡ all_below (sums_equal_at operator.now checkpoint.now) meter_count }
 {
-    let mut apart = 0u64;
-    let mut place = 0usize;
-    while place < METERS {
-        let first = sums[OPERATOR][place];
-        let second = sums[CHECKPOINT][place];
-        apart = apart | (signed::bits64(first) ^ signed::bits64(second));
-        place = place + 1;
+    let mut apart = 0;
+    for (first, second) in operator.sums.iter().zip(checkpoint.sums.iter()) {
+        apart |= first.to_word() ^ second.to_word();
     }
     apart == 0
 }
 
 // Whether no meter of operator and checkpoint has a count or a sum, as between windows.
-pub fn are_rows_empty(over: u32, sums: &[[i64; METERS]; ROWS]) -> bool
-    ensures { result ≡ (over == 0 && all_below (sums_zero_at sums.now) meter_count) }
+pub fn are_meters_empty(operator: &Operator, checkpoint: &Operator, over: u32) -> bool
+    ensures { result ≡ (over == 0 && all_below (sums_zero_at operator.now checkpoint.now) meter_count) }
 {
     if over != 0 {
         return false;
     }
-    are_sums_zero(sums)
+    are_sums_zero(operator, checkpoint)
 }
 
 // Whether counts and sums of the checkpoint are the operator's, as while no tentative work is out.
-fn are_rows_equal(counts: &[[u32; METERS]; ROWS], sums: &[[i64; METERS]; ROWS]) -> bool
-    ensures { result ≡ rows_equal counts.now sums.now }
+#[tactic(auto, unfolding(crate::specs::Places::meters_equal))]
+fn are_meters_equal(operator: &Operator, checkpoint: &Operator) -> bool
+    ensures { result ≡ meters_equal operator.now checkpoint.now }
 {
-    if !are_counts_equal(counts) {
+    if !are_counts_equal(operator, checkpoint) {
         return false;
     }
-    are_sums_equal(sums)
+    are_sums_equal(operator, checkpoint)
 }
 
-// Whether every meter of operator and checkpoint is within its bounds; `over` is all counts, laid over each other. Where the operator's row
-// is, a checkpoint equal to it needs no look.
-pub fn are_rows_ok(counts: &[[u32; METERS]; ROWS], sums: &[[i64; METERS]; ROWS], over: u32) -> bool
-    requires { CountsOver over counts.now }
-    ensures { (lasts : List (List ℤ)) → (let rows : Rows = rows_of counts.now sums.now lasts in
-        result ≡ (all_of meter_ok (meters_in operator_row rows) && all_of meter_ok (meters_in checkpoint_row rows))) }
+// Whether every meter of operator and checkpoint is within its bounds; `over` is all counts, laid over each other. Where the operator's
+// are, a checkpoint equal to it needs no look.
+pub fn are_meters_ok(operator: &Operator, checkpoint: &Operator, over: u32) -> bool
+    requires { CountsOver operator.now checkpoint.now over }
+    ensures { result ≡ (all_of meter_ok (operator_of operator.now).meters && all_of meter_ok (operator_of checkpoint.now).meters) }
 {
-    if !is_row_ok(counts, sums, OPERATOR, over) {
+    let few = over < operator_meter::COUNT_LIMIT;
+    if !is_each_ok(operator, few) {
         return false;
     }
-    if are_rows_equal(counts, sums) {
+    if are_meters_equal(operator, checkpoint) {
         return true;
     }
-    is_row_ok(counts, sums, CHECKPOINT, over)
+    is_each_ok(checkpoint, few)
 }
 
-// The same, where nothing is known of the counts. Empty rows are within their bounds.
-pub fn are_within_bounds(counts: &[[u32; METERS]; ROWS], sums: &[[i64; METERS]; ROWS]) -> bool
-    ensures { (lasts : List (List ℤ)) → (let rows : Rows = rows_of counts.now sums.now lasts in
-        result ≡ (all_of meter_ok (meters_in operator_row rows) && all_of meter_ok (meters_in checkpoint_row rows))) }
+// The same, where nothing is known of the counts. Empty meters are within their bounds.
+pub fn are_within_bounds(operator: &Operator, checkpoint: &Operator) -> bool
+    ensures { result ≡ (all_of meter_ok (operator_of operator.now).meters && all_of meter_ok (operator_of checkpoint.now).meters) }
 {
-    let over = counts_over(counts);
-    if are_rows_empty(over, sums) {
+    let over = counts_over(operator, checkpoint);
+    if are_meters_empty(operator, checkpoint, over) {
         return true;
     }
-    are_rows_ok(counts, sums, over)
+    are_meters_ok(operator, checkpoint, over)
 }

@@ -17,6 +17,7 @@ pub struct Meter {
 }
 
 // A value that the operator does not drop.
+#[tactic(auto, unfolding(crate::specs::Values::is_counted))]
 pub fn is_counted(s: Settings, value: i32) -> bool
     ensures { result ≡ is_counted s value }
 {

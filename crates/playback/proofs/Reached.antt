@@ -4,11 +4,12 @@ use Prim.Native.Nat.{ℕ, zero, suc}
 use mathlib.Core.Path.{refl, sym, ap, ap₂, subst, ◌∙◌}
 use mathlib.Core.Bool.{Bool, true, false, cond}
 use mathlib.Core.List.{List, [], ◌∷◌, ◌++◌}
+use Rattle.std.specs.Prelude.{Option, Some, None}
 use Rattle.commands.specs.declared.Command.{Command}
 use Rattle.commands.specs.ReadLine.{command_of}
 use Rattle.settings.specs.Limits.{max_displays}
 use Rattle.node.specs.declared.State.{State}
-use Rattle.node.specs.Held.{Held, Arrays, held}
+use Rattle.node.specs.Held.{Held, held}
 use Rattle.node.specs.View.{Lent}
 use Rattle.node.specs.Calls.{Called, called_on}
 use Rattle.node.specs.Displays.{acknowledged_on}
@@ -74,11 +75,11 @@ module _ (b : Box) (text area : List ℕ) (acknowledging : Bool) where
         | false ↦ one
       ]
 
-  commanded_reached : (command : Command) → Reached b (box_after (commanded command acknowledging b.state b.lent text area))
+  commanded_reached : (command : Option Command) → Reached b (box_after (commanded command acknowledging b.state b.lent text area))
   unfolding commanded left called
-  commanded_reached (Command.Acknowledge display id) = reached_one b (Input.acknowledge display id area)
-  commanded_reached (Command.Fetch display id) = reached_one b (Input.fetch display id area)
-  commanded_reached Command.None = followed_reached
+  commanded_reached (Some (Command.Acknowledge display id)) = reached_one b (Input.acknowledge display id area)
+  commanded_reached (Some (Command.Fetch display id)) = reached_one b (Input.fetch display id area)
+  commanded_reached None = followed_reached
 
   pub dispatched_reached : (mixed : Bool) → Reached b (box_after (dispatched mixed acknowledging b.state b.lent text area))
   unfolding dispatched
@@ -108,15 +109,13 @@ turns_reached {mixed} {acknowledging} (Turns.turn {t = t} {u = u} f p e) =
 
 -- from the opening on
 pub finished :
-    {mixed acknowledging : Bool} {buf out : List ℕ} {r : Started} {buffered answered : List ℕ} {cleared : Arrays} {y : Lent} {z : Lent}
-    {area bytes rest written : List ℕ} (st : State) (arrays : Arrays) →
-    Begun buf out zeroed_stores r buffered answered cleared y →
-    PlayedOut mixed acknowledging (standing (held r.state cleared) y area buffered answered r.cursor) (held st arrays) z bytes rest
-    written →
+    {mixed acknowledging : Bool} {buf out : List ℕ} {r : Started} {buffered answered : List ℕ} {y : Lent} {z : Lent}
+    {area bytes rest written : List ℕ} (st : State) → Begun buf out zeroed_stores r buffered answered y →
+    PlayedOut mixed acknowledging (standing (held r.state) y area buffered answered r.cursor) (held st) z bytes rest written →
     Finished mixed acknowledging st
 unfolding box_of opening handed_with
-finished {buf = buf} {out = out} {r = r} {buffered = buffered} {answered = answered} {cleared = cleared} {y = y} {z = z}
-    {area = area} {bytes = bytes} {rest = rest} {written = written} st arrays b p =
+finished {buf = buf} {out = out} {r = r} {buffered = buffered} {answered = answered} {y = y} {z = z}
+    {area = area} {bytes = bytes} {rest = rest} {written = written} st b p =
     let f = turns_reached p.turns in
     record {
       buf = buf;
@@ -124,11 +123,9 @@ finished {buf = buf} {out = out} {r = r} {buffered = buffered} {answered = answe
       started = r;
       buffered = buffered;
       answered = answered;
-      cleared = cleared;
       opened = y;
       begins = b;
       area = area;
-      arrays = arrays;
       after = z;
       bytes = bytes;
       rest = rest;

@@ -6,7 +6,7 @@ use Rattle.store.specs.Sizes.{readings_per_line}
 use Rattle.store.specs.Columns.{columns_of}
 use Rattle.retransmission.specs.Sizes.{held_bytes}
 use Rattle.node.specs.declared.State.{State}
-use Rattle.node.specs.Held.{Held, Arrays, held}
+use Rattle.node.specs.Held.{Held, held}
 use Rattle.node.specs.View.{Lent, lent_of}
 use Rattle.node.specs.Opening.{closed_state}
 use Rattle.consistency.specs.Runs.{Box, Input, left_after}
@@ -66,35 +66,32 @@ zeroed_stores =
 unfoldable pub handed_with : List ℕ → Handed
 handed_with text = record { state = closed_state; lent = zeroed_stores; text = text }
 
--- the box of a state, arrays and stores
-abbrev pub box_on : State → Arrays → Lent → Box
-box_on st arrays x = record { state = held st arrays; lent = x }
+-- the box of a state and stores
+abbrev pub box_on : State → Lent → Box
+box_on st x = record { state = held st; lent = x }
 
 -- calls lead from one box to another
 pub record Reached (b after : Box) : Type 0 where
   pub inputs : List Input
   pub left : after ≡ left_after b inputs
 
--- a playback that leaves this state, with some arrays: how it begins, its turns to the end, and that these are calls of demand 3 from the
--- opening on
+-- a playback that leaves this state: how it begins, its turns to the end, and that these are calls of demand 3 from the opening on
 pub record Finished (mixed acknowledging : Bool) (st : State) : Type 0 where
-  -- the settings, on stores of zeros: buffer and output before and behind them, and the arrays and stores that the opening leaves
+  -- the settings, on stores of zeros: buffer and output before and behind them, and the stores that the opening leaves
   pub buf : List ℕ
   pub out : List ℕ
   pub started : Started
   pub buffered : List ℕ
   pub answered : List ℕ
-  pub cleared : Arrays
   pub opened : Lent
-  pub begins : Begun buf out zeroed_stores started buffered answered cleared opened
+  pub begins : Begun buf out zeroed_stores started buffered answered opened
   -- the lines: the area that is lent, and what the last one leaves
   pub area : List ℕ
-  pub arrays : Arrays
   pub after : Lent
   pub bytes : List ℕ
   pub rest : List ℕ
   pub written : List ℕ
   pub plays :
-      PlayedOut mixed acknowledging (standing (held started.state cleared) opened area buffered answered started.cursor)
-      (held st arrays) after bytes rest written
-  pub calls : Reached (box_of (handed_with (text_at begins.buffered begins.first))) (box_on st arrays after)
+      PlayedOut mixed acknowledging (standing (held started.state) opened area buffered answered started.cursor)
+      (held st) after bytes rest written
+  pub calls : Reached (box_of (handed_with (text_at begins.buffered begins.first))) (box_on st after)

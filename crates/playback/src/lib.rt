@@ -1,108 +1,51 @@
 // An input played: settings line, journal lines and, in a mixed input, displays' lines in, answer lines and records out.
 #![tactic(auto)]
 
-ghost use Rattle.std.specs.Prelude.{◌≡◌, cond, ◌-◌, ◌<◌, length};
-ghost use Rattle.store.specs.Columns.{columns_of};
-ghost use Rattle.node.specs.Held.{Arrays, arrays_of, held};
-ghost use Rattle.node.specs.View.{Lent, lent_of};
+ghost use Rattle.std.specs.Prelude.{IfSome, length};
+ghost use Rattle.node.specs.Held.{held};
+ghost use Rattle.node.specs.View.{lent, SameStores};
 ghost use Rattle.playback_cursor.specs.Cut.{Lies};
 ghost use Rattle.playback.specs.Run.{Standing, standing, PlayedOut, Finished};
 
-use node::{ALL_HEADS, State};
-use operator::METERS;
-use operator_rows::ROWS;
+use node::{State, Stores};
 use playback_cursor::Cursor;
+pub use playback_dispatch::Mode;
+use playback_start::Started;
+use std::env::FillError;
+use std::rt::Env;
+use store::Store;
 
 // The bytes of the buffers: a read or a write moves at most so many.
 const BUFFER_BYTES: usize = 65536;
 
-// One turn fewer is left, and none where no text is to be played.
-fn turns_left(plays: bool, turns: u64) -> u64
-    requires { 0 < turns }
-    ensures { result ≡ cond plays (turns - 1) 0 }
-{
-    if plays { turns - 1 } else { 0 }
-}
-
-// Plays the lines to the end of the input, from the text at the cursor on; answers the state that the last one leaves.
+// Plays the lines to the end of the input, from the text at the cursor on.
 fn play_lines(
     rt: HostRuntime,
-    mixed: bool,
-    acknowledging: bool,
-    mut state: State,
-    counts: &mut [[u32; METERS]; ROWS],
-    sums: &mut [[i64; METERS]; ROWS],
-    lasts: &mut [[i32; METERS]; ROWS],
-    heads: &mut [u32; ALL_HEADS],
-    ids: &mut [u32],
-    times: &mut [u32],
-    values: &mut [i32],
-    arrivals: &mut [u32],
-    kinds: &mut [u8],
-    meters: &mut [u8],
-    sent: &mut [u8],
+    mode: Mode,
+    state: &mut State,
+    stores: &mut Stores<'_>,
     area: &mut [u8],
     buf: &mut [u8],
     out: &mut [u8],
     mut cursor: Cursor,
-) -> State
+)
     requires { Lies buf.old (length out.old) cursor }
-    ensures { let arrays : Arrays = arrays_of counts.old sums.old lasts.old heads.old in
-        let arrays' : Arrays = arrays_of counts.new sums.new lasts.new heads.new in
-        let before : Lent =
-        lent_of
-        (columns_of ids.old times.old values.old arrivals.old kinds.old
-        meters.old)
-        sent.old in
-        let after : Lent =
-        lent_of
-        (columns_of ids.new times.new values.new arrivals.new kinds.new
-        meters.new)
-        sent.new in
-        let from : Standing =
-        standing (held state arrays) before area.old buf.old out.old cursor in
-        PlayedOut mixed acknowledging from (held result arrays') after area.new buf.new out.new }
+    ensures same_stores { SameStores stores.old stores.new }
+    ensures played { let from : Standing = standing (held state.old) (lent stores.old) area.old buf.old out.old cursor in
+        PlayedOut mode.mixed mode.acknowledging from (held state.new) (lent stores.new) area.new buf.new out.new }
 {
-    let mut turns = turns_left(cursor.plays, u64::MAX);
-    while turns > 0 {
-        let turned = playback_turn::play_turn(
-            rt,
-            mixed,
-            acknowledging,
-            state,
-            counts,
-            sums,
-            lasts,
-            heads,
-            ids,
-            times,
-            values,
-            arrivals,
-            kinds,
-            meters,
-            sent,
-            area,
-            buf,
-            out,
-            cursor,
-        );
-        state = turned.state;
-        cursor = turned.cursor;
-        turns = turns_left(cursor.plays, turns);
+    for turn in 0..u64::MAX {
+        if !cursor.plays {
+            return;
+        }
+        cursor = playback_turn::play_turn(rt, mode, state, stores, area, buf, out, cursor);
     }
-    state
 }
 
-// Plays standard input to standard output: first the settings line, then the lines after it, to the end; answers the last state. `mixed`
-// says whether displays' lines may stand among the journal lines, `acknowledging` whether the displays acknowledge what is new after each
-// journal line.
-pub fn run(rt: HostRuntime, mixed: bool, acknowledging: bool) -> State
-    ensures { Finished mixed acknowledging result }
+// Plays standard input to standard output: first the settings line, then the lines after it, to the end; answers the last state.
+pub fn run(rt: HostRuntime, mode: Mode) -> State
+    ensures { Finished mode.mixed mode.acknowledging result }
 {
-    let mut counts = [[0u32; METERS]; ROWS];
-    let mut sums = [[0i64; METERS]; ROWS];
-    let mut lasts = [[0i32; METERS]; ROWS];
-    let mut heads = [0u32; ALL_HEADS];
     let mut ids = [0u32; store::MOST_PLACES];
     let mut times = [0u32; store::MOST_PLACES];
     let mut values = [0i32; store::MOST_PLACES];
@@ -113,41 +56,40 @@ pub fn run(rt: HostRuntime, mixed: bool, acknowledging: bool) -> State
     let mut area = [0u8; call_shape::AREA_BYTES];
     let mut buf = [0u8; BUFFER_BYTES];
     let mut out = [0u8; BUFFER_BYTES];
-    let started = playback_start::start(
-        rt,
-        &mut counts,
-        &mut sums,
-        &mut lasts,
-        &mut heads,
-        &mut ids,
-        &mut times,
-        &mut values,
-        &mut arrivals,
-        &mut kinds,
-        &mut meters,
-        &mut sent,
-        &mut buf,
-        &mut out,
-    );
+    let mut stores = Stores {
+        readings: Store {
+            ids: &mut ids,
+            times: &mut times,
+            values: &mut values,
+            arrivals: &mut arrivals,
+            kinds: &mut kinds,
+            meters: &mut meters,
+        },
+        sent: &mut sent,
+    };
+    let started = playback_start::start(rt, &mut stores, &mut buf, &mut out);
+    let Started { mut state, cursor } = started;
     play_lines(
         rt,
-        mixed,
-        acknowledging,
-        started.state,
-        &mut counts,
-        &mut sums,
-        &mut lasts,
-        &mut heads,
-        &mut ids,
-        &mut times,
-        &mut values,
-        &mut arrivals,
-        &mut kinds,
-        &mut meters,
-        &mut sent,
+        mode,
+        &mut state,
+        &mut stores,
         &mut area,
         &mut buf,
         &mut out,
-        started.cursor,
-    )
+        cursor,
+    );
+    state
+}
+
+// What a program does: it plays, or, if it was given arguments, says on standard error how it is used.
+pub fn run_or_explain(rt: HostRuntime, mode: Mode, usage: &str) -> Option<State>
+    ensures { IfSome result (λ state. Finished mode.mixed mode.acknowledging state) }
+{
+    let has_arguments = !matches!(rt.arg(1, &mut [0u8; 1]), Err(FillError::NotPresent));
+    if has_arguments {
+        let _ = eprintln!(rt; "{usage}");
+        return None;
+    }
+    Some(run(rt, mode))
 }

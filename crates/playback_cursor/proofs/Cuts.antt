@@ -46,8 +46,8 @@ pub lent_front : (at : ℕ) (l m : List ℕ) → at ≤ length l → take at (pu
 lent_front at l m h = take_at (take at l) _ at (length-take-le at l h)
 
 -- some bytes of a part's front are some bytes
-pub front_some : (n : ℕ) (l : List ℕ) → 0 < length (take (n - 0) (drop 0 l)) → 0 < n
-front_some n l h = omega (arith, length-take (n - 0) l)
+pub front_some : (n : ℕ) (l : List ℕ) → 0 < length (take n l) → 0 < n
+front_some n l h = omega (arith, length-take n l)
 
 module _ (at have : ℕ) (l : List ℕ) (h : at ≤ have) (k : have ≤ length l) where
   pub length_part : length (part l at have) ≡ have - at

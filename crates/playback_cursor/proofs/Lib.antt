@@ -1,5 +1,4 @@
 -- Laws on the cursor.
-pub mod Shifted
 pub mod WholeLines
 pub mod Cuts
 pub mod Past

@@ -1,6 +1,6 @@
 -- A whole line of the buffer: it is the next text, unless a write for its reply failed, or the end of a line to pass over.
 use mathlib.Core.Path.{◌≡◌, refl, sym, ap, subst, ◌∙◌}
-use mathlib.Core.Bool.{Bool, true, false, not, ◌||◌}
+use mathlib.Core.Bool.{Bool, true, false}
 use mathlib.Core.List.{List, [], ◌++◌}
 use mathlib.Core.Logic.{inl, inr, ⊎_elim}
 use Prim.Native.Nat.{ℕ, ◌+◌, ◌-◌, ◌<◌, ◌≤◌}
@@ -12,14 +12,14 @@ use Rattle.fields.specs.Line.{next_line, holds_line}
 use Rattle.fields.specs.Field.{ends_line}
 use Rattle.fields.proofs.Lines.{line_within}
 use Rattle.playback_reply.specs.Reply.{longest_reply}
-use Rattle.store.proofs.Choices.{not_both, false_unless}
+use Rattle.store.proofs.Choices.{not_both}
 use Rattle.playback_cursor.specs.declared.Cursor.{Cursor}
-use Rattle.playback_cursor.specs.declared.Room.{Room}
-use Rattle.playback_cursor.specs.Cut.{behind_line, past, part, unread, text_at, replied, Stands, failed, Fetched}
+use Rattle.playback_cursor.specs.Cut.{behind_line, past, part, unread, text_at, replied, all_read, Stands, failed, Fetched}
 use Rattle.playback_cursor.specs.Step.{Roomy, Advanced}
 use Rattle.playback_cursor.proofs.WholeLines.{held_at, held_append, whole_append, behind_whole}
 use Rattle.playback_cursor.proofs.Cuts.{second_part, part_split, length_part}
 use Rattle.playback_cursor.proofs.Past.{past_over}
+use Rattle.playback_cursor.proofs.Refills.{ended_lies}
 
 -- ---- what is cut, over plain lists
 
@@ -34,16 +34,6 @@ line_rest : (p : Bool) (u more : List ℕ) → p ≡ false → holds_line u ≡ 
 unfolding past
 line_rest true u more e h = not_both refl e
 line_rest false u more e h = sym (behind_whole u more h)
-
--- ---- its tests
-
-not-false : (f : Bool) → not f ≡ false → f ≡ true
-not-false true e = refl
-not-false false e = not_both refl e
-
-always : (f : Bool) → not f || f ≡ true
-always true = refl
-always false = refl
 
 -- ---- the step
 
@@ -97,20 +87,20 @@ module _ (c : Cursor) (buf : List ℕ) (stands : Stands buf c) where
           second_part buf c.at c.have n (omega (arith, text_inside, stands.1))
           ∙ ap (λ (i : ℕ). drop i (unread buf c)) (e ∙ ap length text_next)
 
-    -- it is the next text, unless a write for its reply failed
-    pub line_found : (opened : Bool) (room : ℕ) (r : Room) → longest_reply ≤ room → Roomy c.used room r → c.passing ≡ false
+    -- it is the next text, where its reply has room
+    pub line_found : (opened : Bool) (room left : ℕ) → Roomy c.used room left → c.passing ≡ false
         → Advanced opened c buf
         (record {
           at = c.at;
           whole = c.whole;
           have = c.have;
-          used = r.used;
-          plays = not r.failed;
+          used = left;
+          plays = true;
           passing = false;
-          last = r.failed;
+          last = false;
         })
         buf room
-    line_found opened room r fits w p =
+    line_found opened room left w p =
         let size = length_part c.at c.have buf (omega (arith, stands.0, stands.1)) stands.2 in
         let text : List ℕ = text_at buf c in
         record {
@@ -123,17 +113,36 @@ module _ (c : Cursor) (buf : List ℕ) (stands : Stands buf c) where
                   ap (λ (s : List ℕ). past false (s ++ more)) (text_left (length text) refl)
                       ∙ line_rest c.passing (unread buf c) more p whole_held,
                 );
-                ended = λ q f. not_both q (ap not f);
-                unplayed = λ q. let f = not-false r.failed q in (f, failed (omega (arith, w.fails f, fits)));
+                ended = λ q f. not_both f refl;
+                unplayed = λ q. not_both refl q;
                 written = ⊎_elim (λ z. inl z) (λ z. inr (z, refl, refl)) w.written;
                 held = λ _. (
                   refl,
                   refl,
-                  λ enough. (ap not (false_unless r.failed (λ f. omega (arith, w.fails f, enough))), w.unwritten enough),
+                  λ enough. (refl, w.unwritten enough),
                 );
               };
-          further = not_both (always r.failed);
+          further = not_both refl;
         }
+
+    -- a write for its reply failed
+    pub line_lost : (opened : Bool) (room : ℕ) {r : Cursor} → r ≡ all_read 0 false false true → longest_reply ≤ room
+        → room < c.used + longest_reply → Advanced opened c buf r buf room
+    line_lost opened room made fits full =
+        subst (λ (r : Cursor). Advanced opened c buf r buf room) (sym made)
+        (record {
+          found = λ _.
+              record {
+                lies = ended_lies buf room fits;
+                fresh = [];
+                played = λ e. not_both e refl;
+                ended = λ e. not_both e refl;
+                unplayed = λ _. (refl, failed (omega (arith, full, fits)));
+                written = inl refl;
+                held = λ _. (refl, refl, λ enough. absurd (omega (arith, full, enough)));
+              };
+          further = not_both refl;
+        })
 
     -- so it is at once where its reply has room
     pub line_here : (room : ℕ) → c.passing ≡ false → c.last ≡ false → c.used + longest_reply ≤ room
@@ -159,11 +168,10 @@ module _ (c : Cursor) (buf : List ℕ) (stands : Stands buf c) where
           passing = passing;
           last = last;
         } in
-        let roomy : Roomy c.used room (record { used = c.used; failed = false }) =
-        record { fits = fits; written = inr refl; unwritten = λ _. refl; fails = λ f. not_both f refl } in
+        let roomy : Roomy c.used room c.used = record { fits = fits; written = inr refl; unwritten = λ _. refl } in
         subst (λ (b : Bool). Fetched true c buf (here b c.last) buf room) (sym p)
         (subst (λ (b : Bool). Fetched true c buf (here false b) buf room) (sym l)
-        ((line_found true room _ (omega (arith, fits)) roomy p).found refl))
+        ((line_found true room _ roomy p).found refl))
 
     -- or the end of a line to pass over
     pub line_passed : (opened : Bool) (room n : ℕ) → n ≡ length (text_at buf c) → (c.used ≤ room) × (longest_reply ≤ room)

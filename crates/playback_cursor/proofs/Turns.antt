@@ -4,7 +4,7 @@ use mathlib.Core.Path.{◌≡◌, refl, sym, ap, ◌∙◌}
 use mathlib.Core.Bool.{Bool, true, false, cond}
 use mathlib.Core.List.{List, [], ◌++◌, append_assoc}
 use mathlib.Core.Logic.{◌⊎◌, inl, inr, ⊎_elim}
-use Prim.Native.Nat.{ℕ, ◌+◌, ◌-◌, ◌<◌, ◌≤◌}
+use Prim.Native.Nat.{ℕ, ◌+◌, ◌<◌, ◌≤◌}
 use native.Mathlib.Omega.{arith}
 use lib.ListN.{length, take, length-append}
 use Rattle.fields.specs.Line.{next_line, holds_line}
@@ -93,21 +93,20 @@ module _ (c : Cursor) (buf : List ℕ) (room : ℕ) (d : Cursor) (mid : List ℕ
 
 -- ---- the turns of a search
 
--- a search has come this far with so many turns left: each turn but one brought a byte, and that one the end of a line to pass over
+-- a search has come this far in so many turns: each turn but one brought a byte, and that one the end of a line to pass over
 abbrev pub Searched : Cursor → List ℕ → Cursor → List ℕ → ℕ → ℕ → Type 0
 Searched c buf d mid room turns =
-    (f : Further c buf d mid room) × (18446744073709551615 + cond d.passing 1 0 ≤ turns + length f.fresh + cond c.passing 1 0)
+    (f : Further c buf d mid room) × (turns + cond d.passing 1 0 ≤ length f.fresh + cond c.passing 1 0)
 
-pub searched_none : (c : Cursor) (buf : List ℕ) (room : ℕ) → Ready buf room c → Searched c buf c buf room 18446744073709551615
+pub searched_none : (c : Cursor) (buf : List ℕ) (room : ℕ) → Ready buf room c → Searched c buf c buf room 0
 unfolding further_none
 searched_none c buf room ready = (further_none c buf room ready, omega arith)
 
 pub searched_more : (c : Cursor) (buf : List ℕ) (room : ℕ) (d : Cursor) (mid : List ℕ) (turns : ℕ)
-    → Searched c buf d mid room turns → 0 < turns
-    → (r : Cursor) (after : List ℕ) (g : Further d mid r after room) → cond r.passing 1 0 < length g.fresh + cond d.passing 1 0
-    → Searched c buf r after room (turns - 1)
+    → Searched c buf d mid room turns → (r : Cursor) (after : List ℕ) (g : Further d mid r after room) → cond r.passing 1 0 < length g.fresh + cond d.passing 1 0
+    → Searched c buf r after room (turns + 1)
 unfolding further_further
-searched_more c buf room d mid turns w some r after g n =
+searched_more c buf room d mid turns w r after g n =
     (further_further c buf room d mid w.0 r after g, omega (arith, w.1, length-append w.0.fresh g.fresh))
 
 -- ---- no turn left

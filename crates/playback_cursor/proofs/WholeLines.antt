@@ -1,16 +1,15 @@
 -- A text's first line, where there is a 0A and where there is none: what it is once more follows, and what follows it.
-use mathlib.Core.Path.{◌≡◌, refl, ap, ◌∙◌}
+use mathlib.Core.Path.{◌≡◌, refl, sym, ap, ◌∙◌}
 use mathlib.Core.Bool.{Bool, true, false, cond, ◌||◌, or-true}
 use mathlib.Core.List.{List, [], ◌∷◌, ◌++◌}
-use Prim.Native.Nat.{ℕ, zero, suc, ◌-◌, ◌<◌, ◌≤◌}
+use Prim.Native.Nat.{ℕ, zero, suc, ◌+◌, ◌-◌, ◌<◌, ◌≤◌}
 use native.Mathlib.Omega.{arith}
-use borrow.Author.Tests.{ne_eqb}
 use lib.Dec.{eqb}
 use lib.ListN.{length, get_or, take, drop, length-drop, length-append}
-use lib.Seq.{drop-cons, drop-append-le, drop-append-add, drop-length}
+use lib.Seq.{get_or-take, get_or-drop, drop-append-le, drop-append-add, drop-length}
 use Rattle.fields.specs.Line.{next_line, holds_line}
 use Rattle.fields.specs.Field.{ends_line}
-use Rattle.fields.proofs.Lines.{part_append, part_line, line_within}
+use Rattle.fields.proofs.Lines.{no_end_before, part_append, part_line, line_within}
 use Rattle.store.proofs.Choices.{not_both}
 use Rattle.playback_cursor.specs.Cut.{behind_line}
 
@@ -49,15 +48,15 @@ pub none_behind : (s : List ℕ) (n : ℕ) → holds_line (take (n - n) (drop n 
 unfolding holds_line
 none_behind s n = let z : n - n ≡ 0 = omega arith in ap (λ (i : ℕ). holds_line (take i (drop n s))) z
 
--- none stands from a place on, and none in front of it
-pub none_back : (s : List ℕ) (n i : ℕ) → 0 < i → i ≤ n → n ≤ length s → (get_or s (i - 1) 0 ≡ 10 → ⊥)
-    → holds_line (take (n - i) (drop i s)) ≡ false → holds_line (take (n - (i - 1)) (drop (i - 1) s)) ≡ false
-unfolding holds_line
-none_back s n zero some within inside other none = absurd (omega arith)
-none_back s n (suc i) some within inside other none =
-    let one : suc i - 1 ≡ i = omega arith in
-    let more : n - i ≡ suc (n - suc i) = omega arith in
-    rw (one, more, drop-cons s i 0 (omega arith), ne_eqb (get_or s i 0) 10 (rw one at other)) none
+-- none stands from a place on, as none of the bytes there is one
+pub none_after :
+    (s : List ℕ) (n r : ℕ) → n ≤ length s → ((k : ℕ) → r ≤ k → k < n → eqb (get_or (take n s) k 0) 10 ≡ true → ⊥)
+    → holds_line (take (n - r) (drop r s)) ≡ false
+none_after s n r within none =
+    no_end_before (drop r s) (n - r) (omega (arith, length-drop r s))
+    (λ k q e.
+    none (r + k) (omega arith) (omega (arith, q))
+    (ap (λ (b : ℕ). eqb b 10) (get_or-take n s (r + k) 0 (omega (arith, q)) ∙ sym (get_or-drop r s k 0)) ∙ e))
 
 -- what follows the first line
 pub behind_whole : (s t : List ℕ) → holds_line s ≡ true → behind_line (s ++ t) ≡ behind_line s ++ t

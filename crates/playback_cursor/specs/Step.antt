@@ -4,15 +4,14 @@ use Rattle.fields.specs.Line.{holds_line}
 use Rattle.fields.specs.Field.{ends_line}
 use Rattle.playback_reply.specs.Reply.{longest_reply}
 use Rattle.playback_cursor.specs.declared.Cursor.{Cursor}
-use Rattle.playback_cursor.specs.declared.Room.{Room}
 use Rattle.playback_cursor.specs.Cut.{part, ahead, Ready, Fetched}
 
--- room for a reply in an output of `size` bytes of which some are used: all is written out, but only where it must, and only that may fail
-pub record Roomy (used size : ℕ) (r : Room) : Type 0 where
-  pub fits : r.used + longest_reply ≤ size
-  pub written : (r.used ≡ 0) ⊎ (r.used ≡ used)
-  pub unwritten : used + longest_reply ≤ size → r.used ≡ used
-  pub fails : r.failed ≡ true → size < used + longest_reply
+-- how many bytes are left in an output of `size` bytes, of which some are used, so that a reply has room: all is written out, but only
+-- where it must
+pub record Roomy (used size left : ℕ) : Type 0 where
+  pub fits : left + longest_reply ≤ size
+  pub written : (left ≡ 0) ⊎ (left ≡ used)
+  pub unwritten : used + longest_reply ≤ size → left ≡ used
 
 -- the place behind the last 0A of the first n bytes, or 0
 pub record LinesEnd (s : List ℕ) (n r : ℕ) : Type 0 where

@@ -1,7 +1,7 @@
 // Where a playback stands in its input and its output: the next text to play, and room for its reply.
 #![tactic(auto)]
 
-ghost use Rattle.std.specs.Prelude.{◌≡◌, true, false, cond, not, ◌⊎◌, ◌+◌, ◌-◌, ◌<◌, ◌≤◌, length, take, drop};
+ghost use Rattle.std.specs.Prelude.{◌≡◌, true, false, cond, not, MatchOption, ◌⊎◌, ◌+◌, ◌-◌, ◌<◌, ◌≤◌, length, take, drop};
 ghost use Rattle.playback_reply.specs.Reply.{longest_reply};
 ghost use Rattle.fields.specs.Line.{holds_line};
 ghost use Rattle.playback_cursor.specs.Cut.{unread, all_read, replied, Ready, Fetched, Followed};
@@ -15,12 +15,14 @@ use std::{io, thread};
 // Whether a read or a write that failed so is to be tried again: a signal interrupted it, or the other side is not ready, for which the
 // program waits and lets others run.
 fn may_try_again(error: io::Error) -> bool {
-    let kind = error.kind();
-    if kind == ErrorKind::WouldBlock {
-        thread::yield_now();
-        return true;
+    match error.kind() {
+        ErrorKind::WouldBlock => {
+            thread::yield_now();
+            true
+        }
+        ErrorKind::Interrupted => true,
+        _ => false,
     }
-    kind == ErrorKind::Interrupted
 }
 
 // Says on standard error what cannot be done, and why: the system's words, without its number of the error.
@@ -51,12 +53,10 @@ fn write_out(rt: HostRuntime, bytes: &[u8]) -> bool
 {
     let mut stdout = rt.stdout();
     let mut done = 0;
-    let mut turns = u64::MAX;
-    while done < bytes.len() {
-        if turns == 0 {
-            return false;
+    for _ in 0..u64::MAX {
+        if done == bytes.len() {
+            return true;
         }
-        turns -= 1;
         match stdout.write(&bytes[done..]) {
             Ok(0) => {
                 say_unwritten(rt, io::Error::from(ErrorKind::WriteZero));
@@ -71,7 +71,7 @@ fn write_out(rt: HostRuntime, bytes: &[u8]) -> bool
             }
         }
     }
-    true
+    done == bytes.len()
 }
 
 // Reads once into this room; answers how many bytes came, 0 at the end of the input or where reading fails.
@@ -79,8 +79,7 @@ fn read_in(rt: HostRuntime, room: &mut [u8]) -> usize
     ensures { result ≤ length room.old }
 {
     let mut stdin = rt.stdin();
-    let mut turns = u64::MAX;
-    while turns > 0 {
+    for _ in 0..u64::MAX {
         match stdin.read(room) {
             Ok(got) => return got,
             Err(error) => {
@@ -90,7 +89,6 @@ fn read_in(rt: HostRuntime, room: &mut [u8]) -> usize
                 }
             }
         }
-        turns -= 1;
     }
     0
 }
@@ -100,36 +98,19 @@ fn shift(buf: &mut [u8], at: usize, n: usize)
     requires { at + n ≤ length buf.old }
     ensures { take n buf.new ≡ take n (drop at buf.old) }
 {
-    let mut i = 0;
-    while i < n {
-        buf[i] = buf[at + i];
-        i += 1;
-    }
+    buf.copy_within(at..at + n, 0);
 }
 
-// How much of the output is used, and whether writing it out failed.
-#[derive(Clone, Copy)]
-struct Room {
-    used: usize,
-    failed: bool,
-}
-
-// Makes room in the output for one more reply: where it might not fit, all that is there is written out first.
-fn with_room(rt: HostRuntime, out: &[u8], used: usize) -> Room
+// Makes room in the output for one more reply: where it might not fit, all that is there is written out first. Answers how much of the
+// output is used then; none where the write failed.
+fn with_room(rt: HostRuntime, out: &[u8], used: usize) -> Option<usize>
     requires { (used ≤ length out.now) × (longest_reply ≤ length out.now) }
-    ensures { Roomy used (length out.now) result }
+    ensures { MatchOption result (length out.now < used + longest_reply) (λ left. Roomy used (length out.now) left) }
 {
     if used + playback_reply::LONGEST_REPLY <= out.len() {
-        return Room {
-            used: used,
-            failed: false,
-        };
+        return Some(used);
     }
-    let written = write_out(rt, &out[0..used]);
-    Room {
-        used: 0,
-        failed: !written,
-    }
+    write_out(rt, &out[..used]).then_some(0)
 }
 
 // The place behind the last 0A of the first n bytes; 0 where there is none.
@@ -137,19 +118,16 @@ fn lines_end(s: &[u8], n: usize) -> usize
     requires { n ≤ length s.now }
     ensures { LinesEnd s.now n result }
 {
-    let mut i = n;
-    while 0 < i {
-        if s[i - 1] == 10 {
-            return i;
-        }
-        i -= 1;
+    match memchr::memrchr(b'\n', &s[..n]) {
+        Some(at) => at + 1,
+        None => 0,
     }
-    0
 }
 
 // Where a playback stands. What is unread is the buffer from `at` to `have`; the text to play next is its next line, cut from what stands
 // before `whole`, the place behind the last 0A, or the end of a text that has none. How much of the output is used; whether the text is to
 // be played; whether the rest of a line that filled the buffer is to be passed over next; whether nothing follows.
+// Three flags and no enum: a text is played with a rest to pass over, as the last one or as neither, and a rest is passed over with none.
 #[derive(Clone, Copy)]
 pub struct Cursor {
     pub at: usize,
@@ -170,9 +148,9 @@ fn all_read(end: usize, plays: bool, passing: bool, last: bool) -> Cursor
         whole: end,
         have: end,
         used: 0,
-        plays: plays,
-        passing: passing,
-        last: last,
+        plays,
+        passing,
+        last,
     }
 }
 
@@ -205,8 +183,7 @@ fn refill(rt: HostRuntime, cursor: Cursor, opened: bool, buf: &mut [u8], out: &[
     requires { Ready buf.old (length out.now) cursor × (holds_line (unread buf.old cursor) ≡ false) }
     ensures { Advanced opened cursor buf.old result buf.new (length out.now) }
 {
-    let used = cursor.used;
-    if !write_out(rt, &out[0..used]) {
+    if !write_out(rt, &out[..cursor.used]) {
         return ended();
     }
     let at = cursor.at;
@@ -224,11 +201,11 @@ fn refill(rt: HostRuntime, cursor: Cursor, opened: bool, buf: &mut [u8], out: &[
     let whole = lines_end(buf, have);
     Cursor {
         at: 0,
-        whole: whole,
-        have: have,
+        whole,
+        have,
         used: 0,
         plays: false,
-        passing: passing,
+        passing,
         last: false,
     }
 }
@@ -238,35 +215,28 @@ fn advance(rt: HostRuntime, cursor: Cursor, opened: bool, buf: &mut [u8], out: &
     requires { Ready buf.old (length out.now) cursor }
     ensures { Advanced opened cursor buf.old result buf.new (length out.now) }
 {
-    let at = cursor.at;
-    let whole = cursor.whole;
-    let have = cursor.have;
-    let used = cursor.used;
-    if at == whole {
+    if cursor.at == cursor.whole {
         return refill(rt, cursor, opened, buf, out);
     }
     if cursor.passing {
-        let line = fields::next_line(&buf[at..whole]);
-        let n = line.len();
+        let line = fields::next_line(&buf[cursor.at..cursor.whole]);
         return Cursor {
-            at: at + n,
-            whole: whole,
-            have: have,
-            used: used,
+            at: cursor.at + line.len(),
             plays: false,
             passing: false,
             last: false,
+            ..cursor
         };
     }
-    let room = with_room(rt, out, used);
+    let Some(used) = with_room(rt, out, cursor.used) else {
+        return ended();
+    };
     Cursor {
-        at: at,
-        whole: whole,
-        have: have,
-        used: room.used,
-        plays: !room.failed,
+        used,
+        plays: true,
         passing: false,
-        last: room.failed,
+        last: false,
+        ..cursor
     }
 }
 
@@ -281,13 +251,11 @@ pub fn fetch(
     requires { Ready buf.old (length out.now) cursor }
     ensures { Fetched opened cursor buf.old result buf.new (length out.now) }
 {
-    let mut turns = u64::MAX;
-    while turns > 0 {
+    for turn in 0..u64::MAX {
         cursor = advance(rt, cursor, opened, buf, out);
         if cursor.plays | cursor.last {
             return cursor;
         }
-        turns -= 1;
     }
     ended()
 }
@@ -307,7 +275,7 @@ pub fn onward(
 {
     let used = cursor.used + reply;
     if !cursor.last {
-        cursor.at = cursor.at + text;
+        cursor.at += text;
         cursor.used = used;
         if (cursor.at < cursor.whole)
             & (!cursor.passing & (used + playback_reply::LONGEST_REPLY <= out.len()))
@@ -317,6 +285,6 @@ pub fn onward(
         }
         return fetch(rt, cursor, true, buf, out);
     }
-    write_out(rt, &out[0..used]);
+    write_out(rt, &out[..used]);
     ended()
 }

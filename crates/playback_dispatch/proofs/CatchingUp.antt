@@ -1,10 +1,19 @@
 -- A display catches up exactly if it is behind, and all do so in turn.
-use Prim.Native.Nat.{ℕ, zero, suc, ◌+◌}
+use Prim.Native.Nat.{ℕ, zero, suc, ◌+◌, ◌<◌, ◌≤◌}
 use mathlib.Core.Path.{◌≡◌, refl, sym, ap, ◌∙◌}
 use mathlib.Core.Bool.{Bool, true, false, cond, ◌&&◌, ◌||◌}
 use native.Mathlib.Numerals.{add-one}
-use Rattle.store.proofs.Choices.{and_parts}
+use native.Mathlib.Omega.{arith}
+use borrow.Author.Tests.{ltb-true, ltb-false}
+use lib.Dec.{ltb}
+use lib.ListN.{length, get_or, take}
+use lib.Seq.{take_all}
+use Rattle.std.specs.Prelude.{min}
+use Rattle.std.specs.List.{list_any}
+use Rattle.std.proofs.Math.Bool.{or-false}
+use Rattle.std.proofs.lemmas.List.Folds.{list_any_more}
 use Rattle.protocol.proofs.Displays.{neither}
+use Rattle.settings.specs.Limits.{max_displays}
 use Rattle.node.specs.Held.{Held}
 use Rattle.node.specs.Calls.{Called}
 use Rattle.node.specs.Displays.{acknowledged_on}
@@ -35,21 +44,59 @@ none_behind (suc n) q e =
     let parts = neither (some_behind n q.state) (is_behind q.state n) e in
     up_to_date n q parts.1 ∙ ap (caught_up n) (none_behind n q parts.0)
 
--- a call after which the displays acknowledge, and one after which none does or none is behind
-module _ (acknowledging found : Bool) (n : ℕ) (q r : Called) where
-  pub all_follow : acknowledging && found ≡ true → r ≡ all_caught_up n q → r ≡ cond acknowledging (all_caught_up n q) q
-  all_follow e same = rw (and_parts acknowledging found e).0 same
+-- of the first n displays one is, if its last id is before the newest stable result's
+pub behind_of :
+    (st : Held) (n m : ℕ) → n ≤ length st.acknowledged → m ≡ min n st.settings.displays →
+    some_behind n st ≡ list_any (λ id. ltb id st.checkpoint.number) (take m st.acknowledged)
+unfolding some_behind is_behind
+behind_of st zero m h e =
+    let z : m ≡ 0 = omega arith in
+    rw z refl
+behind_of st (suc n) m h e =
+    let test = λ (id : ℕ). ltb id st.checkpoint.number in
+    let more = list_any_more test st.acknowledged n 0 (omega arith) in
+    let so_far : (k : ℕ) → k ≡ min n st.settings.displays → some_behind n st ≡ list_any test (take k st.acknowledged) =
+    λ k p. behind_of st n k (omega arith) p in
+    (elim (ltb n st.settings.displays) as
+    (λ b. ltb n st.settings.displays ≡ b →
+    some_behind n st || (b && ltb (get_or st.acknowledged n 0) st.checkpoint.number) ≡ list_any test (take m st.acknowledged)) [
+      | true ↦ λ is.
+          let within : n < st.settings.displays = ltb-true _ _ is in
+          let all : m ≡ n + 1 = omega arith in
+          rw (all, more, so_far n (omega arith)) refl
+      | false ↦ λ is.
+          let past : st.settings.displays ≤ n = ltb-false _ _ is in
+          let same : some_behind n st ≡ list_any test (take m st.acknowledged) = so_far m (omega arith) in
+          or-false (some_behind n st) ∙ same
+    ])
+    refl
 
-  pub none_follows :
-      acknowledging && found ≡ false → found ≡ some_behind n r.state → r ≡ q → r ≡ cond acknowledging (all_caught_up n q) q
-  none_follows e told same =
-      (elim acknowledging as (λ a. a && found ≡ false → r ≡ cond a (all_caught_up n r) r) [
-        | true ↦ λ f. none_behind n r (sym told ∙ f)
-        | false ↦ λ f. refl
-      ])
-      e
-      ∙ ap (λ (p : Called). cond acknowledging (all_caught_up n p) p) same
+pub behind_any :
+    (st : Held) → length st.acknowledged ≡ max_displays →
+    some_behind max_displays st ≡ list_any (λ id. ltb id st.checkpoint.number) (take st.settings.displays st.acknowledged)
+behind_any st all =
+    let ids = st.acknowledged in
+    let displays = st.settings.displays in
+    let test = λ (id : ℕ). ltb id st.checkpoint.number in
+    (elim (ltb displays max_displays) as
+    (λ b. ltb displays max_displays ≡ b → some_behind max_displays st ≡ list_any test (take displays ids)) [
+      | true ↦ λ e.
+          let few : displays < max_displays = ltb-true _ _ e in
+          behind_of st max_displays displays (omega arith) (omega arith)
+      | false ↦ λ e.
+          let many : max_displays ≤ displays = ltb-false _ _ e in
+          behind_of st max_displays max_displays (omega arith) (omega arith)
+          ∙ ap (list_any test) (take_all max_displays ids (omega arith) ∙ sym (take_all displays ids (omega arith)))
+    ])
+    refl
 
-pub one_more : (n : ℕ) (found : Bool) (st : Held) → found ≡ some_behind n st → found || is_behind st n ≡ some_behind (n + 1) st
-unfolding some_behind
-one_more n found st e = rw (add-one, e)
+-- a call after which the displays acknowledge, one after which none is behind, and one after which none is to
+module _ (acknowledging : Bool) (n : ℕ) (q r : Called) where
+  pub all_follow : acknowledging ≡ true → r ≡ all_caught_up n q → r ≡ cond acknowledging (all_caught_up n q) q
+  all_follow on same = rw on same
+
+  pub none_lags : acknowledging ≡ true → some_behind n r.state ≡ false → r ≡ q → r ≡ cond acknowledging (all_caught_up n q) q
+  none_lags on none same = rw on (none_behind n r none ∙ ap (all_caught_up n) same)
+
+  pub none_follows : acknowledging ≡ false → r ≡ q → r ≡ cond acknowledging (all_caught_up n q) q
+  none_follows off same = rw off same

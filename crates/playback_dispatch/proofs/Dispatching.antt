@@ -3,6 +3,7 @@ use Prim.Native.Nat.{ℕ}
 use mathlib.Core.Path.{◌≡◌, refl}
 use mathlib.Core.Bool.{Bool, true, false}
 use mathlib.Core.List.{List}
+use Rattle.std.specs.Prelude.{Some, None}
 use Rattle.commands.specs.declared.Command.TheVariants as Command
 use Rattle.commands.specs.ReadLine.{command_of}
 use Rattle.node.specs.Held.{Held}
@@ -22,18 +23,18 @@ module _ (mixed acknowledging : Bool) (st : Held) (x : Lent) (text area : List �
 
   module _ (on : mixed ≡ true) where
     pub as_acknowledgement :
-        (display id : ℕ) → command_of text ≡ Command.Acknowledge display id →
+        (display id : ℕ) → command_of text ≡ Some (Command.Acknowledge display id) →
         acknowledged_on st x display id area ≡ dispatched mixed acknowledging st x text area
     unfolding dispatched commanded
     as_acknowledgement display id e = rw (on, e)
 
     pub as_fetch :
-        (display id : ℕ) → command_of text ≡ Command.Fetch display id →
+        (display id : ℕ) → command_of text ≡ Some (Command.Fetch display id) →
         fetched_on st x display id area ≡ dispatched mixed acknowledging st x text area
     unfolding dispatched commanded
     as_fetch display id e = rw (on, e)
 
     pub as_no_command :
-        command_of text ≡ Command.None → followed acknowledging st x text area ≡ dispatched mixed acknowledging st x text area
+        command_of text ≡ None → followed acknowledging st x text area ≡ dispatched mixed acknowledging st x text area
     unfolding dispatched commanded
     as_no_command e = rw (on, e)

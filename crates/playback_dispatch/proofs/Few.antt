@@ -7,6 +7,7 @@ use native.Mathlib.Omega.{arith}
 use borrow.Author.Tests.{eqb-true, eqb-false}
 use lib.Dec.{eqb}
 use lib.ListN.{length}
+use Rattle.std.specs.Prelude.{Option, Some, None}
 use Rattle.commands.specs.declared.Command.{Command}
 use Rattle.commands.specs.ReadLine.{command_of}
 use Rattle.settings.specs.Limits.{max_displays}
@@ -67,11 +68,11 @@ module _ (st : Held) (x : Lent) (area : List ℕ) where
           | false ↦ few
         ]
 
-    commanded_few : (command : Command) → Fewest area (commanded command acknowledging st x text area)
+    commanded_few : (command : Option Command) → Fewest area (commanded command acknowledging st x text area)
     unfolding commanded
-    commanded_few (Command.Acknowledge display id) = acknowledgement_few display id
-    commanded_few (Command.Fetch display id) = fetch_few display id
-    commanded_few Command.None = followed_few
+    commanded_few (Some (Command.Acknowledge display id)) = acknowledgement_few display id
+    commanded_few (Some (Command.Fetch display id)) = fetch_few display id
+    commanded_few None = followed_few
 
     pub dispatched_few : (mixed : Bool) → Fewest area (dispatched mixed acknowledging st x text area)
     unfolding dispatched

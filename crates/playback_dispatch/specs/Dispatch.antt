@@ -1,6 +1,6 @@
 -- The call that a text makes: a journal call, after which the displays may acknowledge what is new, or, in a mixed input, the call of a
 -- display whose line it is.
-use Rattle.std.specs.Prelude.{ℕ, zero, suc, Bool, cond, ◌&&◌, List, ltb, get_or}
+use Rattle.std.specs.Prelude.{ℕ, zero, suc, Bool, cond, ◌&&◌, List, ltb, get_or, Option, Some, None}
 use Rattle.commands.specs.declared.Command.{Command}
 use Rattle.commands.specs.ReadLine.{command_of}
 use Rattle.settings.specs.Limits.{max_displays}
@@ -36,10 +36,10 @@ followed acknowledging st x text area =
 
 -- ---- a mixed input
 
-unfoldable pub commanded : Command → Bool → Held → Lent → List ℕ → List ℕ → Called
-commanded (Command.Acknowledge display id) acknowledging st x text area = acknowledged_on st x display id area
-commanded (Command.Fetch display id) acknowledging st x text area = fetched_on st x display id area
-commanded Command.None acknowledging st x text area = followed acknowledging st x text area
+unfoldable pub commanded : Option Command → Bool → Held → Lent → List ℕ → List ℕ → Called
+commanded (Some (Command.Acknowledge display id)) acknowledging st x text area = acknowledged_on st x display id area
+commanded (Some (Command.Fetch display id)) acknowledging st x text area = fetched_on st x display id area
+commanded None acknowledging st x text area = followed acknowledging st x text area
 
 -- the call that a text makes
 unfoldable pub dispatched : Bool → Bool → Held → Lent → List ℕ → List ℕ → Called

@@ -34,7 +34,7 @@ word_short lines phase =
       | false ↦ phase_short phase
     ]
 
-state_short : (lines : ℕ) (phase : Phase) → length (state_field lines phase) ≤ 18
+pub state_short : (lines : ℕ) (phase : Phase) → length (state_field lines phase) ≤ 18
 unfolding state_field
 state_short lines phase = simp length-append (omega (arith, word_short lines phase))
 

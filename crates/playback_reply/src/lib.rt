@@ -1,7 +1,7 @@
 // What is printed for a line: the answer line, then the records as text.
 #![tactic(auto)]
 
-ghost use Rattle.std.specs.Prelude.{◌+◌, ◌*◌, ◌≤◌, length};
+ghost use Rattle.std.specs.Prelude.{◌≡◌, ◌+◌, ◌*◌, ◌≤◌, length};
 ghost use Rattle.record.specs.Sizes.{record_bytes};
 ghost use Rattle.record_text.specs.Sizes.{longest_record_text};
 ghost use Rattle.node.specs.Sizes.{records_per_call};
@@ -20,58 +20,61 @@ const MOST_RECORDS: usize = operator::METERS + 1;
 // Bytes of the longest reply: an answer line and the texts of its records.
 pub const LONGEST_REPLY: usize = LONGEST_ANSWER + MOST_RECORDS * record_text::LONGEST_RECORD_TEXT;
 
-// Writes the word of a state from `at` on; answers the place behind it.
-fn put_word(out: &mut [u8], at: usize, lines: u32, phase: Phase) -> usize
-    requires { at + length (word_of lines phase) ≤ length out.old }
-    ensures { PutAt out.old at (word_of lines phase) result out.new }
+// The word of a state. Bytes and no Display: lines are laid over lent areas as bytes, and none of std's formatters writes into one without
+// a copy.
+#[tactic(auto, unfolding(crate::specs::Reply::word_of, crate::specs::Reply::phase_word))]
+fn word_of(lines: u32, phase: Phase) -> &'static [u8]
+    ensures { result.now ≡ word_of lines phase }
 {
     if lines == 0 {
-        return area::put_bytes(out, at, b"none");
+        return b"none";
     }
     match phase {
-        Phase::Stable => area::put_bytes(out, at, b"stable"),
-        Phase::Failure => area::put_bytes(out, at, b"failure"),
-        Phase::Correcting => area::put_bytes(out, at, b"correcting"),
+        Phase::Stable => b"stable",
+        Phase::Failure => b"failure",
+        Phase::Correcting => b"correcting",
     }
 }
 
 // Writes the state from `at` on, to the end of the line; answers the place behind it.
+#[tactic(auto, unfolding(crate::specs::Parts::state_field), using(crate::proofs::Replies::states))]
 fn put_state(out: &mut [u8], at: usize, lines: u32, phase: Phase) -> usize
     requires { at + length (state_field lines phase) ≤ length out.old }
     ensures { PutAt out.old at (state_field lines phase) result out.new }
 {
     let word = area::put_bytes(out, at, b" state=");
-    let end = put_word(out, word, lines, phase);
+    let end = area::put_bytes(out, word, word_of(lines, phase));
     area::put_bytes(out, end, b"\n")
 }
 
-// Writes the answer line from the first place on; answers its length.
+// Writes the answer line from the first place on; answers its length. Numbers and no Result: any answer can be written.
+#[tactic(auto, using(crate::proofs::Replies::answers))]
 pub fn put_answer(out: &mut [u8], answer: u32, records: u32, lines: u32, phase: Phase) -> usize
     requires { longest_answer ≤ length out.old }
     ensures { PutInFront out.old (answer_line answer records lines phase) result out.new }
 {
-    let number = fields::put_u32(out, 0, b"answer=", answer);
-    let state = fields::put_u32(out, number, b" records=", records);
-    put_state(out, state, lines, phase)
+    let at = fields::put_number(out, 0, b"answer=", answer);
+    let at = fields::put_number(out, at, b" records=", records);
+    put_state(out, at, lines, phase)
 }
 
 // Writes the texts of the area's first n records from `at` on; answers the place behind them.
+#[tactic(auto, using(crate::proofs::Records::records))]
 fn put_records(out: &mut [u8], at: usize, area: &[u8], n: usize) -> usize
     requires { (n * record_bytes ≤ length area.now) × (at + n * longest_record_text ≤ length out.old) }
     ensures { PutAt out.old at (record_lines n area.now) result out.new }
 {
     let mut place = at;
-    let mut i = 0;
-    while i < n {
+    for i in 0..n {
         let start = i * record::RECORD_BYTES;
         let end = start + record::RECORD_BYTES;
         place = record_text::put_record(out, place, &area[start..end]);
-        i += 1;
     }
     place
 }
 
 // Writes the reply to a call from the first place on: the answer line, and the texts of the area's first records; answers its length.
+#[tactic(auto, using(crate::proofs::Replies::replies))]
 pub fn put_reply(
     out: &mut [u8],
     answer: u32,

@@ -6,8 +6,7 @@ use native.Mathlib.Omega.{arith}
 use lib.ListN.{length, drop, length-append}
 use borrow.Rule.Slice.PartMut.{put_mid, same_len_mid}
 use Rattle.area.specs.Laid.{in_front}
-use Rattle.node.specs.declared.State.{State}
-use Rattle.node.specs.Held.{Arrays, held}
+use Rattle.node.specs.Held.{Held}
 use Rattle.node.specs.View.{Lent}
 use Rattle.node.specs.Opening.{Opened}
 use Rattle.playback_reply.specs.Reply.{answer_line, opening_text}
@@ -39,15 +38,15 @@ ready_replied c buf out text e lies used m reply count laid kept =
 
 -- what an opening leaves, and its answer line laid down
 pub opening_laid :
-    (st : State) (arrays : Arrays) (lent : Lent) (answer : ℕ) {q : Opened} →
-    record { answer = answer; state = held st arrays; lent = lent } ≡ q → (before last : List ℕ) (used : ℕ) →
-    PutInFront before (answer_line answer 0 st.settings.lines st.phase) used last →
-    Answered q before (record { state = st; used = used }) arrays lent last
+    (st : Held) (lent : Lent) (answer told : ℕ) {q : Opened} → told ≡ answer →
+    record { answer = answer; state = st; lent = lent } ≡ q → (before last : List ℕ) (used : ℕ) →
+    PutInFront before (answer_line told 0 st.settings.lines st.phase) used last → Answered q before st lent used last
 unfolding opening_text
-opening_laid st arrays lent answer same before last used laid_down =
+opening_laid st lent answer told is same before last used written =
+    let laid_down = rw is at written in
     record {
       state = ap (λ (c : Opened). c.state) same;
       lent = ap (λ (c : Opened). c.lent) same;
-      used = laid_down.0 ∙ ap (λ (c : Opened). length (opening_text c)) same;
+      used_bytes = laid_down.0 ∙ ap (λ (c : Opened). length (opening_text c)) same;
       text = laid_down.1 ∙ ap (λ (c : Opened). in_front (opening_text c) before) same;
     }

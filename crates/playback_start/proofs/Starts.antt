@@ -14,13 +14,13 @@ use Rattle.fields.specs.Line.{holds_line}
 use Rattle.area.specs.Laid.{in_front}
 use Rattle.area.proofs.Lent.{lent_in_front}
 use Rattle.store.proofs.Choices.{not_both, true_unless}
-use Rattle.node.specs.Held.{Held, Arrays}
+use Rattle.node.specs.declared.State.{State}
+use Rattle.node.specs.Held.{Held, held}
 use Rattle.node.specs.View.{Lent}
 use Rattle.node.specs.Opening.{Opened, closed_state, opened_on}
 use Rattle.playback_reply.specs.Reply.{opening_text, longest_reply}
 use Rattle.playback_cursor.specs.declared.Cursor.{Cursor}
 use Rattle.playback_cursor.specs.Cut.{part, text_at, all_read, Ready, Unplayed, over, failed, endless, Fetched, Followed}
-use Rattle.playback_start.specs.declared.Played.{Played}
 use Rattle.playback_start.specs.Answered.{Answered}
 use Rattle.playback_start.specs.Start.{last_if, Begun}
 
@@ -36,8 +36,8 @@ none_unplayed (over e o) = not_both o refl
 none_unplayed (failed h) = omega arith
 none_unplayed (endless e n) = not_both e refl
 
-module _ (buf : List ℕ) (first : Cursor) (held : List ℕ) (room : ℕ)
-    (f : Fetched false (all_read 0 false false false) buf first held room) where
+module _ (buf : List ℕ) (first : Cursor) (read : List ℕ) (room : ℕ)
+    (f : Fetched false (all_read 0 false false false) buf first read room) where
   first_plays : first.plays ≡ true
   first_plays = true_unless first.plays (λ e. none_unplayed (f.unplayed e).1)
 
@@ -54,40 +54,40 @@ front_laid out bytes at e = rw (e, zero-add (length bytes))
 
 pub begun :
     (buf out : List ℕ) (x : Lent) (begin : Cursor) → begin ≡ all_read 0 false false false →
-    (first : Cursor) (held : List ℕ) → Fetched false begin buf first held (length out) →
+    (first : Cursor) (read : List ℕ) → Fetched false begin buf first read (length out) →
     (closed : Held) → closed ≡ closed_state →
-    (text : List ℕ) → text ≡ text_at held first →
-    (p : Played) (arrays : Arrays) (y : Lent) (m : List ℕ) →
-    Answered (opened_on closed x text) (part out first.used (length out)) p arrays y m →
+    (text : List ℕ) → text ≡ text_at read first →
+    (st : State) (y : Lent) (used : ℕ) (m : List ℕ) →
+    Answered (opened_on closed x text) (part out first.used (length out)) (held st) y used m →
     length (put_mid first.used (length out - first.used) out m) ≡ length out →
     (next : Cursor) (after : List ℕ) →
-    Followed (last_if (eqb p.state.settings.lines 0) first) (length text) p.used held next after
+    Followed (last_if (eqb st.settings.lines 0) first) (length text) used read next after
     (length (put_mid first.used (length out - first.used) out m)) →
-    Begun buf out x (record { state = p.state; cursor = next }) after (put_mid first.used (length out - first.used) out m) arrays y
-begun buf out x begin b first held f closed z text t p arrays y m e same next after o =
-    let found : Fetched false (all_read 0 false false false) buf first held (length out) =
-    subst (λ (c : Cursor). Fetched false c buf first held (length out)) b f in
-    let made : opened_on closed x text ≡ opened_on closed_state x (text_at held first) =
+    Begun buf out x (record { state = st; cursor = next }) after (put_mid first.used (length out - first.used) out m) y
+begun buf out x begin b first read f closed z text t st y used m e same next after o =
+    let found : Fetched false (all_read 0 false false false) buf first read (length out) =
+    subst (λ (c : Cursor). Fetched false c buf first read (length out)) b f in
+    let made : opened_on closed x text ≡ opened_on closed_state x (text_at read first) =
     ap (λ (s : Held). opened_on s x text) z ∙ ap (opened_on closed_state x) t in
-    let size : p.used ≡ length (opening_text (opened_on closed_state x (text_at held first))) =
-    e.used ∙ ap (λ (q : Opened). length (opening_text q)) made in
-    let last : Cursor = last_if (eqb p.state.settings.lines 0) first in
+    let size : used ≡ length (opening_text (opened_on closed_state x (text_at read first))) =
+    e.used_bytes ∙ ap (λ (q : Opened). length (opening_text q)) made in
+    let last : Cursor = last_if (eqb st.settings.lines 0) first in
     record {
       first = first;
-      buffered = held;
+      buffered = read;
       fetched = found;
-      plays = first_plays buf first held (length out) found;
+      plays = first_plays buf first read (length out) found;
       state = e.state ∙ ap (λ (q : Opened). q.state) made;
       lent = e.lent ∙ ap (λ (q : Opened). q.lent) made;
       answer =
           ap (put_mid first.used (length out - first.used) out) e.text
           ∙ lent_in_front out (opening_text (opened_on closed x text)) first.used
-          ∙ front_laid out (opening_text (opened_on closed x text)) first.used (first_unused buf first held (length out) found)
+          ∙ front_laid out (opening_text (opened_on closed x text)) first.used (first_unused buf first read (length out) found)
           ∙ ap (λ (q : Opened). in_front (opening_text q) out) made;
       onward =
           subst
-          (λ (i : ℕ). Followed last i (length (opening_text (opened_on closed_state x (text_at held first)))) held next after (length out))
+          (λ (i : ℕ). Followed last i (length (opening_text (opened_on closed_state x (text_at read first)))) read next after (length out))
           (ap length t)
-          (subst (λ (i : ℕ). Followed last (length text) i held next after (length out)) size
-          (subst (λ (i : ℕ). Followed last (length text) p.used held next after i) same o));
+          (subst (λ (i : ℕ). Followed last (length text) i read next after (length out)) size
+          (subst (λ (i : ℕ). Followed last (length text) used read next after i) same o));
     }

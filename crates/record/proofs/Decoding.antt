@@ -3,13 +3,13 @@
 use mathlib.Core.Path.{◌≡◌, refl, sym, ap, subst, ◌∙◌}
 use mathlib.Core.Bool.{true, false, and-eq-true_iff}
 use mathlib.Core.List.{List}
+use Rattle.std.specs.Prelude.{Option, Some, None}
 use Prim.Native.Nat.{ℕ}
 use native.Mathlib.Omega.{arith}
 use lib.ListN.{length, get_or}
 use borrow.Author.Tests.{eqb-true}
 use Rattle.endian.proofs.LittleEndian.{AreBytes}
 use Rattle.record.specs.declared.Record.{Record}
-use Rattle.record.specs.declared.Decoded.{Decoded}
 use Rattle.record.specs.Kinds.{is_record}
 use Rattle.record.specs.Layout.{bytes_of}
 use Rattle.record.specs.Fields.{fields_of}
@@ -19,11 +19,11 @@ use Rattle.record.specs.Within.{Within}
 pub use Rattle.record.proofs.Form.{well_formed}
 use Rattle.record.proofs.BytesOf.{length_bytes_of, fields_of_bytes_of, bytes_of_fields_of, within_fields_of}
 
-pub decoded_well : (b : List ℕ) → is_well_formed b ≡ true → decoded b ≡ Decoded.Is (fields_of b)
+pub decoded_well : (b : List ℕ) → is_well_formed b ≡ true → decoded b ≡ Some (fields_of b)
 unfolding decoded
 decoded_well b e = rw e
 
-pub decoded_ill : (b : List ℕ) → is_well_formed b ≡ false → decoded b ≡ Decoded.Malformed
+pub decoded_ill : (b : List ℕ) → is_well_formed b ≡ false → decoded b ≡ None
 unfolding decoded
 decoded_ill b e = rw e
 
@@ -33,8 +33,8 @@ well_formed_bytes_of : (r : Record) → is_record r.kind ≡ true → is_well_fo
 unfolding bytes_of
 well_formed_bytes_of r k = well_formed (bytes_of r) (length_bytes_of r) k refl refl
 
-pub decoded_bytes_of : (r : Record) → Within r → is_record r.kind ≡ true → decoded (bytes_of r) ≡ Decoded.Is r
-decoded_bytes_of r w k = decoded_well (bytes_of r) (well_formed_bytes_of r k) ∙ ap Decoded.Is (fields_of_bytes_of r w)
+pub decoded_bytes_of : (r : Record) → Within r → is_record r.kind ≡ true → decoded (bytes_of r) ≡ Some r
+decoded_bytes_of r w k = decoded_well (bytes_of r) (well_formed_bytes_of r k) ∙ ap Some (fields_of_bytes_of r w)
 
 -- ---- and nothing else is
 
@@ -49,7 +49,7 @@ well_formed_only b e =
     (eqb-true _ _ size.0, kind.0, eqb-true _ _ zeros.0, eqb-true _ _ zeros.1)
 
 pub decoded_only :
-    (b : List ℕ) (r : Record) → AreBytes b → decoded b ≡ Decoded.Is r → (b ≡ bytes_of r) × Within r × (is_record r.kind ≡ true)
+    (b : List ℕ) (r : Record) → AreBytes b → decoded b ≡ Some r → (b ≡ bytes_of r) × Within r × (is_record r.kind ≡ true)
 unfolding fields_of
 decoded_only b r h e =
     (elim (is_well_formed b) as (λ t. is_well_formed b ≡ t → (b ≡ bytes_of r) × Within r × (is_record r.kind ≡ true)) [
@@ -68,15 +68,19 @@ decoded_only b r h e =
 -- ---- both
 
 read_only :
-    (b : List ℕ) → AreBytes b → (d : Decoded) → decoded b ≡ d → (decoded_answer d ≡ Answer.malformed → ⊥) →
+    (b : List ℕ) → AreBytes b → (d : Option Record) → decoded b ≡ d → (decoded_answer d ≡ Answer.malformed → ⊥) →
     (r : Record) × Within r × (is_record r.kind ≡ true) × (b ≡ bytes_of r)
 unfolding decoded_answer
-read_only b h (Decoded.Is r) e some = let (whole, within, kind) = decoded_only b r h e in (r, within, kind, whole)
-read_only b h Decoded.Malformed e some = absurd (some refl)
+read_only b h (Some r) e some = let (whole, within, kind) = decoded_only b r h e in (r, within, kind, whole)
+read_only b h None e some = absurd (some refl)
 
-pub exact_record : (b : List ℕ) → AreBytes b → ExactRecord b (decoded b)
-exact_record b h =
-    record {
+pub exact_record : (b : List ℕ) (answer : Option Record) → AreBytes b → answer ≡ decoded b → ExactRecord b answer
+exact_record b answer h is =
+    rw is
+    (record {
       whole = λ r within kind e. ap decoded e ∙ decoded_bytes_of r within kind;
       only = read_only b h (decoded b) refl;
-    }
+    })
+
+-- for the decoder
+pub ruleset decoding = (well_formed_only, exact_record)

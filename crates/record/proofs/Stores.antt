@@ -3,15 +3,13 @@ use mathlib.Core.Path.{◌≡◌, refl, ap, ◌∙◌}
 use mathlib.Core.List.{List, [], ◌∷◌, ◌++◌}
 use Prim.Native.Nat.{ℕ, ◌+◌, ◌-◌, ◌≤◌}
 use native.Mathlib.Omega.{arith}
-use borrow.Author.Tests.{leb-true}
-use mathlib.Core.Bool.{true}
-use lib.Dec.{leb}
 use lib.ListN.{length, take, drop, take-append-drop}
 use lib.Seq.{length-take-le}
 use borrow.Rule.Slice.PartMut.{put_mid}
 use Rattle.area.specs.Laid.{laid, in_front}
 use Rattle.area.proofs.Laid.{laid_laid, laid_front}
 use Rattle.area.proofs.Lent.{lent_in_front}
+use Rattle.std.proofs.lemmas.Int.{to_z-of_z}
 use Rattle.signed.specs.Twos.{twos}
 use Rattle.endian.specs.LittleEndian.{little_endian}
 use Rattle.record.specs.declared.Record.{Record}
@@ -19,12 +17,8 @@ use Rattle.record.specs.Sizes.{record_bytes}
 use Rattle.record.specs.Layout.{bytes_of}
 use Rattle.record.proofs.BytesOf.{length_bytes_of}
 
--- room for a record is room up to each place in it, also in an area that is as long
-pub room_within : {j k n : ℕ} → leb n record_bytes ≡ true → k ≡ j → record_bytes ≤ j → n ≤ k
-room_within {n = n} e same room = omega (arith, leb-true n record_bytes e)
-
 -- bytes laid down in two runs from the first place on are a new front
-pub halves_laid : (l b : List ℕ) (n : ℕ) → n ≤ length b → length b ≤ length l → laid (laid l 0 (take n b)) n (drop n b) ≡ in_front b l
+halves_laid : (l b : List ℕ) (n : ℕ) → n ≤ length b → length b ≤ length l → laid (laid l 0 (take n b)) n (drop n b) ≡ in_front b l
 halves_laid l b n h fits =
     laid_laid l 0 n (take n b) (drop n b) (omega (arith, length-take-le n b h))
     ∙ ap (laid l 0) (take-append-drop n b)
@@ -33,42 +27,40 @@ halves_laid l b n h fits =
 module _ (l : List ℕ) (r : Record) where
   -- tag, id and time
   pub head_laid_lem :
-      {k m n : List ℕ} → k ≡ laid l 0 (r.kind ∷ r.meter ∷ 0 ∷ 0 ∷ []) → m ≡ laid k 4 (little_endian 4 r.id) →
-      n ≡ laid m 8 (little_endian 4 r.time.0)
-      → n ≡ laid l 0 (take 12 (bytes_of r))
+      laid (laid (laid l 0 (r.kind ∷ r.meter ∷ 0 ∷ 0 ∷ [])) 4 (little_endian 4 r.id)) 8 (little_endian 4 r.time.0) ≡
+      laid l 0 (take 12 (bytes_of r))
   unfolding bytes_of little_endian
-  head_laid_lem p q s =
+  head_laid_lem =
       let tag = r.kind ∷ r.meter ∷ 0 ∷ 0 ∷ [] in
       let id = little_endian 4 r.id in
       let time = little_endian 4 r.time.0 in
-      let both = q ∙ ap (λ (x : List ℕ). laid x 4 id) p ∙ laid_laid l 0 4 tag id refl in
-      s ∙ ap (λ (x : List ℕ). laid x 8 time) both ∙ laid_laid l 0 8 (tag ++ id) time refl
+      ap (λ (x : List ℕ). laid x 8 time) (laid_laid l 0 4 tag id refl) ∙ laid_laid l 0 8 (tag ++ id) time refl
 
   -- count, sum, mean and last, the signed ones by their words
-  pub values_laid : {u v w : ℕ} {k m n o : List ℕ} → u ≡ twos 64 r.sum → v ≡ twos 32 r.mean → w ≡ twos 32 r.last
-      → k ≡ laid l 12 (little_endian 4 r.count) → m ≡ laid k 16 (little_endian 8 u) → n ≡ laid m 24 (little_endian 4 v) → o ≡ laid n 28 (little_endian 4 w)
-      → o ≡ laid l 12 (drop 12 (bytes_of r))
+  pub values_laid :
+      laid (laid (laid (laid l 12 (little_endian 4 r.count)) 16 (little_endian 8 (twos 64 r.sum))) 24 (little_endian 4 (twos 32 r.mean)))
+      28 (little_endian 4 (twos 32 r.last)) ≡
+      laid l 12 (drop 12 (bytes_of r))
   unfolding bytes_of little_endian
-  values_laid {u} {v} {w} a d e p q s t =
+  values_laid =
       let count = little_endian 4 r.count in
       let sum = little_endian 8 (twos 64 r.sum) in
       let mean = little_endian 4 (twos 32 r.mean) in
       let last = little_endian 4 (twos 32 r.last) in
-      let two = rw a at q ∙ ap (λ (x : List ℕ). laid x 16 sum) p ∙ laid_laid l 12 16 count sum refl in
-      let three = rw d at s ∙ ap (λ (x : List ℕ). laid x 24 mean) two ∙ laid_laid l 12 24 (count ++ sum) mean refl in
-      rw e at t ∙ ap (λ (x : List ℕ). laid x 28 last) three ∙ laid_laid l 12 28 (count ++ sum ++ mean) last refl
+      ap (λ (x : List ℕ). laid (laid x 24 mean) 28 last) (laid_laid l 12 16 count sum refl) ∙
+      ap (λ (x : List ℕ). laid x 28 last) (laid_laid l 12 24 (count ++ sum) mean refl) ∙
+      laid_laid l 12 28 (count ++ sum ++ mean) last refl
 
   -- the first twelve bytes and the other twenty
   pub record_laid :
-      {k m : List ℕ} → record_bytes ≤ length l → k ≡ laid l 0 (take 12 (bytes_of r)) → m ≡ laid k 12 (drop 12 (bytes_of r)) →
-      m ≡ in_front (bytes_of r) l
-  record_laid fits p q =
-      let size = length_bytes_of r in
-      q
-      ∙ ap (λ (x : List ℕ). laid x 12 (drop 12 (bytes_of r))) p
-      ∙ halves_laid l (bytes_of r) 12 (omega arith) (omega arith)
+      record_bytes ≤ length l → laid (laid l 0 (take 12 (bytes_of r))) 12 (drop 12 (bytes_of r)) ≡ in_front (bytes_of r) l
+  record_laid fits =
+      let size = length_bytes_of r in halves_laid l (bytes_of r) 12 (omega arith) (omega arith)
 
 -- for a caller that lends the writer the part of its area from a place on: what the whole area holds once the part is back
 pub record_lent : (area part : List ℕ) (r : Record) (at : ℕ) → part ≡ in_front (bytes_of r) (take (length area - at) (drop at area))
     → put_mid at (length area - at) area part ≡ take at area ++ bytes_of r ++ drop (at + 32) area
 record_lent area part r at e = rw (e, ← length_bytes_of r) (lent_in_front area (bytes_of r) at)
+
+-- for the writer of the signed numbers, which are within their widths
+pub ruleset values = (values_laid, to_z-of_z)

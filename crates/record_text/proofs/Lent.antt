@@ -8,7 +8,7 @@ use lib.ListN.{length, take, drop, length-drop}
 use lib.Seq.{sets-eq, length-take-le}
 use borrow.Rule.Slice.PartMut.{put_mid}
 use Rattle.area.specs.Laid.{laid}
-use Rattle.area.proofs.Laid.{laid_front}
+use Rattle.area.proofs.Laid.{laid_front, laid_none}
 use Rattle.area.proofs.Lent.{lent_in_front}
 
 module _ (area text : List ℕ) (at : ℕ) (room : at + length text ≤ length area) where
@@ -23,3 +23,5 @@ module _ (area text : List ℕ) (at : ℕ) (room : at + length text ≤ length a
   lent_laid =
       ap (put_mid at (length area - at) area) (laid_front part text room_lent) ∙
       lent_in_front area text at ∙ sym (sets-eq text area at room)
+
+pub ruleset lent = (room_lent, lent_laid, laid_none)

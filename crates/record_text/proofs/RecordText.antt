@@ -3,13 +3,13 @@
 use mathlib.Core.Path.{◌≡◌}
 use mathlib.Core.Bool.{true}
 use mathlib.Core.List.{List, ◌++◌, append_assoc}
-use Prim.Native.Nat.{ℕ, ◌+◌, ◌≤◌}
+use Prim.Native.Nat.{ℕ, ◌+◌}
 use native.Mathlib.Omega.{arith}
 use lib.IntN.{pos}
 use lib.ListN.{length, length-append}
 use Rattle.area.specs.Laid.{laid}
-use Rattle.area.proofs.Laid.{laid_laid}
-use Rattle.area.proofs.Runs.{LaidTo}
+use Rattle.std.proofs.lemmas.Int.{to_z-of_z}
+use Rattle.area.proofs.Laid.{laid_laid, laid_four, length_four}
 use Rattle.decimal.specs.Decimal.{decimal}
 use Rattle.fields.specs.Keys.{time_key, meter_key}
 use Rattle.fields.specs.Field.{later}
@@ -42,18 +42,11 @@ text_of_bytes_of r w k = rw (decoded_bytes_of r w k)
 pub length_record_text : (r : Record) → length (record_text r) ≡ length (text_head r) + length (text_tail r)
 length_record_text r = rw (record_text_parts r) (length-append (text_head r) (text_tail r))
 
--- room for the text is room for its first part, and behind it for the second; laid down one behind the other they are the text
-module _ (l : List ℕ) (r : Record) where
-  pub room_head : length (record_text r) ≤ length l → length (text_head r) ≤ length l
-  room_head room = omega (arith, length_record_text r)
+-- the first part laid down and behind it the second are the text
+pub parts_laid : (l : List ℕ) (r : Record) (at : ℕ) → at ≡ length (text_head r) → laid (laid l 0 (text_head r)) at (text_tail r) ≡ laid l 0 (record_text r)
+parts_laid l r at e = rw (record_text_parts r) (laid_laid l 0 at (text_head r) (text_tail r) (omega arith))
 
-  pub room_tail : {e k : ℕ} → length (record_text r) ≤ length l → e ≡ length (text_head r) → k ≡ length l → e + length (text_tail r) ≤ k
-  room_tail room e same = omega (arith, length_record_text r)
+-- for the writers of the second part and of the whole
+pub ruleset tail_laid = (laid_four, length_four, length-append, to_z-of_z)
 
-  pub parts_laid :
-      {e f : ℕ} {k m : List ℕ} → (e ≡ length (text_head r)) × (k ≡ laid l 0 (text_head r)) → LaidTo k e (text_tail r) f m →
-      (f ≡ length (record_text r)) × (m ≡ laid l 0 (record_text r))
-  parts_laid {e = e} p q = (
-    omega (arith, length_record_text r),
-    cc (record_text_parts r, laid_laid l 0 e (text_head r) (text_tail r) (omega arith)),
-  )
+pub ruleset text_laid = (parts_laid, length_record_text)

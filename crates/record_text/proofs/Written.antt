@@ -1,7 +1,8 @@
--- What the writer of a record's text answers and leaves, case by case: nothing of a text that is longer than the area, and else the text, read
--- back from where it was made, in front.
-use mathlib.Core.Path.{◌≡◌, refl, ap, ◌∙◌}
-use mathlib.Core.List.{List}
+-- The bytes that the writer of a record's text leaves in front of the area, case by case: none of a text that is longer than the area, and else
+-- the text, read back from where it was made.
+use mathlib.Core.Path.{◌≡◌, refl}
+use mathlib.Core.List.{List, []}
+use Rattle.std.specs.Prelude.{Some, None, Ok, Err}
 use Prim.Native.Nat.{ℕ, ◌-◌, ◌<◌, ◌≤◌}
 use native.Mathlib.Nat.{sub-zero}
 use lib.ListN.{length, take, drop}
@@ -9,39 +10,47 @@ use lib.Seq.{take_at}
 use borrow.Author.Tests.{lt-ltb, le-ltb}
 use Rattle.area.specs.Laid.{laid, in_front}
 use Rattle.area.proofs.Laid.{laid_front}
-use Rattle.fields.specs.Written.{written_answer, written_length}
-use Rattle.fields.specs.declared.Written.{Written}
+use Rattle.answer.specs.declared.Refusal.{Refusal}
+use Rattle.fields.specs.Written.{written_length}
 use Rattle.record.specs.declared.Record.{Record}
-use Rattle.record.specs.declared.Decoded.{Decoded}
 use Rattle.record_text.specs.RecordText.{record_text, text_of, text_answer, text_written}
+use Rattle.record_text.proofs.Longest.{text_short}
 
--- the answer w, and what is left of the area, are those of the definitions
-abbrev pub Answered : Decoded → List ℕ → Written → List ℕ → Type 0
-Answered d area w left =
-    (written_answer w ≡ text_answer d area) ×
-    ((written_length w ≡ length (text_written d area)) × (left ≡ in_front (text_written d area) area))
+-- the length that an answer says
+pub length_ok : (n : ℕ) → written_length (Ok n) ≡ n
+unfolding written_length
+length_ok n = refl
 
-pub no_record : (area : List ℕ) → Answered Decoded.Malformed area Written.Malformed area
-unfolding written_answer written_length text_answer text_written in_front
-no_record area = (refl, (refl, refl))
+pub length_err : (refusal : Refusal) → written_length (Err refusal) ≡ 0
+unfolding written_length
+length_err refusal = refl
 
-pub short_area : (r : Record) (area : List ℕ) → length area < length (record_text r) → Answered (Decoded.Is r) area Written.ShortArea area
-unfolding written_answer written_length text_answer text_written in_front
-short_area r area h = rw (lt-ltb (length area) (length (record_text r)) h) (refl, (refl, refl))
+pub written_none : (area : List ℕ) → text_written None area ≡ []
+unfolding text_written text_answer
+written_none area = refl
 
-pub text_written_lem : (r : Record) (area left : List ℕ) (n : ℕ) → length (record_text r) ≤ length area → n ≡ length (record_text r)
-    → left ≡ in_front (record_text r) area → Answered (Decoded.Is r) area (Written.Text n) left
-unfolding written_answer written_length text_answer text_written text_of
-text_written_lem r area left n h size whole = rw (le-ltb (length area) (length (record_text r)) h) (refl, (size, whole))
+pub written_short : (r : Record) (area : List ℕ) → length area < length (record_text r) → text_written (Some r) area ≡ []
+unfolding text_written text_answer
+written_short r area h = rw (lt-ltb (length area) (length (record_text r)) h)
 
--- a text is read back from where it was laid in front
-take_in_front : (t area : List ℕ) → take (length t) (in_front t area) ≡ t
+pub written_whole : (r : Record) (area : List ℕ) → length (record_text r) ≤ length area → text_written (Some r) area ≡ record_text r
+unfolding text_written text_answer text_of
+written_whole r area h = rw (le-ltb (length area) (length (record_text r)) h)
+
+-- nothing in front of an area leaves it as it is
+pub none_in_front : (area : List ℕ) → in_front [] area ≡ area
 unfolding in_front
-take_in_front t area = take_at t (drop (length t) area) (length t) refl
+none_in_front area = refl
 
 -- a text laid in front of one area, and from there in front of another
-pub copied : (area scratch held left t : List ℕ) (n : ℕ) → n ≡ length t → length t ≤ length scratch → length t ≤ length area
-    → held ≡ laid scratch 0 t → left ≡ laid area 0 (take (n - 0) (drop 0 held)) → left ≡ in_front t area
-copied area scratch held left t n e h k p q =
-    let part : take (n - 0) held ≡ t = rw (e, p, sub-zero, laid_front scratch t h) (take_in_front t scratch) in
-    q ∙ ap (laid area 0) part ∙ laid_front area t k
+pub copied : (area scratch held t : List ℕ) (n : ℕ) → n ≡ length t → length t ≤ length scratch → length t ≤ length area → held ≡ laid scratch 0 t
+    → laid area 0 (take (n - 0) held) ≡ in_front t area
+unfolding in_front
+copied area scratch held t n size made room e =
+    let front = take_at t (drop (length t) scratch) (length t) refl in
+    rw (size, sub-zero, e, laid_front scratch t made, front) (laid_front area t room)
+
+-- for the writer of one record, and of what bytes are read as
+pub ruleset written = (text_short, written_short, written_whole, none_in_front, copied, length_ok, length_err)
+
+pub ruleset unread = (written_none, none_in_front, length_err)

@@ -1,18 +1,16 @@
 // The program replay: as merge, but every display acknowledges the stable results of a line before the next one is read.
 #![tactic(auto)]
 
-use std::env::FillError;
-use std::rt::Env;
+use playback::Mode;
 
 fn main(rt: HostRuntime) {
-    let has_arguments = !matches!(rt.arg(1, &mut [0u8; 1]), Err(FillError::NotPresent));
-    if has_arguments {
-        let _ = eprintln!(rt;
-            "usage: replay <INPUT >OUTPUT (settings and journal lines in, answers and records out, all acknowledged)"
-        );
-        return;
-    }
-    let mixed = false;
-    let acknowledging = true;
-    playback::run(rt, mixed, acknowledging);
+    let mode = Mode {
+        mixed: false,
+        acknowledging: true,
+    };
+    playback::run_or_explain(
+        rt,
+        mode,
+        "usage: replay <INPUT >OUTPUT (settings and journal lines in, answers and records out, all acknowledged)",
+    );
 }

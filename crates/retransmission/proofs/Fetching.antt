@@ -1,5 +1,5 @@
 -- Results laid down for a fetch one after the other: those laid so far stand in front of the area.
-use Prim.Native.Nat.{ℕ, zero, suc, ◌+◌, ◌-◌, ◌*◌, ◌%◌, ◌≤◌, ◌<◌}
+use Prim.Native.Nat.{ℕ, zero, suc, ◌+◌, ◌-◌, ◌*◌, ◌%◌, ◌≤◌}
 use mathlib.Core.Path.{◌≡◌, refl, sym, ◌∙◌, ap}
 use mathlib.Core.List.{List, [], ◌∷◌, ◌++◌, append-nil}
 use native.Mathlib.Omega.{arith}
@@ -8,7 +8,7 @@ use lib.ListN.{length, get_or, take, drop}
 use lib.Seq.{sets-eq}
 use borrow.Rule.Slice.PartMut.{put_mid}
 use Rattle.area.specs.Laid.{laid, in_front}
-use Rattle.area.proofs.Laid.{laid_laid, laid_none, laid_front, length_laid}
+use Rattle.area.proofs.Laid.{laid_laid, laid_none, laid_front}
 use Rattle.record.specs.declared.Record.{Record}
 use Rattle.record.specs.Sizes.{record_bytes}
 use Rattle.record.specs.Layout.{bytes_of, all_bytes}
@@ -49,53 +49,46 @@ length_behind ps n (suc k) = ap suc (length_behind ps (suc n) k)
 behind_size : (ps : List (List ℕ)) (n k : ℕ) → length (all_bytes (held_behind ps n k)) ≡ k * record_bytes
 behind_size ps n k = omega (arith, length_all_bytes (held_behind ps n k), length_behind ps n k)
 
--- i of the n results are laid down
-pub record Fetching (sent : List ℕ) (from n : ℕ) (first area : List ℕ) (i : ℕ) : Type 0 where
-  pub count : i ≤ n
-  pub so_far : area ≡ laid first 0 (all_bytes (held_behind (places_of sent) from i))
+-- i results are laid down
+abbrev pub Fetching : List ℕ → ℕ → List ℕ → List ℕ → ℕ → Type 0
+Fetching sent from first area i = area ≡ laid first 0 (all_bytes (held_behind (places_of sent) from i))
 
-module _ (sent : List ℕ) (from n : ℕ) (first : List ℕ) where
-  pub fetching_start : Fetching sent from n first first 0
+module _ (sent : List ℕ) (from : ℕ) (first : List ℕ) where
+  pub fetching_start : Fetching sent from first first 0
   unfolding held_behind all_bytes
-  fetching_start = record { count = omega arith; so_far = sym (laid_none first 0) }
+  fetching_start = sym (laid_none first 0)
 
-  module _ (area : List ℕ) (i : ℕ) (v : Fetching sent from n first area i) where
-    pub fetching_size : length area ≡ length first
-    fetching_size = ap length v.so_far ∙ length_laid first 0 (all_bytes (held_behind (places_of sent) from i))
-
+  module _ (area : List ℕ) (i : ℕ) (v : Fetching sent from first area i) where
     -- the record at the next place
-    abbrev next_record : Record
-    next_record = fields_of (take record_bytes (drop ((from + i) % held_results * record_bytes) sent))
+    abbrev next_record : ℕ → Record
+    next_record at = fields_of (take record_bytes (drop at sent))
 
-    one_more : all_bytes (held_behind (places_of sent) from i) ++ bytes_of next_record ≡ all_bytes (held_behind (places_of sent) from (suc i))
+    one_more :
+        (at : ℕ) → at ≡ (from + i) % held_results * record_bytes →
+        all_bytes (held_behind (places_of sent) from i) ++ bytes_of (next_record at) ≡ all_bytes (held_behind (places_of sent) from (i + 1))
     unfolding all_bytes places_of
-    one_more =
+    one_more at here =
         let ps = places_of sent in
         let p = (from + i) % held_results in
         let last : Record = fields_of (get_or ps (place_of (suc (from + i))) []) in
-        let same : last ≡ next_record =
+        let same : last ≡ next_record (p * record_bytes) =
         ap fields_of
         (ap (λ (m : ℕ). get_or ps m []) (place_behind (from + i)) ∙ pieces_at held_results p sent (mod-lt (from + i) (omega arith))) in
-        sym
+        let one : i + 1 ≡ suc i = omega arith in
+        rw (here, one)
+        (sym
         (ap all_bytes (behind_last ps from i) ∙ all_bytes_append (held_behind ps from i) (last ∷ []) ∙
-        ap (λ (l : List ℕ). all_bytes (held_behind ps from i) ++ l) (append-nil (bytes_of last) ∙ ap bytes_of same))
+        ap (λ (l : List ℕ). all_bytes (held_behind ps from i) ++ l) (append-nil (bytes_of last) ∙ ap bytes_of same)))
 
     pub fetching_turn :
-        (next : List ℕ) → i < n → next ≡ laid area (i * record_bytes) (bytes_of next_record) → Fetching sent from n first next (i + 1)
-    fetching_turn next l e =
+        (at : ℕ) → at ≡ (from + i) % held_results * record_bytes → (next : List ℕ) →
+        next ≡ laid area (i * record_bytes) (bytes_of (next_record at)) → Fetching sent from first next (i + 1)
+    fetching_turn at here next e =
         let ps = places_of sent in
         let size : i * record_bytes ≡ 0 + length (all_bytes (held_behind ps from i)) = omega (arith, behind_size ps from i) in
-        let one : suc i ≡ i + 1 = omega arith in
-        record {
-          count = omega arith;
-          so_far =
-              e ∙ ap (λ (z : List ℕ). laid z (i * record_bytes) (bytes_of next_record)) v.so_far ∙
-              laid_laid first 0 (i * record_bytes) (all_bytes (held_behind ps from i)) (bytes_of next_record) size ∙
-              ap (laid first 0) (one_more ∙ ap (λ (m : ℕ). all_bytes (held_behind ps from m)) one);
-        }
+        e ∙ ap (λ (z : List ℕ). laid z (i * record_bytes) (bytes_of (next_record at))) v ∙
+        laid_laid first 0 (i * record_bytes) (all_bytes (held_behind ps from i)) (bytes_of (next_record at)) size ∙
+        ap (laid first 0) (one_more at here)
 
-    pub fetching_end : n * record_bytes ≤ length first → n ≤ i → area ≡ in_front (all_bytes (held_behind (places_of sent) from n)) first
-    fetching_end enough l =
-        let all : i ≡ n = omega (arith, v.count) in
-        v.so_far ∙ ap (λ (m : ℕ). laid first 0 (all_bytes (held_behind (places_of sent) from m))) all ∙
-        laid_front first (all_bytes (held_behind (places_of sent) from n)) (omega (arith, behind_size (places_of sent) from n))
+    pub fetching_end : i * record_bytes ≤ length first → area ≡ in_front (all_bytes (held_behind (places_of sent) from i)) first
+    fetching_end enough = v ∙ laid_front first (all_bytes (held_behind (places_of sent) from i)) (omega (arith, behind_size (places_of sent) from i))

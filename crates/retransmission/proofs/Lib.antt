@@ -2,8 +2,7 @@
 pub mod Pieces
 pub mod Places
 pub mod Stores
-pub mod GivingUp
-pub mod Holding
-pub mod Passing
-pub mod Fetching
+mod Laying
+mod Passing
+mod Fetching
 pub mod Emptied

@@ -1,11 +1,10 @@
 -- The held places looked at one after the other: all pass, or one that fails is found.
 use Prim.Native.Nat.{ℕ, zero, suc, ◌+◌, ◌-◌, ◌*◌, ◌%◌, ◌≤◌, ◌<◌}
-use mathlib.Core.Path.{◌≡◌, sym, ◌∙◌, ap, ap₂}
-use mathlib.Core.Bool.{Bool, true, false, not, ◌&&◌, and_assoc}
+use mathlib.Core.Path.{◌≡◌, refl, sym, ◌∙◌, ap, ap₂}
+use mathlib.Core.Bool.{Bool, true, false, ◌&&◌, and_assoc}
 use mathlib.Core.List.{List, [], ◌∷◌}
 use native.Mathlib.Omega.{arith}
 use native.Mathlib.Nat.{mod-lt}
-use borrow.Author.Tests.{ne_eqb, eq-eqb, not-true, not-false}
 use lib.Dec.{eqb}
 use lib.ListN.{get_or, take, drop}
 use lib.Seq.{get_or-take, get_or-drop, take-take, take-nil, drop-drop}
@@ -64,73 +63,40 @@ place_test sent n =
     ap (place_ok (suc n)) piece ∙
     ap₂ (λ (k : ℕ) (w : List ℕ). is_stable k && eqb (number_of w) (suc n)) kind (word_inside at sent)
 
--- the places behind number `before` and up to `id` pass; the next one stands at `at`
-pub record Passing (sent : List ℕ) (before n at id : ℕ) : Type 0 where
-  pub from : before ≤ id
-  pub to : id ≤ before + n
-  pub place : at ≡ before % held_results * record_bytes + (id - before) * record_bytes
-  pub so_far : places_ok (places_of sent) before (id - before) ≡ true
+-- and with the place as it is counted in the code
+pub held_test :
+    (sent : List ℕ) (n at : ℕ) → at ≡ n % held_results * record_bytes →
+    place_ok (n + 1) (get_or (places_of sent) (place_of (n + 1)) []) ≡
+    is_stable (get_or sent at 0) && eqb (number_of (take 4 (drop (at + 4) sent))) (n + 1)
+held_test sent n at here = let one : n + 1 ≡ suc n = omega arith in rw (here, one) (place_test sent n)
 
-module _ (sent : List ℕ) (before n : ℕ) (few : before % held_results + n ≤ held_results) where
-  pub passing_start : Passing sent before n (before % held_results * record_bytes) before
+-- ---- the places behind number `from` and up to number n pass
+
+pub passes_none : (ps : List (List ℕ)) (n : ℕ) → places_ok ps n (n - n) ≡ true
+unfolding places_ok
+passes_none ps n = let none : n - n ≡ 0 = omega arith in rw none refl
+
+module _ (ps : List (List ℕ)) (from n : ℕ) (least : from ≤ n) (so_far : places_ok ps from (n - from) ≡ true) where
+  -- the test of the next
+  abbrev next_test : Bool
+  next_test = place_ok (n + 1) (get_or ps (place_of (n + 1)) [])
+
+  -- with the next place, and those behind it
+  with_next : (k : ℕ) → places_ok ps from (n - from + suc k) ≡ next_test && places_ok ps (suc n) k
   unfolding places_ok
-  passing_start =
-      let none : before - before ≡ 0 = omega arith in
-      record { from = omega arith; to = omega arith; place = omega arith; so_far = ap (places_ok (places_of sent) before) none }
+  with_next k =
+      let sum : from + (n - from) ≡ n = omega arith in
+      let one : n + 1 ≡ suc n = omega arith in
+      passes_more ps from (n - from) (suc k) ∙ ap₂ (λ (b : Bool) (m : ℕ). b && places_ok ps m (suc k)) so_far sum ∙ rw one refl
 
-  module _ (at id : ℕ) (v : Passing sent before n at id) where
-    pub passing_end : before % held_results * record_bytes + n * record_bytes ≤ at → true ≡ places_ok (places_of sent) before n
-    passing_end h =
-        let all : id - before ≡ n = omega (arith, v.place, v.from, v.to) in
-        sym v.so_far ∙ ap (places_ok (places_of sent) before) all
+  pub passes_on : true ≡ next_test → places_ok ps from (n + 1 - from) ≡ true
+  unfolding places_ok
+  passes_on e =
+      let one : n + 1 - from ≡ n - from + suc 0 = omega arith in
+      rw one (with_next 0 ∙ ap (λ (b : Bool). b && true) (sym e))
 
-    module _ (more : at < before % held_results * record_bytes + n * record_bytes) where
-      -- where the next place is
-      here : at ≡ id % held_results * record_bytes
-      here = omega (arith, v.place, v.from, v.to)
-
-      abbrev is_ok : Bool
-      is_ok = is_stable (get_or sent at 0) && eqb (number_of (take 4 (drop (at + 4) sent))) (suc id)
-
-      next_test : place_ok (suc id) (get_or (places_of sent) (place_of (suc id)) []) ≡ is_ok
-      next_test =
-          place_test sent id ∙
-          ap (λ (m : ℕ). is_stable (get_or sent m 0) && eqb (number_of (take 4 (drop (m + 4) sent))) (suc id)) (sym here)
-
-      -- with the next place, and those behind it
-      with_next : (k : ℕ) → places_ok (places_of sent) before (id - before + suc k) ≡ is_ok && places_ok (places_of sent) (suc id) k
-      unfolding places_ok
-      with_next k =
-          let sum : before + (id - before) ≡ id = omega (arith, v.from) in
-          passes_more (places_of sent) before (id - before) (suc k) ∙
-          ap₂ (λ (b : Bool) (m : ℕ). b && places_ok (places_of sent) m (suc k)) v.so_far sum ∙
-          ap (λ (b : Bool). b && places_ok (places_of sent) (suc id) k) next_test
-
-      fails : is_ok ≡ false → false ≡ places_ok (places_of sent) before n
-      fails e =
-          let k = before + n - suc id in
-          let all : id - before + suc k ≡ n = omega (arith, v.place, v.from, v.to) in
-          sym
-          (ap (places_ok (places_of sent) before) (sym all) ∙ with_next k ∙
-          ap (λ (b : Bool). b && places_ok (places_of sent) (suc id) k) e)
-
-      module _ (kind : Bool) (is : kind ≡ is_stable (get_or sent at 0)) where
-        pub kind_fails : not kind ≡ true → false ≡ places_ok (places_of sent) before n
-        kind_fails e = fails (rw (← is, not-true kind e))
-
-        module _ (stable : not kind ≡ false) (word : ℕ) (read : word ≡ number_of (take 4 (drop (at + 4) sent))) where
-          pub id_fails : (word ≡ id + 1 → ⊥) → false ≡ places_ok (places_of sent) before n
-          id_fails e = fails (rw (← is, not-false kind stable, ← read, ne_eqb word (suc id) (λ q. e (omega (arith, q)))))
-
-          pub passing_turn : word ≡ id + 1 → Passing sent before n (at + record_bytes) (id + 1)
-          unfolding places_ok
-          passing_turn e =
-              let one : id - before + 1 ≡ id + 1 - before = omega (arith, v.from) in
-              record {
-                from = omega (arith, v.from);
-                to = omega (arith, v.place, v.from, v.to);
-                place = omega (arith, v.place, v.from);
-                so_far =
-                    ap (places_ok (places_of sent) before) (sym one) ∙ with_next 0 ∙
-                    rw (← is, not-false kind stable, ← read, eq-eqb word (suc id) (omega (arith, e)));
-              }
+  pub fails_there : (to : ℕ) → n < to → false ≡ next_test → false ≡ places_ok ps from (to - from)
+  fails_there to more e =
+      let k = to - suc n in
+      let all : to - from ≡ n - from + suc k = omega arith in
+      rw all (sym (with_next k ∙ ap (λ (b : Bool). b && places_ok ps (suc n) k) (sym e)))

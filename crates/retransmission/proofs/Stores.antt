@@ -1,15 +1,16 @@
 -- A store and its places: the places laid down are found again, what lies behind them stays, and places laid down as they were change
 -- nothing.
-use Prim.Native.Nat.{ℕ, zero, suc, ◌+◌, ◌*◌, ◌≤◌, ◌<◌}
+use Prim.Native.Nat.{ℕ, zero, suc, ◌+◌, ◌-◌, ◌*◌, ◌≤◌, ◌<◌}
 use mathlib.Core.Path.{◌≡◌, refl, sym, ◌∙◌, ap, ap₂, subst}
 use mathlib.Core.List.{List, [], ◌∷◌, ◌++◌, append_assoc}
 use native.Mathlib.Omega.{arith}
 use lib.ListN.{length, take, drop, get_or, set, replicate, length-append, length-drop, length-replicate, length-set, take-append-drop}
 use lib.Seq.{take_at, drop_at, take-add, drop-drop, length-take-le, sets-eq}
+use borrow.Rule.Slice.PartMut.{put_mid}
 use Rattle.area.specs.Laid.{laid, in_front}
 use Rattle.record.specs.Sizes.{record_bytes}
 use Rattle.retransmission.specs.Sizes.{held_results, held_bytes}
-use Rattle.retransmission.specs.Places.{pieces, joined, places_of, with_places, place_of, empty_place, given_up}
+use Rattle.retransmission.specs.Places.{pieces, joined, places_of, with_places, empty_place}
 
 -- every piece has a record's bytes
 abbrev pub Whole : List (List ℕ) → Type 0
@@ -166,6 +167,13 @@ pieces_set (suc n) (suc p) bytes b e l h =
     ap (λ (l : List ℕ). take (suc p * record_bytes) bytes ++ b ++ l)
     (drop-drop (p * record_bytes + record_bytes) record_bytes bytes ∙ ap (λ (m : ℕ). drop m bytes) past)
 
+-- bytes laid over a part of the store
+mid_laid : (sent b : List ℕ) (at k : ℕ) → length b ≡ k → at + k ≤ length sent → put_mid at k sent b ≡ laid sent at b
+unfolding laid
+mid_laid sent b at k e h =
+    rw (drop-drop k at sent)
+    (sym (sets-eq b sent at (omega arith) ∙ rw e (append_assoc (take at sent) b (drop (at + k) sent))))
+
 -- a place set is its bytes laid there
 pub laid_place :
     (sent : List ℕ) (p : ℕ) (b : List ℕ) → length b ≡ record_bytes → p < held_results → held_bytes ≤ length sent →
@@ -182,12 +190,13 @@ laid_place sent p b e l h =
     sym (pieces_set held_results p sent b e l h) ∙
     ap (λ (n : ℕ). joined (set (pieces held_results sent) p b) ++ drop n sent) (sym (joined_size sent (set (pieces held_results sent) p b) v))
 
+-- and so is the part of the store that a place is, written anew
+pub part_place :
+    (sent : List ℕ) (p at end : ℕ) (b : List ℕ) → at ≡ p * record_bytes → end ≡ at + record_bytes → length b ≡ record_bytes →
+    p < held_results → held_bytes ≤ length sent → put_mid at (end - at) sent b ≡ with_places sent (set (places_of sent) p b)
+part_place sent p at end b here past size l h =
+    let k : end - at ≡ record_bytes = omega arith in
+    rw (k, here) (mid_laid sent b (p * record_bytes) record_bytes size (omega arith) ∙ laid_place sent p b size l h)
+
 pub set_places : (ps : List (List ℕ)) (i : ℕ) (b : List ℕ) → length b ≡ record_bytes → Places ps → Places (set ps i b)
 set_places ps i b e v = record { count = length-set ps i b ∙ v.count; whole = whole_set ps i b e v.whole }
-
-pub given_places : (ps : List (List ℕ)) (n k : ℕ) → Places ps → Places (given_up ps n k)
-unfolding given_up empty_place
-given_places ps n zero v = v
-given_places ps n (suc k) v =
-    given_places (set ps (place_of (suc n)) empty_place) (suc n) k
-    (set_places ps (place_of (suc n)) empty_place (length-replicate {A = ℕ} record_bytes 0) v)

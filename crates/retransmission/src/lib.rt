@@ -1,13 +1,15 @@
 // The send-back store: stable results that some display has not acknowledged.
+// A plain slice: a host may lend one that is too short, which is refusal 3, or a longer one, whose bytes behind the places stay.
 #![tactic(auto)]
 
-ghost use Rattle.std.specs.Prelude.{◌≡◌, ◌+◌, ◌-◌, ◌*◌, ◌%◌, ◌^◌, ◌≤◌, ◌<◌, length, take, drop};
+ghost use Rattle.std.specs.Prelude.{◌≡◌, ◌+◌, ◌-◌, ◌*◌, ◌%◌, ◌^◌, ◌≤◌, ◌<◌, [], length, get_or, take, drop};
 ghost use Rattle.area.specs.Laid.{laid, in_front};
 ghost use Rattle.record.specs.Sizes.{record_bytes};
 ghost use Rattle.record.specs.Layout.{bytes_of, all_bytes};
 ghost use Rattle.record.specs.Fields.{fields_of};
 ghost use Rattle.retransmission.specs.Sizes.{held_results, held_bytes};
-ghost use Rattle.retransmission.specs.Places.{pieces, places_of, with_places, held_over, held_behind, given_up, places_ok};
+ghost use Rattle.retransmission.specs.Places.{pieces, places_of, with_places, held_over};
+ghost use Rattle.retransmission.specs.Places.{held_behind, given_up, place_of, place_ok, places_ok};
 
 use record::RECORD_BYTES;
 
@@ -17,26 +19,23 @@ pub const HELD_RESULTS: u64 = 512;
 // Results that one fetch gives at most.
 pub const FETCH_LIMIT: u64 = 64;
 
+// Where the place of the result after number n begins.
+fn place_after(n: u64) -> usize
+    ensures { result ≡ n % held_results * record_bytes }
+{
+    (n % HELD_RESULTS) as usize * RECORD_BYTES
+}
+
 // Zeroes the places of the results above `from` and up to `to`.
 pub fn give_up(sent: &mut [u8], from: u64, to: u64)
     requires { held_bytes ≤ length sent.old }
     ensures { let before = sent.old in
         sent.new ≡ with_places before (given_up (places_of before) from (to - from)) }
 {
-    let mut n = from;
-    while n < to {
-        let at = (n % HELD_RESULTS) as usize * RECORD_BYTES;
-        store_columns::zero_u8(sent, at, at + RECORD_BYTES);
-        n += 1;
+    for n in from..to {
+        let at = place_after(n);
+        sent[at..at + RECORD_BYTES].fill(0);
     }
-}
-
-// Lays a record's bytes that stand from `from` on over another area from `to` on.
-fn copy_record(source: &[u8], from: usize, out: &mut [u8], to: usize)
-    requires { (from + record_bytes ≤ length source.now) × (to + record_bytes ≤ length out.old) }
-    ensures { out.new ≡ laid out.old to (take record_bytes (drop from source.now)) }
-{
-    area::put_bytes(out, to, &source[from..from + RECORD_BYTES]);
 }
 
 // Copies the area's first n records, the results after number `newest`, to their places.
@@ -45,50 +44,33 @@ pub fn hold(sent: &mut [u8], newest: u64, area: &[u8], n: usize)
     ensures { let before = sent.old in
         sent.new ≡ with_places before (held_over (places_of before) newest (pieces n area.now)) }
 {
-    let mut i = 0;
-    while i < n {
-        let at = ((newest + i as u64) % HELD_RESULTS) as usize * RECORD_BYTES;
-        copy_record(area, i * RECORD_BYTES, sent, at);
-        i += 1;
+    for i in 0..n {
+        let from = i * RECORD_BYTES;
+        let to = place_after(newest + i as u64);
+        sent[to..to + RECORD_BYTES].copy_from_slice(&area[from..from + RECORD_BYTES]);
     }
 }
 
-// Whether the places of the results after number `before`, n of them, each have a stable result's kind and its own id; the store's end
-// does not come in between.
-fn is_run_held(sent: &[u8], before: u64, n: usize) -> bool
-    requires { (held_bytes ≤ length sent.now) × (before % held_results + n ≤ held_results) × (before + n < 2 ^ 64) }
-    ensures { result ≡ places_ok (places_of sent.now) before n }
+// Whether the place of the result after number n has a stable result's kind and its own id.
+fn is_held(sent: &[u8], n: u64) -> bool
+    requires { (held_bytes ≤ length sent.now) × (n + 1 < 2 ^ 64) }
+    ensures { result ≡ place_ok (n + 1) (get_or (places_of sent.now) (place_of (n + 1)) []) }
 {
-    let mut id = before;
-    let mut at = (before % HELD_RESULTS) as usize * RECORD_BYTES;
-    let end = at + n * RECORD_BYTES;
-    while at < end {
-        id += 1;
-        if !record::is_stable(sent[at]) {
-            return false;
-        }
-        if endian::get4(sent, at + 4) as u64 != id {
-            return false;
-        }
-        at += RECORD_BYTES;
-    }
-    true
+    let at = place_after(n);
+    record::is_stable(sent[at]) && u64::from(endian::get::<u32>(sent, at + 4)) == n + 1
 }
 
-// Whether the places of the results above `least` and up to `newest` are so: up to the store's end, and from its first place on.
+// Whether the places of the results above `least` and up to `newest` are so.
 pub fn are_held(sent: &[u8], least: u64, newest: u64) -> bool
     requires { (held_bytes ≤ length sent.now) × (least ≤ newest) × (newest ≤ least + held_results) }
     ensures { result ≡ places_ok (places_of sent.now) least (newest - least) }
 {
-    if newest == least {
-        return true;
+    for n in least..newest {
+        if !is_held(sent, n) {
+            return false;
+        }
     }
-    let n = (newest - least) as usize;
-    let room = (HELD_RESULTS - least % HELD_RESULTS) as usize;
-    if n <= room {
-        return is_run_held(sent, least, n);
-    }
-    is_run_held(sent, least, room) & is_run_held(sent, least + room as u64, n - room)
+    true
 }
 
 // Lays the record that stands from `from` on over an area from `to` on: a record's bytes, whatever the two after its meter are.
@@ -106,10 +88,7 @@ pub fn copy_out(sent: &[u8], from: u64, n: usize, area: &mut [u8])
     requires { (held_bytes ≤ length sent.now) × (n * record_bytes ≤ length area.old) × (from + n < 2 ^ 64) }
     ensures { area.new ≡ in_front (all_bytes (held_behind (places_of sent.now) from n)) area.old }
 {
-    let mut i = 0;
-    while i < n {
-        let at = ((from + i as u64) % HELD_RESULTS) as usize * RECORD_BYTES;
-        lay_record(sent, at, area, i * RECORD_BYTES);
-        i += 1;
+    for i in 0..n {
+        lay_record(sent, place_after(from + i as u64), area, i * RECORD_BYTES);
     }
 }

@@ -6,18 +6,18 @@ use mathlib.Core.List.{List, [], ◌∷◌, ◌++◌, append_assoc}
 use Prim.Native.Nat.{ℕ, ◌+◌, ◌-◌, ◌<◌, ◌^◌}
 use native.Mathlib.Omega.{arith}
 use lib.ListN.{length, drop, length-append}
+use Rattle.std.specs.Prelude.{Option, Some, None}
 use Rattle.decimal.specs.Decimal.{digits, decimal}
 use Rattle.decimal.specs.Spelled.{is_digit}
 use Rattle.fields.specs.Line.{field, line_of}
-use Rattle.fields.specs.Field.{ends_line, with_number, with_integer, first, later}
+use Rattle.fields.specs.Field.{ends_line, with_field, first, later}
 use Rattle.fields.proofs.Spells.{Spells, spells_append}
-use Rattle.fields.proofs.Fields.{picked, number_field_sound, number_field_complete, integer_field_sound, integer_field_complete, with_number_lem, with_integer_lem, end_sound, end_complete}
+use Rattle.fields.proofs.Fields.{picked, number_field_sound, number_field_complete, integer_field_sound, integer_field_complete, with_field_lem, end_sound, end_complete}
 use Rattle.fields.specs.Keys.{lines_key, bucket_key, window_key, hold_key, low_key, high_key, displays_key}
 use Rattle.settings.specs.Limits.{SettingsFit}
 use Rattle.settings.specs.SettingsLine.{settings_text}
 use Rattle.settings.specs.ReadLine.{settings_at}
 use Rattle.settings.specs.declared.Settings.{Settings}
-use Rattle.settings.specs.declared.SettingsAt.{SettingsAt}
 
 -- the line as the stretches that its fields are read from
 unfoldable pub stretches : Settings → List ℕ
@@ -34,31 +34,28 @@ pub text_stretches : (s : Settings) → settings_text s ≡ stretches s
 unfolding settings_text stretches line_of field decimal
 text_stretches s = simp append_assoc
 
-none : (s : Settings) (e : ℕ) → SettingsAt.Malformed ≡ SettingsAt.Line s e → ⊥
-none s e q = let z : ◌≡◌ {A = ℕ} 0 1 = cc in omega arith
-
 -- what is claimed of an answer that is a line
-abbrev Claim : List ℕ → ℕ → SettingsAt → Type 0
-Claim s at (SettingsAt.Line x f) = Spells s at (settings_text x) f × SettingsFit x
-Claim s at SettingsAt.Malformed = Unit {0}
+abbrev Claim : List ℕ → ℕ → Option (Settings × ℕ) → Type 0
+Claim s at (Some (x, f)) = Spells s at (settings_text x) f × SettingsFit x
+Claim s at None = Unit {0}
 
 -- what is read is what the text spells
 pub settings_sound :
-    (s : List ℕ) (at f : ℕ) (x : Settings) → settings_at s at ≡ SettingsAt.Line x f → Spells s at (settings_text x) f × SettingsFit x
+    (s : List ℕ) (at f : ℕ) (x : Settings) → settings_at s at ≡ Some (x, f) → Spells s at (settings_text x) f × SettingsFit x
 unfolding settings_at stretches
 settings_sound s at f x q =
-    let z = SettingsAt.Malformed in
-    let y = SettingsAt.Line x f in
-    let no = none x f in
-    with_number_lem z y no _ _ q λ lines e1 q1 g1.
-    with_number_lem z y no _ _ g1 λ bucket e2 q2 g2.
-    with_number_lem z y no _ _ g2 λ window e3 q3 g3.
-    with_number_lem z y no _ _ g3 λ hold e4 q4 g4.
-    with_integer_lem z y no _ _ g4 λ low e5 q5 g5.
-    with_integer_lem z y no _ _ g5 λ high e6 q6 g6.
-    with_number_lem z y no _ _ g6 λ displays e7 q7 g7.
+    let z : Option (Settings × ℕ) = None in
+    let y : Option (Settings × ℕ) = Some (x, f) in
+    let no : z ≡ y → ⊥ = λ e. cc in
+    with_field_lem z y no _ _ q λ lines e1 q1 g1.
+    with_field_lem z y no _ _ g1 λ bucket e2 q2 g2.
+    with_field_lem z y no _ _ g2 λ window e3 q3 g3.
+    with_field_lem z y no _ _ g3 λ hold e4 q4 g4.
+    with_field_lem z y no _ _ g4 λ low e5 q5 g5.
+    with_field_lem z y no _ _ g5 λ high e6 q6 g6.
+    with_field_lem z y no _ _ g6 λ displays e7 q7 g7.
     let read : Settings = record { lines = lines; bucket = bucket; window = window; hold = hold; low = low; high = high; displays = displays } in
-    let p = picked (ends_line s e7) (SettingsAt.Line read (e7 + 1)) z y g7 no in
+    let p = picked {A = Option (Settings × ℕ)} (ends_line s e7) (Some (read, e7 + 1)) z y g7 no in
     let f1 = number_field_sound (first lines_key) s (2 ^ 32 - 1) at lines (omega arith) e1 q1 in
     let f2 = number_field_sound (later bucket_key) s (2 ^ 32 - 1) e1 bucket (omega arith) e2 q2 in
     let f3 = number_field_sound (later window_key) s (2 ^ 32 - 1) e2 window (omega arith) e3 q3 in
@@ -85,8 +82,8 @@ settings_sound s at f x q =
 -- what the text spells is read
 pub settings_complete :
     (s r : List ℕ) (at : ℕ) (x : Settings) → SettingsFit x → drop at s ≡ settings_text x ++ r →
-    settings_at s at ≡ SettingsAt.Line x (at + length (settings_text x))
-unfolding settings_at stretches with_number with_integer is_digit
+    settings_at s at ≡ Some (x, at + length (settings_text x))
+unfolding settings_at stretches with_field is_digit
 settings_complete s r at x fit p =
     let most : 2 ^ 32 - 1 < 2 ^ 64 = omega arith in
     let p0 : drop at s ≡ stretches x ++ r = p ∙ ap (λ (t : List ℕ). t ++ r) (text_stretches x) in
@@ -100,4 +97,4 @@ settings_complete s r at x fit p =
     let size : length (settings_text x) ≡ length (stretches x) = ap length (text_stretches x) in
     let end : e7 + 1 ≡ at + length (settings_text x) = omega (arith, simp length-append at size) in
     let ended : ends_line s e7 ≡ true = end_complete s r e7 p7 in
-    rw (q1, q2, q3, q4, q5, q6, q7, ended) (ap (SettingsAt.Line x) end)
+    rw (q1, q2, q3, q4, q5, q6, q7, ended) (ap (λ (n : ℕ). Some (x, n)) end)

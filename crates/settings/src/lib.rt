@@ -7,7 +7,7 @@ ghost use Rattle.settings.specs.Limits.{within_limits};
 ghost use Rattle.settings.specs.SettingsLine.{ExactSettings};
 ghost use Rattle.settings.specs.ReadLine.{settings_at, settings_of};
 
-use decimal::{Integer, Number};
+use answer::Refusal;
 
 // The limits of the settings.
 pub const MAX_LINES: u32 = 8;
@@ -26,7 +26,7 @@ pub const MAX_DISPLAYS: u32 = 4;
 const WIDTH: u32 = u32::MAX;
 
 // The settings, each as wide as its text may spell it.
-#[derive(Clone, Copy)]
+#[derive(Clone, Copy, Debug, PartialEq, Eq)]
 pub struct Settings {
     pub lines: u32,
     pub bucket: u32,
@@ -37,93 +37,64 @@ pub struct Settings {
     pub displays: u32,
 }
 
-// The settings line that a text has from a place on, with the place behind it.
-#[derive(Clone, Copy)]
-pub enum SettingsAt {
-    Line(Settings, usize),
-    Malformed,
-}
-
-// What a settings text is read as.
-#[derive(Clone, Copy)]
-pub enum SettingsRead {
-    Accepted(Settings),
-    Malformed,
-    OutsideLimits,
-}
-
 // Whether every setting is inside its limits.
+#[tactic(auto, unfolding(crate::specs::Limits::within_limits))]
 pub fn within_limits(s: Settings) -> bool
     ensures { result ≡ within_limits s }
 {
-    ((1 <= s.lines) & (s.lines <= MAX_LINES))
-        & (((MIN_BUCKET <= s.bucket) & (s.bucket <= MAX_BUCKET))
-            & (((1 <= s.window) & (s.window <= MAX_WINDOW))
-                & (((s.hold <= MAX_HOLD) & (s.low <= s.high))
-                    & ((1 <= s.displays) & (s.displays <= MAX_DISPLAYS)))))
+    (1..=MAX_LINES).contains(&s.lines)
+        && (MIN_BUCKET..=MAX_BUCKET).contains(&s.bucket)
+        && (1..=MAX_WINDOW).contains(&s.window)
+        && s.hold <= MAX_HOLD
+        && s.low <= s.high
+        && (1..=MAX_DISPLAYS).contains(&s.displays)
 }
 
-// The settings line that the text has from `at` on.
-fn settings_at(s: &[u8], at: usize) -> SettingsAt
+// The settings line that the text has from `at` on, with the place behind it.
+#[tactic(auto, unfolding(crate::specs::ReadLine::settings_at, fields::specs::Field::with_field))]
+fn settings_at(s: &[u8], at: usize) -> Option<(Settings, usize)>
     requires { (at ≤ length s.now) × Ended s.now }
     ensures { result ≡ settings_at s.now at }
 {
-    let Number::Value(lines, e1) = fields::number_field(s, at, b"lines=", WIDTH) else {
-        return SettingsAt::Malformed;
-    };
-    let Number::Value(bucket, e2) = fields::number_field(s, e1, b" bucket=", WIDTH) else {
-        return SettingsAt::Malformed;
-    };
-    let Number::Value(window, e3) = fields::number_field(s, e2, b" window=", WIDTH) else {
-        return SettingsAt::Malformed;
-    };
-    let Number::Value(hold, e4) = fields::number_field(s, e3, b" hold=", WIDTH) else {
-        return SettingsAt::Malformed;
-    };
-    let Integer::Value(low, e5) = fields::integer_field(s, e4, b" low=") else {
-        return SettingsAt::Malformed;
-    };
-    let Integer::Value(high, e6) = fields::integer_field(s, e5, b" high=") else {
-        return SettingsAt::Malformed;
-    };
-    let Number::Value(displays, e7) = fields::number_field(s, e6, b" displays=", WIDTH) else {
-        return SettingsAt::Malformed;
-    };
-    if fields::ends_line(s, e7) {
-        SettingsAt::Line(
-            Settings {
-                lines: lines,
-                bucket: bucket,
-                window: window,
-                hold: hold,
-                low: low,
-                high: high,
-                displays: displays,
-            },
-            e7 + 1,
-        )
+    let (lines, at) = fields::number_field(s, at, b"lines=", WIDTH)?;
+    let (bucket, at) = fields::number_field(s, at, b" bucket=", WIDTH)?;
+    let (window, at) = fields::number_field(s, at, b" window=", WIDTH)?;
+    let (hold, at) = fields::number_field(s, at, b" hold=", WIDTH)?;
+    let (low, at) = fields::integer_field(s, at, b" low=")?;
+    let (high, at) = fields::integer_field(s, at, b" high=")?;
+    let (displays, at) = fields::number_field(s, at, b" displays=", WIDTH)?;
+    if fields::ends_line(s, at) {
+        let settings = Settings {
+            lines,
+            bucket,
+            window,
+            hold,
+            low,
+            high,
+            displays,
+        };
+        Some((settings, at + 1))
     } else {
-        SettingsAt::Malformed
+        None
     }
 }
 
-// What a settings text is read as: its settings, or refusal 1 or 2.
-pub fn read_settings(text: &[u8]) -> SettingsRead
+// What a settings text is read as: its settings, or the refusal `MalformedSettings` or `OutsideLimits`.
+#[tactic(auto, unfolding(crate::specs::ReadLine::settings_of, crate::specs::ReadLine::judged, crate::specs::SettingsLine::limited))]
+pub fn read_settings(text: &[u8]) -> Result<Settings, Refusal>
     ensures value { result ≡ settings_of text.now }
     ensures exact_settings { ExactSettings text.now result }
 {
     if !fields::is_line(text) {
-        return SettingsRead::Malformed;
+        return Err(Refusal::MalformedSettings);
     }
-    let SettingsAt::Line(s, end) = settings_at(text, 0) else {
-        return SettingsRead::Malformed;
-    };
+    let (settings, end) = settings_at(text, 0).ok_or(Refusal::MalformedSettings)?;
     if end != text.len() {
-        return SettingsRead::Malformed;
+        return Err(Refusal::MalformedSettings);
     }
-    if within_limits(s) {
-        SettingsRead::Accepted(s)
+    if within_limits(settings) {
+        Ok(settings)
     } else {
-        SettingsRead::OutsideLimits
+        Err(Refusal::OutsideLimits)
     }
 }

@@ -1,12 +1,9 @@
 -- The mean has the sum's sign and is the whole number nearest to the quotient, of two equally near the even one. That of a sum in range is
 -- no larger than the values' bound, so it fits 32 bits; of no value it is 0. By cases on the sign.
 use mathlib.Core.Path.{◌≡◌, refl, ap}
-use mathlib.Core.Bool.{true, false}
 use Prim.Native.Nat.{ℕ, suc, ◌-◌, ◌*◌, ◌<◌, ◌≤◌, ◌^◌}
 use native.Mathlib.Omega.{arith}
-use borrow.Author.Tests.{ltb-true}
 use lib.IntN.{ℤ, pos, negsuc, neg_ℤ, nat_abs}
-use lib.Signed.{lt_z}
 use mir.Syntax.{w32}
 use mir.Val.{SFits}
 use Rattle.signed.specs.Nearest.{nearest}
@@ -36,18 +33,9 @@ unfolding mean
 mean_fits (pos a) n h = record { sfits = omega (arith, nearest_le a n (2 ^ 31 - 1) h) }
 mean_fits (negsuc a) n h = neg_fits (nearest (suc a) n) (nearest_le (suc a) n (2 ^ 31) h)
 
--- ---- by the sign, as the code goes
-
 pub range_nat_abs : (z : ℤ) (n : ℕ) → InRange z n → nat_abs z ≤ 2 ^ 31 * n
 range_nat_abs (pos a) n h = omega arith
 range_nat_abs (negsuc a) n h = omega arith
 
-pub mean_below_zero : (z : ℤ) (n : ℕ) → lt_z z (pos 0) ≡ true → neg_ℤ (pos (nearest (nat_abs z) n)) ≡ mean z n
-unfolding mean
-mean_below_zero (pos a) n e = let l : a < 0 = ltb-true a 0 e in absurd (omega arith)
-mean_below_zero (negsuc a) n e = refl
-
-pub mean_non_neg : (z : ℤ) (n : ℕ) → lt_z z (pos 0) ≡ false → pos (nearest (nat_abs z) n) ≡ mean z n
-unfolding mean
-mean_non_neg (pos a) n e = refl
-mean_non_neg (negsuc a) n e = let h : ◌≡◌ {A = ℕ} 0 1 = cc in absurd (omega arith)
+-- what bounds a mean
+pub ruleset within_range = (mean_fits, range_nat_abs, nearest_le)

@@ -1,22 +1,19 @@
--- Two's complement at any number of bits: the word fits, and word and number are each other's inverse. Below, the same for what the
--- code computes. By cases on the sign; what is needed of powers is that one more bit doubles.
+-- Two's complement at any number of bits: the word fits, and word and number are each other's inverse. So are what
+-- the library casts. By cases on the sign; what is needed of powers is that one more bit doubles.
 use mathlib.Core.Path.{◌≡◌, refl, sym, ap, ◌∙◌}
-use mathlib.Core.Bool.{true}
 use Prim.Native.Nat.{ℕ, zero, suc, ◌-◌, ◌*◌, ◌<◌, ◌≤◌, ◌^◌}
 use native.Mathlib.Omega.{arith}
 use native.Mathlib.Nat.{pow-succ'}
 use mathlib.Core.Logic.{⊎_elim}
 use lib.Pow.{pow_pos}
-use lib.Dec.{T}
-use borrow.Author.Tests.{ltb-true, lt-ltb, le-ltb}
-use lib.IntN.{ℤ, pos, negsuc, nat_abs, ◌-ℤ◌}
-use lib.Signed.{mag, lt_z, non_neg}
+use borrow.Author.Tests.{lt-ltb, le-ltb}
+use lib.IntN.{ℤ, pos, negsuc}
+use lib.Signed.{mag}
 use mir.Syntax.{Width, w8, w16, w32, w64, w128}
-use mir.Val.{Fits, bits, hbits, to_z, of_z}
-use mir.Facts.{to_z_pos}
+use mir.Val.{SFits, bits, hbits, to_z, of_z}
+use mir.Facts.{to_z-of_z}
 use Rattle.signed.specs.Twos.{twos, signed_of}
 use Rattle.signed.proofs.Comparing.{lt_or_le}
-use Rattle.signed.proofs.Negation.{complement}
 
 -- ---- words as signed numbers
 
@@ -66,7 +63,7 @@ twos_signed_of b word l =
     (λ (h : 2 ^ (b - 1) ≤ word). rw (signed_of_high b word h l) (omega arith))
     (lt_or_le word (2 ^ (b - 1)))
 
--- ---- what the code computes, at a width of the machine
+-- ---- the library's casts, at a width of the machine
 
 hbits_less_one : (w : Width) → hbits w ≡ bits w - 1
 hbits_less_one w8 = refl
@@ -75,31 +72,16 @@ hbits_less_one w32 = refl
 hbits_less_one w64 = refl
 hbits_less_one w128 = refl
 
-some_bits : (w : Width) → 1 ≤ bits w
-some_bits w8 = omega arith
-some_bits w16 = omega arith
-some_bits w32 = omega arith
-some_bits w64 = omega arith
-some_bits w128 = omega arith
-
-pub twos_below_zero : (b : ℕ) (z : ℤ) → lt_z z (pos 0) ≡ true → 2 ^ b - 1 - mag z ≡ twos b z
+-- the word that a number is cast to
+pub cast_twos : (w : Width) (z : ℤ) → of_z w z ≡ twos (bits w) z
 unfolding twos
-twos_below_zero b (pos n) e = let l : n < 0 = ltb-true n 0 e in absurd (omega arith)
-twos_below_zero b (negsuc n) e = omega arith
+cast_twos w (pos n) = refl
+cast_twos w (negsuc n) = refl
 
-pub twos_non_neg : (b : ℕ) (z : ℤ) → T (non_neg z) → nat_abs z ≡ twos b z
-unfolding twos
-twos_non_neg b (pos n) h = refl
-twos_non_neg b (negsuc n) h = absurd h
-
-pub low_read : (w : Width) {word : ℕ} → word < 2 ^ hbits w → to_z w word ≡ signed_of (bits w) word
-low_read w {word} h = to_z_pos w h ∙ sym (signed_of_low (bits w) word (rw (hbits_less_one w) at h))
-
--- a word of the upper half, turned over, is of the lower half
-pub turned_low : (w : Width) {word : ℕ} → 2 ^ hbits w ≤ word → 2 ^ bits w - 1 - word < 2 ^ hbits w
-turned_low w {word} h = omega (arith, half (bits w) (some_bits w), pow_pos (bits w), rw (hbits_less_one w) at h, ap (λ (k : ℕ). 2 ^ k) (hbits_less_one w))
-
-pub high_read : (w : Width) {word : ℕ} → 2 ^ hbits w ≤ word → Fits w word →
-    to_z w (of_z w (to_z w (of_z w (pos 0 -ℤ to_z w (2 ^ bits w - 1 - word))) -ℤ pos 1)) ≡ signed_of (bits w) word
-high_read w {word} h f =
-    complement w (turned_low w h) ∙ sym (signed_of_high (bits w) word (rw (hbits_less_one w) at h) f.fits)
+-- and the number that a word is cast to, as a result is read back
+pub cast_signed_of : (w : Width) (word : ℕ) → word < 2 ^ bits w → to_z w (of_z w (to_z w word)) ≡ signed_of (bits w) word
+cast_signed_of w word h =
+    let number = signed_of (bits w) word in
+    let fits : SFits w number = record { sfits = rw (hbits_less_one w) (signed_of_fits (bits w) word h) } in
+    let same : to_z w word ≡ number = ap (to_z w) (sym (cast_twos w number ∙ twos_signed_of (bits w) word h)) ∙ to_z-of_z fits in
+    rw same (to_z-of_z fits)

@@ -1,3 +1,2 @@
--- Laws on a step: what the rule that applies does, and times within 32 bits.
+-- Laws on a step: what the rule that applies does.
 pub mod ByRule
-pub mod Within

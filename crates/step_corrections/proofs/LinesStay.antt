@@ -10,12 +10,10 @@ use Rattle.settings.specs.Limits.{max_lines, max_displays}
 use Rattle.record.specs.declared.Record.{Record}
 use Rattle.record.specs.Layout.{bytes_of, all_bytes}
 use Rattle.store.specs.Columns.{Columns, store_length}
-use Rattle.operator_rows.specs.Rows.{Rows, operator_row, checkpoint_row, meters_in}
 use Rattle.protocol.specs.declared.Phase.TheVariants as Phase
 use Rattle.protocol.specs.declared.Rule.TheVariants as Rule
 use Rattle.protocol.specs.Rules.{act}
-use Rattle.node.specs.declared.State.{State}
-use Rattle.node.specs.Held.{Held, held}
+use Rattle.node.specs.Held.{Held}
 use Rattle.node.specs.View.{places, view, heads_with, put_state}
 use Rattle.node.specs.Shape.{state_in_shape}
 use Rattle.node.proofs.View.{Fits, put_state_view}
@@ -78,26 +76,23 @@ module _ (st : Held) (x : Columns) (kept : Kept st x) where
           count = d.count;
         }
 
--- ---- what is held where the operator's row takes the checkpoint's meters
+-- ---- what is held behind rule 1
 
--- the state behind rule 1
-abbrev withdrawn : State → State
+-- the operator is the checkpoint, with its numbering
+abbrev withdrawn : Held → Held
 withdrawn st =
     record {
+      operator = st.checkpoint;
+      checkpoint = st.checkpoint;
+      heads = st.heads;
       settings = st.settings;
       clock = st.clock;
       c = st.c;
       p = st.c;
       phase = Phase.Correcting;
-      newest = st.last_stable;
-      last_stable = st.last_stable;
       acknowledged = st.acknowledged;
     }
 
-pub withdraw_held :
-    (st : State) (x x' : Rows) (heads : List ℕ) → meters_in operator_row x' ≡ meters_in checkpoint_row x →
-    meters_in checkpoint_row x' ≡ meters_in checkpoint_row x →
-    let h : Held = held st (record { meters = x; heads = heads }) in
-    held (withdrawn st) (record { meters = x'; heads = heads }) ≡ put_state h (act st.settings (node_alone h) Rule.Withdraw).node
+pub withdraw_held : (st : Held) → withdrawn st ≡ put_state st (act st.settings (node_alone st) Rule.Withdraw).node
 unfolding act put_state node_alone heads_with
-withdraw_held st x x' heads restored kept = rw (none_in_front st.acknowledged, restored, kept)
+withdraw_held st = rw (none_in_front st.acknowledged) refl

@@ -1,11 +1,11 @@
 -- A line's overdue readings, by two columns alone: the test over the shares of times and arrivals is the test over the line's kept
 -- readings, which are the first rows of its share.
-use Prim.Native.Nat.{ℕ, ◌*◌, ◌≤◌, ◌<◌}
-use mathlib.Core.Path.{◌≡◌, sym, ap, ap₂, ◌∙◌}
-use mathlib.Core.Bool.{Bool}
+use Prim.Native.Nat.{ℕ, ◌+◌, ◌-◌, ◌*◌, ◌≤◌, ◌<◌}
+use mathlib.Core.Path.{◌≡◌, refl, sym, ap, ap₂, ◌∙◌}
+use mathlib.Core.Bool.{Bool, true, false, ◌||◌}
 use mathlib.Core.List.{List}
 use native.Mathlib.Omega.{arith}
-use lib.ListN.{get_or}
+use lib.ListN.{get_or, take, drop}
 use Rattle.clock.specs.declared.ArrivalTick.{ArrivalTick}
 use Rattle.settings.specs.declared.Settings.{Settings}
 use Rattle.store.specs.Sizes.{readings_per_line}
@@ -25,6 +25,16 @@ use Rattle.node.proofs.EachLine.{line_at}
 -- whether a line keeps an overdue reading
 abbrev pub keeps_overdue : Settings → ℕ → ArrivalTick → Line → Bool
 keeps_overdue s p tick l = some_of (is_overdue s p tick) l.kept
+
+-- what holds where either test was met
+pub either_starts : {P : Type 0} (found late : Bool) → (found ≡ true → P) → (late ≡ true → P) → (found || late) ≡ true → P
+either_starts true late h g e = h refl
+either_starts false late h g e = g e
+
+-- a part of a column, from one place to another, is a share
+pub part_share : (from n : ℕ) (xs : List ℕ) → take (from + n - from) (drop from xs) ≡ share from n xs
+unfolding share
+part_share from n xs = let e : from + n - from ≡ n = omega arith in rw e refl
 
 module _ (s : Settings) (p : ℕ) (tick : ArrivalTick) (x : Columns) (hs : List LineHead) (i : ℕ) where
   -- how many readings line i keeps

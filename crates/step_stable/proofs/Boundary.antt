@@ -19,13 +19,11 @@ use Rattle.record.proofs.BytesOf.{length_bytes_of}
 use Rattle.record.proofs.AllBytes.{length_all_bytes, all_bytes_append}
 use Rattle.record.specs.Markers.{marker}
 use Rattle.store.specs.Columns.{Columns}
-use Rattle.operator.specs.Meters.{Operator}
 use Rattle.operator.specs.Work.{Worked}
 use Rattle.protocol.specs.declared.Rule.TheVariants as Rule
 use Rattle.protocol.specs.Rules.{act, boundary_at, worked}
-use Rattle.node.specs.Held.{Held}
+use Rattle.node.specs.Held.{Held, with_operator}
 use Rattle.node.specs.View.{view}
-use Rattle.step_work.proofs.Given.{Given}
 use Rattle.step_stable.specs.Halves.{StableWorked}
 
 pub no_boundary : (s : Settings) (j : ℕ) (results : List Record) → closes_window s.window j ≡ false → results ++ boundary_at s j ≡ results
@@ -76,30 +74,26 @@ module _ (st : Held) (x : Columns) (area : List ℕ) where
   unfolding act view
   operator_given = refl
 
-  -- the bucket is worked: next is its operator, and area₁ holds its results
-  module _ (next : Operator) (area₁ : List ℕ) (g : Given st.operator next given.records area area₁)
-      (o : next ≡ given.operator) (e : area₁ ≡ in_front (all_bytes given.records) area) where
-    -- how many results there are, by the numbering
-    abbrev results : ℕ
-    results = next.number - st.operator.number
-
-    pub goes_on_done : closes_window st.settings.window st.c ≡ false → StableWorked st x area next area₁ results
+  -- the bucket is worked, and nothing else has changed: area₁ holds its results
+  module _ (st₁ : Held) (area₁ : List ℕ) (n : ℕ) (o : st₁ ≡ with_operator given.operator st)
+      (e : area₁ ≡ in_front (all_bytes given.records) area) (count : n ≡ length given.records) where
+    pub goes_on_done : closes_window st.settings.window st.c ≡ false → StableWorked st x area st₁ area₁ n
     goes_on_done goesOn =
         let all = no_boundary st.settings st.c given.records goesOn in
-        record { operator = rw operator_given o; bytes = rw (records_given, all) e; count = rw (records_given, all) g.count }
+        record { state = rw operator_given o; bytes = rw (records_given, all) e; count = rw (records_given, all) count }
 
     pub closes_done :
         closes_window st.settings.window st.c ≡ true → (area₂ : List ℕ) (boundary : Record) →
         boundary ≡ marker letter_b 0 (record { 0 = bucket_end st.settings.bucket st.c }) →
-        area₂ ≡ take (results * record_bytes) area₁ ++ bytes_of boundary ++ drop (results * record_bytes + record_bytes) area₁ →
-        StableWorked st x area next area₂ (results + 1)
+        area₂ ≡ take (n * record_bytes) area₁ ++ bytes_of boundary ++ drop (n * record_bytes + record_bytes) area₁ →
+        StableWorked st x area st₁ area₂ (n + 1)
     closes_done closes area₂ boundary is laid =
         let end : Record = marker letter_b 0 (record { 0 = bucket_end st.settings.bucket st.c }) in
         let all = with_boundary st.settings st.c given.records closes in
         record {
-          operator = rw operator_given o;
+          state = rw operator_given o;
           bytes =
               rw (records_given, all)
-              (record_behind given.records end area area₁ area₂ (results * record_bytes) e (omega (arith, g.count)) (rw is at laid));
-          count = rw (records_given, all) (omega (arith, g.count, one_more given.records end));
+              (record_behind given.records end area area₁ area₂ (n * record_bytes) e (omega (arith, count)) (rw is at laid));
+          count = rw (records_given, all) (omega (arith, count, one_more given.records end));
         }

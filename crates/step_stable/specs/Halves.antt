@@ -5,17 +5,16 @@ use Rattle.settings.specs.declared.Settings.{Settings}
 use Rattle.record.specs.Layout.{all_bytes}
 use Rattle.store.specs.Sizes.{readings_per_line}
 use Rattle.store.specs.Columns.{Columns, rows, with_rows}
-use Rattle.operator.specs.Meters.{Operator}
 use Rattle.protocol.specs.declared.Rule.TheVariants as Rule
 use Rattle.protocol.specs.Node.{Line}
 use Rattle.protocol.specs.Rules.{without, act}
 use Rattle.node.specs.declared.LineHead.{LineHead}
-use Rattle.node.specs.Held.{Held}
+use Rattle.node.specs.Held.{Held, with_operator}
 use Rattle.node.specs.View.{view_lines, view, heads_with, shares_with}
 
--- the rule's operator and records: the bucket's results, and the boundary behind them where it closes a window
-pub record StableWorked (st : Held) (x : Columns) (area : List ℕ) (operator' : Operator) (area' : List ℕ) (records : ℕ) : Type 0 where
-  pub operator : operator' ≡ (act st.settings (view st x) Rule.WorkStable).node.operator
+-- the rule's operator and records: the bucket's results, and the boundary behind them where it closes a window; nothing else changes
+pub record StableWorked (st : Held) (x : Columns) (area : List ℕ) (st' : Held) (area' : List ℕ) (records : ℕ) : Type 0 where
+  pub state : st' ≡ with_operator (act st.settings (view st x) Rule.WorkStable).node.operator st
   pub bytes : area' ≡ in_front (all_bytes (act st.settings (view st x) Rule.WorkStable).records) area
   pub count : records ≡ length (act st.settings (view st x) Rule.WorkStable).records
 

@@ -4,14 +4,15 @@ use Prim.Native.Nat.{ℕ, zero, suc, ◌+◌, ◌*◌, ◌≤◌, ◌<◌}
 use mathlib.Core.Path.{◌≡◌, refl, ap, subst}
 use mathlib.Core.List.{List, [], ◌∷◌, map}
 use native.Mathlib.Omega.{arith}
-use lib.IntN.{ℤ}
 use lib.ListN.{length, take, length-map, length-take}
 use Rattle.store.specs.declared.Reading.{Reading}
+use Rattle.store.specs.declared.Store.{Store}
 use Rattle.store.specs.Sizes.{readings_per_line}
 use Rattle.store.specs.Lists.{Every}
 use Rattle.store.specs.Order.{in_bucket}
 use Rattle.store.specs.Sorted.{Rising}
 use Rattle.store.specs.Columns.{Columns, store_length, rows_from}
+use Rattle.store.specs.Lent.{columns}
 use Rattle.store.specs.Parts.{kept_from}
 use Rattle.store.proofs.Pairs.{every_to, every_map}
 use Rattle.store.proofs.Columns.{Room, room}
@@ -97,16 +98,17 @@ module _ (st : Held) (x : Columns) (h : places st ≤ store_length x) (shape : S
 
 -- ---- what the lines keep can be added, and is added
 
-module _ (st : Held) {times meters : List ℕ} {values : List ℤ} (kept : List ℕ) (told : Told st kept)
-    (o : Operator) (same : o ≡ st.operator) where
-  pub kept_addable : SomeStore st times values meters → Addable st.settings (take st.settings.lines kept) times values meters o
+module _ (st : Held) (readings : Store) (kept : List ℕ) (told : Told st kept) where
+  pub kept_addable :
+      SomeStore st readings →
+      Addable st.settings (take st.settings.lines kept) (columns readings) st.operator
   kept_addable some =
       let x : Columns = some.store in
       let shape : StateShape st x = state_facts st x some.is.shape in
       let limits = limits_hold st.settings shape.limits in
       let wide = counts_room st x some.is.room shape in
       let r : Room (store_length x) x = room (store_length x) x (omega arith) in
-      rw (counts_told st kept told, same, ← some.is.of_times, ← some.is.of_values, ← some.is.of_meters)
+      rw (counts_told st kept told, ← some.is.of_times, ← some.is.of_values, ← some.is.of_meters)
       record {
         lines = omega (arith, few_counts st, limits.lines);
         bucket = omega (arith, limits.least_bucket);
@@ -119,11 +121,12 @@ module _ (st : Held) {times meters : List ℕ} {values : List ℤ} (kept : List 
       }
 
   pub kept_added :
-      (j : ℕ) (next : Operator) → BucketAdded st.settings j (take st.settings.lines kept) times values meters o next →
-      (x : Columns) → StoreOf st times values meters x →
+      (j : ℕ) (next : Operator) →
+      BucketAdded st.settings j (take st.settings.lines kept) (columns readings) st.operator next →
+      (x : Columns) → StoreOf st readings x →
       next ≡ add_all st.settings st.operator (in_bucket st.settings.bucket j (kept_of (view st x).lines))
   kept_added j next added x is =
       let shape : StateShape st x = state_facts st x is.shape in
-      let told_added = rw (counts_told st kept told, same) at added in
+      let told_added = rw (counts_told st kept told) at added in
       rw (kept_lines st x is.room shape)
       (told_added x is.of_times is.of_values is.of_meters (counts_room st x is.room shape) (counts_rising st x is.room shape))

@@ -25,11 +25,11 @@ abbrev pub Adds : Held → Columns → ℕ → Operator → Type 0
 Adds st x j next = next ≡ add_all st.settings st.operator (in_bucket st.settings.bucket j (kept_of (view st x).lines))
 
 module _ (st : Held) (x : Columns) (j : ℕ) (next : Operator) (adds : Adds st x j next) where
+  pub number_stays : next.number ≡ st.operator.number
+  number_stays = ap (λ (o : Operator). o.number) adds ∙ add_all_number st.settings st.operator _
+
   pub number_room : StateShape st x → next.number + meter_count < 2 ^ 32
-  number_room shape =
-      let same : next.number ≡ st.operator.number =
-      ap (λ (o : Operator). o.number) adds ∙ add_all_number st.settings st.operator _ in
-      omega (arith, shape.numbers.newest, shape.buckets.last)
+  number_room shape = omega (arith, number_stays, shape.numbers.newest, shape.buckets.last)
 
   module _ (kind : ℕ) where
     pub window_closed :

@@ -1,7 +1,8 @@
 -- The results of a bucket's work: as many as the numbering moved on, no more than there are meters, and room for one more record is left
 -- behind them. By the laws on the operator's work and on bytes laid in front of an area.
 use Prim.Native.Nat.{ℕ, ◌+◌, ◌*◌, ◌-◌, ◌≤◌}
-use mathlib.Core.Path.{◌≡◌, ◌∙◌, ap}
+use mathlib.Core.Path.{◌≡◌, sym, ◌∙◌, ap}
+use mathlib.Core.Bool.{true}
 use mathlib.Core.List.{List}
 use native.Mathlib.Omega.{arith}
 use lib.ListN.{length, length-append, length-drop}
@@ -13,13 +14,16 @@ use Rattle.record.proofs.AllBytes.{length_all_bytes}
 use Rattle.store.specs.Order.{in_bucket}
 use Rattle.store.specs.Columns.{Columns}
 use Rattle.operator.specs.Meters.{Operator, meter_count}
+use Rattle.operator.specs.Work.{Worked, close}
 use Rattle.operator.proofs.Closing.{work_number}
+use Rattle.clock.specs.Windows.{closes_window}
 use Rattle.protocol.specs.Node.{kept_of}
 use Rattle.protocol.specs.Rules.{worked}
 use Rattle.node.specs.Held.{Held}
 use Rattle.node.specs.Sizes.{area_bytes}
 use Rattle.node.specs.View.{view}
 use Rattle.node.proofs.Results.{length_work}
+use Rattle.step_work.proofs.Closing.{Adds, number_stays, window_closed}
 
 module _ (st : Held) (x : Columns) (kind j : ℕ) where
   number_moves :
@@ -36,29 +40,42 @@ pub length_in_front : (bytes area : List ℕ) → length bytes ≤ length area �
 unfolding in_front
 length_in_front bytes area h = simp (length-append, length-drop) (omega arith)
 
--- what a bucket's work gave: the numbering moved on by the results, which the area holds
-pub record Given (o next : Operator) (results : List Record) (area area' : List ℕ) : Type 0 where
-  pub later : o.number ≤ next.number
-  pub count : next.number - o.number ≡ length results
-  pub few : length results ≤ meter_count
-  pub same : length area' ≡ length area
-  pub room : (next.number - o.number) * record_bytes + record_bytes ≤ length area'
-
-pub work_given :
-    (st : Held) (x : Columns) (kind j : ℕ) (next : Operator) (area area' : List ℕ) → length st.operator.meters ≡ meter_count →
-    area_bytes ≤ length area → next ≡ (worked st.settings kind j (view st x)).operator →
+-- room for one more record behind the results, which are no more than there are meters
+pub room_left :
+    (st : Held) (x : Columns) (kind j n : ℕ) (area area' : List ℕ) → length st.operator.meters ≡ meter_count → area_bytes ≤ length area →
+    n ≡ length (worked st.settings kind j (view st x)).records →
     area' ≡ in_front (all_bytes (worked st.settings kind j (view st x)).records) area →
-    Given st.operator next (worked st.settings kind j (view st x)).records area area'
-work_given st x kind j next area area' meters room e g =
+    (n * record_bytes + record_bytes ≤ length area') × (n ≤ meter_count)
+room_left st x kind j n area area' meters room count g =
     let results : List Record = (worked st.settings kind j (view st x)).records in
-    let moved : next.number ≡ st.operator.number + length results = ap (λ (o : Operator). o.number) e ∙ number_moves st x kind j in
     let few : length results ≤ meter_count = few_results st x kind j meters in
     let same : length area' ≡ length area =
     ap length g ∙ length_in_front (all_bytes results) area (omega (arith, length_all_bytes results)) in
+    (omega arith, omega arith)
+
+-- what a bucket's work gives where it closes a window: the operator is the worked one, whose numbering has moved on by the results, which
+-- the area holds; room for one more record is left behind them
+pub record Given (st : Held) (x : Columns) (kind j : ℕ) (added closed : Operator) (area area' : List ℕ) : Type 0 where
+  pub operator : closed ≡ (worked st.settings kind j (view st x)).operator
+  pub bytes : area' ≡ in_front (all_bytes (worked st.settings kind j (view st x)).records) area
+  pub later : added.number ≤ closed.number
+  pub count : closed.number - added.number ≡ length (worked st.settings kind j (view st x)).records
+  pub few : length (worked st.settings kind j (view st x)).records ≤ meter_count
+
+pub window_given :
+    (st : Held) (x : Columns) (kind j : ℕ) (added closed : Operator) (area area' : List ℕ) → length st.operator.meters ≡ meter_count →
+    Adds st x j added → closes_window st.settings.window j ≡ true → closed ≡ (close st.settings kind j added).operator →
+    area' ≡ in_front (all_bytes (close st.settings kind j added).records) area → Given st x kind j added closed area area'
+window_given st x kind j added closed area area' meters adds closes e g =
+    let all : worked st.settings kind j (view st x) ≡ close st.settings kind j added = window_closed st x j added adds kind closes in
+    let operator : closed ≡ (worked st.settings kind j (view st x)).operator = e ∙ sym (ap (λ (w : Worked). w.operator) all) in
+    let moved : closed.number ≡ st.operator.number + length (worked st.settings kind j (view st x)).records =
+    ap (λ (o : Operator). o.number) operator ∙ number_moves st x kind j in
+    let same : added.number ≡ st.operator.number = number_stays st x j added adds in
     record {
+      operator = operator;
+      bytes = g ∙ sym (ap (λ (w : Worked). in_front (all_bytes w.records) area) all);
       later = omega arith;
       count = omega arith;
-      few = few;
-      same = same;
-      room = omega arith;
+      few = few_results st x kind j meters;
     }

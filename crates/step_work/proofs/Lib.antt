@@ -1,5 +1,4 @@
 -- Laws on a bucket's work.
 pub mod BucketReadings
-pub mod Loading
 pub mod Closing
 pub mod Given

@@ -1,12 +1,12 @@
--- A share read place by place: its first number, and the share behind it; and whether some number of it passes a test, kept in one Bool:
--- what is found so far, together with the test of what is left, stays the same.
-use mathlib.Core.Path.{◌≡◌, refl, sym, ◌∙◌}
-use mathlib.Core.Bool.{Bool, false, ◌||◌, or_assoc, or-false}
+-- A share read place by place: its first number, and the share behind it; and whether some of a list's first elements pass a test, where
+-- there is one more of them.
+use mathlib.Core.Path.{◌≡◌, refl, sym, ◌∙◌, ap}
+use mathlib.Core.Bool.{Bool, ◌||◌, or_assoc, or-false}
 use mathlib.Core.List.{List, [], ◌∷◌}
-use Prim.Native.Nat.{ℕ, suc, ◌+◌, ◌-◌, ◌<◌, ◌≤◌}
+use Prim.Native.Nat.{ℕ, zero, suc, ◌+◌, ◌<◌, ◌≤◌}
 use native.Mathlib.Omega.{arith}
-use native.Mathlib.Nat.{add-zero, sub-zero}
-use lib.ListN.{length, get_or, drop, length-take, length-drop}
+use native.Mathlib.Numerals.{add-one}
+use lib.ListN.{length, get_or, take, drop, length-take, length-drop}
 use lib.Seq.{drop-cons, length-take-le}
 use Rattle.store.specs.Lists.{some_of}
 use Rattle.store.specs.Parts.{share}
@@ -30,42 +30,16 @@ module _ {A : Type 0} where
   unfolding share
   share_cons blank base n xs h = rw (drop-cons xs base blank (omega arith))
 
-  -- what a loop that goes over the share of n places has left, at its start, in a turn, and at its end
-  abbrev pub left : ℕ → ℕ → List A → ℕ → List A
-  left base n xs i = share (base + i) (n - i) xs
-
-  pub left_all : (base n : ℕ) (xs : List A) → left base n xs 0 ≡ share base n xs
-  left_all base n xs = rw (add-zero base, sub-zero n)
-
-  pub left_cons :
-      (blank : A) (base n : ℕ) (xs : List A) (i : ℕ) → base + n ≤ length xs → i < n →
-      left base n xs i ≡ get_or xs (base + i) blank ∷ left base n xs (i + 1)
-  left_cons blank base n xs i h g =
-      let e : n - i ≡ suc (n - (i + 1)) = omega arith in
-      let f : base + (i + 1) ≡ suc (base + i) = omega arith in
-      rw (e, f) (share_cons blank (base + i) (n - (i + 1)) xs (omega arith))
-
-  pub left_none : (base n : ℕ) (xs : List A) (i : ℕ) → n ≤ i → left base n xs i ≡ []
-  left_none base n xs i h =
-      let e : n - i ≡ 0 = omega arith in
-      rw e (share_none (base + i) xs)
-
 -- ---- whether some passes
 
-abbrev pub SomeSoFar : (ℕ → Bool) → List ℕ → ℕ → ℕ → Bool → ℕ → Type 0
-SomeSoFar test xs base n found i = found || some_of test (left base n xs i) ≡ some_of test (share base n xs)
+module _ {A : Type 0} (test : A → Bool) (blank : A) where
+  some_of_suc : (xs : List A) (i : ℕ) → i < length xs → some_of test (take (suc i) xs) ≡ some_of test (take i xs) || test (get_or xs i blank)
+  unfolding some_of
+  some_of_suc [] i h = absurd (omega arith)
+  some_of_suc (x ∷ xs) zero h = or-false (test x)
+  some_of_suc (x ∷ xs) (suc i) h =
+      ap (λ (b : Bool). test x || b) (some_of_suc xs i (omega arith)) ∙ sym (or_assoc (test x) (some_of test (take i xs)) (test (get_or xs i blank)))
 
-module _ (test : ℕ → Bool) (xs : List ℕ) (base n : ℕ) where
-  pub some_start : SomeSoFar test xs base n false 0
-  some_start = rw (left_all base n xs)
-
-  module _ (found : Bool) (i : ℕ) (v : SomeSoFar test xs base n found i) where
-    pub some_turn : base + n ≤ length xs → i < n → SomeSoFar test xs base n (found || test (get_or xs (base + i) 0)) (i + 1)
-    unfolding some_of
-    some_turn room h =
-        or_assoc found (test (get_or xs (base + i) 0)) (some_of test (left base n xs (i + 1)))
-        ∙ (rw (left_cons 0 base n xs i room h) at v)
-
-    pub some_end : n ≤ i → found ≡ some_of test (share base n xs)
-    unfolding some_of
-    some_end h = sym (or-false found) ∙ (rw (left_none base n xs i h) at v)
+  -- one element more
+  pub some_of_more : (xs : List A) (i : ℕ) → i < length xs → some_of test (take (i + 1) xs) ≡ some_of test (take i xs) || test (get_or xs i blank)
+  some_of_more xs i h = rw add-one (some_of_suc xs i h)

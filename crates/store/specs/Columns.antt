@@ -11,7 +11,7 @@ pub record Columns : Type 0 where
   pub kinds : List ℕ
   pub meters : List ℕ
 
--- the columns in the order in which functions are lent them
+-- the columns in the order in which a store has them
 abbrev pub columns_of : List ℕ → List ℕ → List ℤ → List ℕ → List ℕ → List ℕ → Columns
 columns_of ids times values arrivals kinds meters =
     record { ids = ids; times = times; values = values; arrivals = arrivals; kinds = kinds; meters = meters }

@@ -5,3 +5,4 @@ pub mod Order
 pub mod Sorted
 pub mod Columns
 pub mod Parts
+pub mod Lent

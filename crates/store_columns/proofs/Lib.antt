@@ -1,10 +1,7 @@
--- Laws on the store's columns: places zeroed, tests over a share; rows and their columns, what is kept, rows written, and a bucket's
--- places.
-pub mod Zeroed
+-- Laws on the store's columns: tests over a share; rows and their columns, what is kept, rows written, and a bucket's places.
 pub mod Tests
-pub mod Overlaid
-pub mod WrongBits
-pub mod Blocks
+pub mod Chunks
+pub mod Readings
 pub mod SmallSteps
 pub mod LateDue
 pub mod Rows

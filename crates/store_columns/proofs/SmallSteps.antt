@@ -1,117 +1,104 @@
 -- Numbers of 32 bits that step up by at most 2^23 each, wrapped: either none has gone round so far, and they rise, or one has, and then so
 -- few of them stay below the first. Steps back are laid over each other, and what is left tells that all were small; some are laid twice.
-use Rattle.std.proofs.Common.{◌≡◌, ℕ, zero, suc, ◌+◌, ◌-◌, ◌*◌, ◌%◌, ◌^◌, ◌<◌, ◌≤◌, true, false, ltb, ◌⊎◌, List, [], ◌∷◌, length, get_or, set, refl, ap, ◌∙◌, subst, inl, inr, le_trans, le_refl, arith, length-set, ltb-false, ltb-true, lt-ltb}
+use Rattle.std.proofs.Common.{◌≡◌, ℕ, zero, suc, ◌+◌, ◌-◌, ◌*◌, ◌%◌, ◌^◌, ◌<◌, ◌≤◌, true, false, ltb, ◌⊎◌, List, [], ◌∷◌, ◌++◌, length, get_or, set, take, drop, refl, inl, inr, le_trans, le_refl, add-one, arith, length-set, ltb-false, ltb-true, lt-ltb}
+use Rattle.std.specs.List.{concat}
 use lib.Bits.{bit_and, and_le_l, and_le_r}
-use Rattle.store.specs.Parts.{share}
 use Rattle.store_columns.specs.Shape.{rises}
-use Rattle.store_columns.specs.Steps.{SmallStep, SmallSteps, small_back, AreSmallBack}
-use Rattle.store_columns.proofs.Tests.{RisesSoFar, rises_start, rises_turn, rises_end}
+use Rattle.store_columns.specs.Steps.{SmallStep, AreSmallSteps, AreSmallBack, small_back}
 
 -- a step told by what it wraps to, taken back
-small_step :
-    (a b step : ℕ) → b < 2 ^ 32 → small_back ≤ step → step < 2 ^ 32 → (step + b) % 2 ^ 32 ≡ a → SmallStep a b
-small_step a b step fits small below wraps =
+pub small_step : (a b : ℕ) → a < 2 ^ 32 → b < 2 ^ 32 → small_back ≤ (a + (2 ^ 32 - b)) % 2 ^ 32 → SmallStep a b
+small_step a b fits fits' small =
     (elim (ltb a b) as (λ t. ltb a b ≡ t → SmallStep a b) [
       | true ↦ λ e. inl (ltb-true a b e, omega (arith, ltb-true))
       | false ↦ λ e. inr (omega (arith, ltb-false))
     ]) refl
 
-module _ (xs : List ℕ) where
-  steps_none : (from : ℕ) → SmallSteps xs from from
-  steps_none from i h g = absurd (omega arith)
-
-  steps_both : (from mid to : ℕ) → SmallSteps xs from mid → SmallSteps xs mid to → SmallSteps xs from to
-  steps_both from mid to v w i h g =
-      (elim (ltb i mid) as (λ t. ltb i mid ≡ t → SmallStep (get_or xs i 0) (get_or xs (i + 1) 0)) [
-        | true ↦ λ e. v i h (ltb-true i mid e)
-        | false ↦ λ e. w i (ltb-false i mid e) g
-      ]) refl
-
-  one_step : (at to : ℕ) → to ≡ at + 1 → SmallStep (get_or xs at 0) (get_or xs (at + 1) 0) → SmallSteps xs at to
-  one_step at to next step i h g =
-      let here : at ≡ i = omega arith in
-      subst (λ (j : ℕ). SmallStep (get_or xs j 0) (get_or xs (j + 1) 0)) here step
-
 -- ---- so few small steps rise
 
-module _ (xs : List ℕ) (base n : ℕ) (room : base + n ≤ length xs) (steps : SmallSteps xs base (base + n - 1)) where
-  -- i numbers have been passed: they rise, or have gone round
-  abbrev Passed : ℕ → Type 0
-  Passed i =
-      (RisesSoFar xs base n true i × (get_or xs (base + i - 1) 0 ≤ get_or xs base 0 + (i - 1) * 2 ^ 23)) ⊎
-      (get_or xs (base + i - 1) 0 + 2 ^ 32 ≤ get_or xs base 0 + (i - 1) * 2 ^ 23)
+-- once one has gone round, k steps from the first on, they stay below it
+stays_below :
+    (first k x : ℕ) (xs : List ℕ) → x + 2 ^ 32 ≤ first + k * 2 ^ 23 → AreSmallSteps (x ∷ xs) xs →
+    get_or (x ∷ xs) (length xs) 0 + 2 ^ 32 ≤ first + (k + length xs) * 2 ^ 23
+unfolding AreSmallSteps
+stays_below first k x [] round steps = omega arith
+stays_below first k x (y ∷ ys) round (inl step, steps) = omega (arith, stays_below first (k + 1) y ys (omega arith) steps)
+stays_below first k x (y ∷ ys) round (inr step, steps) = omega (arith, stays_below first (k + 1) y ys (omega arith) steps)
 
-  passed_turn : (i : ℕ) → 1 ≤ i → i < n → SmallStep (get_or xs (base + i - 1) 0) (get_or xs (base + i) 0) → Passed i → Passed (i + 1)
-  passed_turn i some h step passed = turned step passed
-    where
-      here : base + (i + 1) - 1 ≡ base + i
-      here = omega arith
+rise_on :
+    (first k x : ℕ) (xs : List ℕ) → x ≤ first + k * 2 ^ 23 → k + length xs < 256 → first < get_or (x ∷ xs) (length xs) 0 →
+    AreSmallSteps (x ∷ xs) xs → rises (x ∷ xs) ≡ true
+unfolding AreSmallSteps rises
+rise_on first k x [] near few above steps = refl
+rise_on first k x (y ∷ ys) near few above (inl step, steps) =
+    rw (lt-ltb x y step.0) (rise_on first (k + 1) y ys (omega arith) (omega arith) above steps)
+rise_on first k x (y ∷ ys) near few above (inr step, steps) =
+    absurd (omega (arith, stays_below first (k + 1) y ys (omega arith) steps))
 
-      turned : SmallStep (get_or xs (base + i - 1) 0) (get_or xs (base + i) 0) → Passed i → Passed (i + 1)
-      turned (inl (up, near)) (inl (risen, before)) = inl (
-        (rw (lt-ltb _ _ up) at (rises_turn xs base n true i risen room h)),
-        rw here (omega arith),
-      )
-      turned (inr round) (inl (risen, before)) = inr (rw here (omega arith))
-      turned (inl (up, near)) (inr before) = inr (rw here (omega arith))
-      turned (inr round) (inr before) = inr (rw here (omega arith))
+-- the last number steps nowhere
+all_but_last : (n : ℕ) (xs ys : List ℕ) → n ≡ length ys → AreSmallSteps (take n xs) (take n ys) → AreSmallSteps xs ys
+unfolding AreSmallSteps
+all_but_last n [] ys e steps = tt
+all_but_last n (x ∷ xs) [] e steps = tt
+all_but_last zero (x ∷ xs) (y ∷ ys) e steps = absurd (omega arith)
+all_but_last (suc n) (x ∷ xs) (y ∷ ys) e (step, steps) = (step, all_but_last n xs ys (omega arith) steps)
 
-  passed : (i : ℕ) → suc i ≤ n → Passed (suc i)
-  passed zero h =
-      let here : base + 1 - 1 ≡ base = omega arith in
-      inl (rises_start xs base n, rw here (omega arith))
-  passed (suc i) h =
-      let next : suc i + 1 ≡ suc (suc i) = omega arith in
-      let before : base + suc i - 1 ≡ base + i = omega arith in
-      let here : base + i + 1 ≡ base + suc i = omega arith in
-      let step : SmallStep (get_or xs (base + suc i - 1) 0) (get_or xs (base + suc i) 0) =
-      rw before (rw here at (steps (base + i) (omega arith) (omega arith))) in
-      subst Passed next (passed_turn (suc i) (omega arith) (omega arith) step (passed i (omega arith)))
+-- so few, and the last above the first
+pub small_steps_rise :
+    (xs : List ℕ) (last : ℕ) → length xs ≤ 256 → last + 1 ≡ length xs → get_or xs 0 0 < get_or xs last 0 →
+    AreSmallSteps (take last xs) (take last (drop 1 xs)) → rises xs ≡ true
+unfolding rises
+small_steps_rise [] last few there above steps = refl
+small_steps_rise (x ∷ xs) last few there above steps =
+    let e : last ≡ length xs = omega arith in
+    rise_on x 0 x xs (omega arith) (omega arith) (rw e at above) (all_but_last last (x ∷ xs) xs e steps)
 
-  -- so few, and the last above the first
-  pub small_steps_rise :
-      1 ≤ n → n ≤ 256 → (last : ℕ) → get_or xs base 0 < get_or xs last 0 → last ≡ base + n - 1 → true ≡ rises (share base n xs)
-  small_steps_rise some few last above there =
-      let all : suc (n - 1) ≡ n = omega arith in
-      ended (subst Passed all (passed (n - 1) (omega arith)))
-    where
-      same : get_or xs last 0 ≡ get_or xs (base + n - 1) 0
-      same = ap (λ (k : ℕ). get_or xs k 0) there
+-- ---- steps in parts
 
-      ended : Passed n → true ≡ rises (share base n xs)
-      ended (inl (risen, near)) = rises_end xs base n true n risen (le_refl n)
-      ended (inr round) = absurd (omega (arith, same))
+-- no step is left
+pub none_laid : (xs ys : List ℕ) → (length xs ≡ 0) ⊎ (length ys ≡ 0) → AreSmallSteps xs ys
+unfolding AreSmallSteps
+none_laid [] ys h = tt
+none_laid (x ∷ xs) [] h = tt
+none_laid (x ∷ xs) (y ∷ ys) (inl h) = absurd (omega arith)
+none_laid (x ∷ xs) (y ∷ ys) (inr h) = absurd (omega arith)
 
--- ---- steps laid over each other one by one
+pub steps_append :
+    (xs ys zs ws : List ℕ) → length xs ≡ length ys → AreSmallSteps xs ys → AreSmallSteps zs ws → AreSmallSteps (xs ++ zs) (ys ++ ws)
+unfolding AreSmallSteps
+steps_append [] [] zs ws e steps rest = rest
+steps_append [] (y ∷ ys) zs ws e steps rest = absurd (omega arith)
+steps_append (x ∷ xs) [] zs ws e steps rest = absurd (omega arith)
+steps_append (x ∷ xs) (y ∷ ys) zs ws e (step, steps) rest = (step, steps_append xs ys zs ws (omega arith) steps rest)
 
-module _ (xs : List ℕ) (base n : ℕ) where
-  -- the steps of i numbers have been laid; where what is left is high enough, they are small
-  abbrev pub StepsSoFar : ℕ → ℕ → Type 0
-  StepsSoFar back i = (1 ≤ i) × (i ≤ n) × (small_back ≤ back → SmallSteps xs base (base + i - 1))
+-- the first m, and those from one of them on
+pub steps_cover :
+    (m from : ℕ) (xs ys : List ℕ) → from ≤ m → AreSmallSteps (take m xs) (take m ys) → AreSmallSteps (drop from xs) (drop from ys) →
+    AreSmallSteps xs ys
+unfolding AreSmallSteps
+steps_cover m zero xs ys h first last = last
+steps_cover zero (suc from) xs ys h first last = absurd (omega arith)
+steps_cover (suc m) (suc from) [] ys h first last = tt
+steps_cover (suc m) (suc from) (x ∷ xs) [] h first last = tt
+steps_cover (suc m) (suc from) (x ∷ xs) (y ∷ ys) h (step, first) last = (step, steps_cover m from xs ys (omega arith) first last)
 
-  pub steps_start : (back : ℕ) → 1 ≤ n → StepsSoFar back 1
-  steps_start back some =
-      let here : base + 1 - 1 ≡ base = omega arith in
-      (omega arith, some, λ small. rw here (steps_none xs base))
+-- no block is left
+pub steps_done :
+    (blocks next_blocks : List (List ℕ)) → (length blocks ≡ 0) ⊎ (length next_blocks ≡ 0) → AreSmallSteps (concat blocks) (concat next_blocks)
+unfolding AreSmallSteps
+steps_done [] bs h = tt
+steps_done (a ∷ rest) [] h = none_laid (concat (a ∷ rest)) [] (inr refl)
+steps_done (a ∷ rest) (b ∷ bs) (inl h) = absurd (omega arith)
+steps_done (a ∷ rest) (b ∷ bs) (inr h) = absurd (omega arith)
 
-  module _ (back i : ℕ) (v : StepsSoFar back i) where
-    pub steps_turn :
-        (step : ℕ) → i < n → get_or xs (base + i) 0 < 2 ^ 32 → step < 2 ^ 32 →
-        (step + get_or xs (base + i) 0) % 2 ^ 32 ≡ get_or xs (base + i - 1) 0 → StepsSoFar (bit_and back step) (i + 1)
-    steps_turn step h fits below wraps =
-        let here : base + i - 1 + 1 ≡ base + i = omega arith in (
-          omega arith,
-          omega arith,
-          λ small.
-              steps_both xs base (base + i - 1) (base + (i + 1) - 1) (v.2 (le_trans small (and_le_l back step)))
-              (one_step xs (base + i - 1) (base + (i + 1) - 1) (omega arith)
-              (rw here (small_step _ _ step fits (le_trans small (and_le_r back step)) below wraps))),
-        )
-
-    pub steps_end : n ≤ i → small_back ≤ back → SmallSteps xs base (base + n - 1)
-    steps_end h small =
-        let all : i ≡ n = omega arith in
-        subst (λ (m : ℕ). SmallSteps xs base (base + m - 1)) all (v.2 small)
+steps_suc :
+    (k : ℕ) (xs ys : List ℕ) → SmallStep (get_or xs k 0) (get_or ys k 0) → AreSmallSteps (take k xs) (take k ys) →
+    AreSmallSteps (take (suc k) xs) (take (suc k) ys)
+unfolding AreSmallSteps
+steps_suc k [] ys step steps = tt
+steps_suc k (x ∷ xs) [] step steps = tt
+steps_suc zero (x ∷ xs) (y ∷ ys) step steps = (step, tt)
+steps_suc (suc k) (x ∷ xs) (y ∷ ys) step (first, steps) = (first, steps_suc k xs ys step steps)
 
 -- ---- a block laid over words
 
@@ -131,94 +118,44 @@ laid_here [] k step h = absurd (omega arith)
 laid_here (w ∷ words) zero step h = and_le_r w step
 laid_here (w ∷ words) (suc k) step h = laid_here words k step (omega arith)
 
-module _ (xs : List ℕ) (from : ℕ) (words₀ : List ℕ) where
-  -- k steps have been laid
-  abbrev pub LaidSteps : List ℕ → ℕ → Type 0
-  LaidSteps words k =
-      (length words ≡ 8) × (k ≤ 8) × (AreSmallBack words → AreSmallBack words₀ × SmallSteps xs from (from + k))
+pub steps_start : AreSmallSteps [] []
+unfolding AreSmallSteps
+steps_start = tt
 
-  pub laid_steps_start : length words₀ ≡ 8 → LaidSteps words₀ 0
-  laid_steps_start e =
-      let here : from + 0 ≡ from = omega arith in
-      (e, omega arith, λ small. (small, rw here (steps_none xs from)))
-
-  module _ (words : List ℕ) (k : ℕ) (v : LaidSteps words k) where
-    pub laid_steps_turn :
-        (step : ℕ) → k < 8 → get_or xs (from + k + 1) 0 < 2 ^ 32 → step < 2 ^ 32 →
-        (step + get_or xs (from + k + 1) 0) % 2 ^ 32 ≡ get_or xs (from + k) 0 →
-        LaidSteps (set words k (bit_and (get_or words k 0) step)) (k + 1)
-    laid_steps_turn step h fits below wraps = (
-      length-set words k (bit_and (get_or words k 0) step) ∙ v.0,
-      omega arith,
-      λ small.
-          let (before, steps) = v.2 (λ j g. le_trans (small j g) (laid_below words k step j)) in (
-            before,
-            steps_both xs from (from + k) (from + (k + 1)) steps
-                (one_step xs (from + k) (from + (k + 1)) (omega arith)
-                (small_step _ _ step fits (le_trans (small k h) (laid_here words k step (omega arith))) below wraps)),
-          ),
-    )
-
-    pub laid_steps_end :
-        8 ≤ k → (length words ≡ 8) × (AreSmallBack words → AreSmallBack words₀ × SmallSteps xs from (from + 8))
-    laid_steps_end h =
-        let all : k ≡ 8 = omega arith in
-        (v.0, subst (λ (m : ℕ). AreSmallBack words → AreSmallBack words₀ × SmallSteps xs from (from + m)) all v.2)
+-- k steps have been laid, and then one more
+pub step_laid :
+    (words₀ words xs ys : List ℕ) (k : ℕ) → k < length words → get_or xs k 0 < 2 ^ 32 → get_or ys k 0 < 2 ^ 32 →
+    (AreSmallBack words → AreSmallBack words₀ × AreSmallSteps (take k xs) (take k ys)) →
+    AreSmallBack (set words k (bit_and (get_or words k 0) ((get_or xs k 0 + (2 ^ 32 - get_or ys k 0)) % 2 ^ 32))) →
+    AreSmallBack words₀ × AreSmallSteps (take (k + 1) xs) (take (k + 1) ys)
+step_laid words₀ words xs ys k room fits fits' before small =
+    let step : ℕ = (get_or xs k 0 + (2 ^ 32 - get_or ys k 0)) % 2 ^ 32 in
+    let long = length-set words k (bit_and (get_or words k 0) step) in
+    let (start, steps) = before (λ j g. le_trans (small j (omega (arith, long))) (laid_below words k step j)) in
+    let here : small_back ≤ step = le_trans (small k (omega (arith, long))) (laid_here words k step room) in
+    rw add-one (start, steps_suc k xs ys (small_step (get_or xs k 0) (get_or ys k 0) fits fits' here) steps)
 
 -- ---- what words have in common
 
-module _ (words : List ℕ) where
-  -- no word so far is below it
-  abbrev pub CommonSoFar : ℕ → ℕ → Type 0
-  CommonSoFar common k = (j : ℕ) → j < k → common ≤ get_or words j 0
+-- no word so far is below it, and then one more
+pub common_more :
+    (words : List ℕ) (common k : ℕ) → ((j : ℕ) → j < k → common ≤ get_or words j 0) →
+    (j : ℕ) → j < k + 1 → bit_and common (get_or words k 0) ≤ get_or words j 0
+common_more words common k v j h =
+    (elim (ltb j k) as (λ t. ltb j k ≡ t → bit_and common (get_or words k 0) ≤ get_or words j 0) [
+      | true ↦ λ e. le_trans (and_le_l common (get_or words k 0)) (v j (ltb-true j k e))
+      | false ↦ λ e.
+          let above : k ≤ j = ltb-false j k e in
+          let here : j ≡ k = omega arith in
+          rw here (and_le_r common (get_or words k 0))
+    ]) refl
 
-  pub common_start : (common : ℕ) → CommonSoFar common 0
-  common_start common j h = absurd (omega arith)
+-- ---- one by one
 
-  pub common_turn : (common k : ℕ) → CommonSoFar common k → CommonSoFar (bit_and common (get_or words k 0)) (k + 1)
-  common_turn common k v j h =
-      (elim (ltb j k) as (λ t. ltb j k ≡ t → bit_and common (get_or words k 0) ≤ get_or words j 0) [
-        | true ↦ λ e. le_trans (and_le_l common (get_or words k 0)) (v j (ltb-true j k e))
-        | false ↦ λ e.
-            let above : k ≤ j = ltb-false j k e in
-            let here : j ≡ k = omega arith in
-            rw here (and_le_r common (get_or words k 0))
-      ]) refl
-
-  pub common_end : (common k : ℕ) → CommonSoFar common k → 8 ≤ k → small_back ≤ common → AreSmallBack words
-  common_end common k v h small j g = le_trans small (v j (omega arith))
-
--- ---- block after block
-
-module _ (xs : List ℕ) (base n : ℕ) where
-  -- the last block has been laid, and the steps before `at`
-  abbrev pub StepBlocks : List ℕ → ℕ → Type 0
-  StepBlocks words at =
-      (length words ≡ 8) × (base ≤ at)
-      × (AreSmallBack words → SmallSteps xs base at × SmallSteps xs (base + n - 9) (base + n - 1))
-
-  -- what laying a block tells
-  abbrev Laid : List ℕ → List ℕ → ℕ → Type 0
-  Laid words words' from =
-      (length words' ≡ 8) × (AreSmallBack words' → AreSmallBack words × SmallSteps xs from (from + 8))
-
-  pub step_blocks_start : (words words' : List ℕ) → 9 ≤ n → Laid words words' (base + n - 9) → StepBlocks words' base
-  step_blocks_start words words' room laid =
-      let end : base + n - 9 + 8 ≡ base + n - 1 = omega arith in
-      (laid.0, le_refl base, λ small. (steps_none xs base, subst (SmallSteps xs (base + n - 9)) end (laid.1 small).1))
-
-  module _ (words : List ℕ) (at : ℕ) (v : StepBlocks words at) where
-    pub step_blocks_turn : (words' : List ℕ) → Laid words words' at → StepBlocks words' (at + 8)
-    step_blocks_turn words' laid = (
-      laid.0,
-      omega arith,
-      λ small.
-          let (before, block) = laid.1 small in
-          let (steps, last) = v.2 before in
-          (steps_both xs base at (at + 8) steps block, last),
-    )
-
-    pub step_blocks_end : base + n - 9 ≤ at → AreSmallBack words → SmallSteps xs base (base + n - 1)
-    step_blocks_end h small =
-        let (steps, last) = v.2 small in
-        steps_both xs base (base + n - 9) (base + n - 1) (λ i g f. steps i g (omega arith)) last
+-- the step from x to y has been laid
+pub one_laid :
+    (back x y : ℕ) (xs ys : List ℕ) → x < 2 ^ 32 → y < 2 ^ 32 → small_back ≤ bit_and back ((x + (2 ^ 32 - y)) % 2 ^ 32) →
+    AreSmallSteps xs ys → AreSmallSteps (x ∷ xs) (y ∷ ys)
+unfolding AreSmallSteps
+one_laid back x y xs ys fits fits' small steps =
+    (small_step x y fits fits' (le_trans small (and_le_r back ((x + (2 ^ 32 - y)) % 2 ^ 32))), steps)

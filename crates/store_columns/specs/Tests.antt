@@ -1,5 +1,5 @@
 -- Tests that look at single columns.
-use Rattle.std.specs.Prelude.{◌≡◌, ℕ, zero, suc, ◌^◌, Bool, true, false, ◌&&◌, ◌||◌, List, [], ◌∷◌, nat_eq, nat_le, nat_lt, slice_index}
+use Rattle.std.specs.Prelude.{◌≡◌, ℕ, ◌^◌, Bool, false, ◌&&◌, ◌||◌, List, [], ◌∷◌, nat_eq, nat_le, nat_lt}
 use Rattle.store.specs.Lists.{all_of}
 use Rattle.store_columns.specs.Shape.{is_reading_kind}
 use Rattle.clock.specs.declared.ArrivalTick.{ArrivalTick}
@@ -17,14 +17,9 @@ some_of_both test [] bs = false
 some_of_both test (a ∷ rest) [] = false
 some_of_both test (a ∷ rest) (b ∷ bs) = test a b || some_of_both test rest bs
 
--- every place of so many, from one on, passes the test
-unfoldable pub all_from : (ℕ → Bool) → ℕ → ℕ → Bool
-all_from test from zero = true
-all_from test from (suc n) = test from && all_from test (suc from) n
-
--- the kind at a place is that of a kept reading, and the meter there below the limit
-unfoldable pub is_reading_at : List ℕ → List ℕ → ℕ → ℕ → Bool
-is_reading_at kinds meters limit i = is_reading_kind (slice_index kinds i) && nat_lt (slice_index meters i) limit
+-- every kind is that of a kept reading, and every meter below the limit
+abbrev pub are_right : ℕ → List ℕ → List ℕ → Bool
+are_right limit kinds meters = all_of is_reading_kind kinds && all_of (λ m. nat_lt m limit) meters
 
 -- no bit of any word is set
 unfoldable pub are_zero : List ℕ → Bool

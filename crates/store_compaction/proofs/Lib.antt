@@ -1,2 +1,2 @@
--- Laws on a run of elements moved down.
-pub mod Moved
+-- A law on a run of elements moved down.
+mod Moved

@@ -1,14 +1,14 @@
 -- The first place of a part of a list whose element passes a test: where the first element fails it, or a block of elements, it is the
 -- first place of what is left. Each law goes by the first element of what is left.
 use mathlib.Core.Path.{◌≡◌, refl, sym, ◌∙◌, ap}
-use mathlib.Core.Bool.{Bool, true, false, not, ◌||◌, or-false, true≢false}
-use mathlib.Core.List.{List, [], ◌∷◌}
-use Prim.Native.Nat.{ℕ, zero, suc, ◌+◌, ◌-◌, ◌<◌, ◌≤◌}
+use mathlib.Core.Bool.{Bool, true, false, not, ◌||◌, true≢false}
+use mathlib.Core.List.{List, [], ◌∷◌, ◌++◌}
+use Prim.Native.Nat.{ℕ, zero, suc, ◌+◌, ◌-◌, ◌*◌, ◌<◌, ◌≤◌}
 use native.Mathlib.Omega.{arith}
 use native.Mathlib.Nat.{add-zero}
-use lib.Dec.{ltb}
-use lib.ListN.{length, get_or}
-use borrow.Author.Tests.{ltb-true, ltb-false}
+use lib.ListN.{length, get_or, take, drop}
+use lib.Seq.{take-add, drop-drop}
+use Rattle.std.specs.Simd.{first_chunks}
 use Rattle.store.specs.Lists.{some_of}
 use Rattle.store.specs.Parts.{share}
 use Rattle.store.proofs.Choices.{cond_either}
@@ -63,30 +63,6 @@ module _ {A : Type 0} (blank : A) (test : A → Bool) (end : ℕ) (xs : List A) 
       refl
       (rw (share_cons blank at n xs (omega arith)) at none)
 
-  -- a walk by blocks of one ends where one passes, or at the end
-  first_alone : (at : ℕ) → at ≤ end → (1 ≤ end - at → some_of test (share at 1 xs) ≡ true) → at ≡ first_place test at end xs
-  unfolding some_of
-  first_alone at h some =
-      (elim (ltb at end) as (λ b. ltb at end ≡ b → at ≡ first_place test at end xs) [
-        | true ↦ λ e.
-            let more : at < end = ltb-true at end e in
-            let one : share at 1 xs ≡ get_or xs at blank ∷ [] = share_cons blank at 0 xs (omega arith) ∙ rw (share_none (suc at) xs) in
-            sym (first_here at more (sym (or-false (test (get_or xs at blank))) ∙ (rw one at (some (omega arith)))))
-        | false ↦ λ e. let last : at ≡ end = omega (arith, ltb-false at end e) in last ∙ sym (first_none at last)
-      ])
-      refl
-
-  -- so it ends at the first place that another walk had come near to
-  pub first_walked :
-      (from far at : ℕ) → first_place test far end xs ≡ first_place test from end xs → at ≤ end →
-      first_place test at end xs ≡ first_place test far end xs → (1 ≤ end - at → some_of test (share at 1 xs) ≡ true) →
-      at ≡ first_place test from end xs
-  first_walked from far at passed h near some = first_alone at h some ∙ near ∙ passed
-
--- a walk from `from` on has come to `at`, and the first place is yet to come
-abbrev pub Passed : {A : Type 0} → (A → Bool) → ℕ → ℕ → List A → ℕ → Type 0
-Passed test from end xs at = (at ≤ end) × (first_place test at end xs ≡ first_place test from end xs)
-
 -- tests that agree on every element
 module _ {A : Type 0} (blank : A) (p q : A → Bool) (xs : List A) (same : (i : ℕ) → p (get_or xs i blank) ≡ q (get_or xs i blank)) where
   run_same : (n at : ℕ) → at + n ≤ length xs → run_until p (share at n xs) ≡ run_until q (share at n xs)
@@ -131,3 +107,37 @@ first_other bucket j at end times h room =
           (omega (arith, first_within outside (first_place inside (suc at) end times) end times below))
     ])
     refl
+
+-- ---- blocks
+
+module _ {A : Type 0} (test : A → Bool) where
+  none_joined : (xs ys : List A) → some_of test xs ≡ false → some_of test ys ≡ false → some_of test (xs ++ ys) ≡ false
+  unfolding some_of
+  none_joined [] ys e h = h
+  none_joined (x ∷ xs) ys e h =
+      (elim (test x) as (λ b. b || some_of test xs ≡ false → b || some_of test (xs ++ ys) ≡ false) [
+        | true ↦ λ g. g
+        | false ↦ λ g. none_joined xs ys g h
+      ]) e
+
+  chunk_at : (n k i : ℕ) (xs : List A) → i < k → get_or (first_chunks n k xs) i [] ≡ take n (drop (i * n) xs)
+  chunk_at n zero i xs h = absurd (omega arith)
+  chunk_at n (suc k) zero xs h =
+      let none : 0 * n ≡ 0 = omega arith in
+      rw none
+  chunk_at n (suc k) (suc i) xs h =
+      let more : suc i * n ≡ n + i * n = omega arith in
+      chunk_at n k i (drop n xs) (omega arith) ∙ rw (more, drop-drop (i * n) n xs)
+
+  -- no element of one block more passes
+  pub block_passed :
+      (n k i : ℕ) (xs : List A) → i < k → some_of test (take (i * n) xs) ≡ false →
+      some_of test (get_or (first_chunks n k xs) i []) ≡ false → some_of test (take (i * n + n) xs) ≡ false
+  block_passed n k i xs h before here =
+      rw (take-add (i * n) n xs) (none_joined (take (i * n) xs) (take n (drop (i * n) xs)) before (rw (chunk_at n k i xs h) at here))
+
+pub take_within : {A : Type 0} (m n : ℕ) (xs : List A) → m ≤ n → take m (take n xs) ≡ take m xs
+take_within zero n xs h = refl
+take_within (suc m) zero xs h = absurd (omega arith)
+take_within (suc m) (suc n) [] h = refl
+take_within (suc m) (suc n) (x ∷ xs) h = ap (λ (l : List _). x ∷ l) (take_within m n xs (omega arith))

@@ -1,118 +1,65 @@
 // A bucket's readings taken out of a share, in all six columns.
 #![tactic(auto)]
 
-ghost use Rattle.std.specs.Prelude.{◌≡◌, not, List, ℕ, ◌+◌, ◌<◌, ◌≤◌, ◌^◌, length};
-ghost use Rattle.std.proofs.lemmas.List.Edits.{sets};
+ghost use Rattle.std.specs.Prelude.{◌≡◌, true, false, not, List, ◌+◌, ◌<◌, ◌≤◌, ◌^◌, length};
 ghost use Rattle.store.specs.declared.Reading.{Reading};
 ghost use Rattle.store.specs.Sizes.{readings_per_line};
 ghost use Rattle.store.specs.Lists.{keep};
 ghost use Rattle.store.specs.Order.{is_in};
-ghost use Rattle.store.specs.Columns.{Columns, columns_of, store_length, rows_from};
-ghost use Rattle.store.specs.Parts.{share, with_rows_at, with_kept};
+ghost use Rattle.store.specs.Columns.{store_length, rows_from};
+ghost use Rattle.store.specs.Lent.{columns, SameLoans};
+ghost use Rattle.store.specs.Parts.{with_rows_at, with_kept};
+ghost use Rattle.store_places.specs.Places.{first_place, is_time_of};
 
-// Moves the n readings from `from` on down to `to` on: three columns.
-fn move_first(
-    ids: &mut [u32],
-    times: &mut [u32],
-    arrivals: &mut [u32],
-    from: usize,
-    to: usize,
-    n: usize,
-)
-    requires { let end : ℕ = from + n in
-        (to ≤ from) × (end ≤ length ids.old) × (end ≤ length times.old) × (end ≤ length arrivals.old) }
-    ensures { let moved : List ℕ → List ℕ = λ xs. sets xs to (share from n xs) in
-        (ids.new ≡ moved ids.old) × (times.new ≡ moved times.old)
-        × (arrivals.new ≡ moved arrivals.old) }
-{
-    store_compaction::move_u32(ids, from, to, n);
-    store_compaction::move_u32(times, from, to, n);
-    store_compaction::move_u32(arrivals, from, to, n);
-}
-
-// The other three.
-fn move_others(
-    values: &mut [i32],
-    kinds: &mut [u8],
-    meters: &mut [u8],
-    from: usize,
-    to: usize,
-    n: usize,
-)
-    requires { let end : ℕ = from + n in
-        (to ≤ from) × (end ≤ length values.old) × (end ≤ length kinds.old) × (end ≤ length meters.old) }
-    ensures { let moved : List ℕ → List ℕ = λ xs. sets xs to (share from n xs) in
-        (values.new ≡ sets values.old to (share from n values.old))
-        × (kinds.new ≡ moved kinds.old) × (meters.new ≡ moved meters.old) }
-{
-    store_compaction::move_i32(values, from, to, n);
-    store_compaction::move_u8(kinds, from, to, n);
-    store_compaction::move_u8(meters, from, to, n);
-}
+use store::Store;
 
 // Moves the n readings from `from` on down to `to` on; those that stand there already are left alone.
-fn move_run(
-    ids: &mut [u32],
-    times: &mut [u32],
-    values: &mut [i32],
-    arrivals: &mut [u32],
-    kinds: &mut [u8],
-    meters: &mut [u8],
-    from: usize,
-    to: usize,
-    n: usize,
-)
-    requires { let x : Columns = columns_of ids.old times.old values.old arrivals.old kinds.old meters.old in
-        (to ≤ from) × (from + n ≤ store_length x) }
-    ensures { let x : Columns =
-        columns_of ids.old times.old values.old arrivals.old kinds.old
-        meters.old in
-        let x' : Columns =
-        columns_of ids.new times.new values.new arrivals.new kinds.new
-        meters.new in
-        x' ≡ with_rows_at x to (rows_from x from n) }
+#[tactic(auto, unfolding(store::specs::Columns::store_length))]
+fn move_run(store: &mut Store<'_>, from: usize, to: usize, n: usize)
+    requires { (to ≤ from) × (from + n ≤ store_length (columns store.old)) }
+    ensures same_loans { SameLoans store.old store.new }
+    ensures moved { columns store.new ≡ with_rows_at (columns store.old) to (rows_from (columns store.old) from n) }
 {
     if to < from {
-        move_first(ids, times, arrivals, from, to, n);
-        move_others(values, kinds, meters, from, to, n);
+        store_compaction::move_down(store.ids, from, to, n);
+        store_compaction::move_down(store.times, from, to, n);
+        store_compaction::move_down(store.values, from, to, n);
+        store_compaction::move_down(store.arrivals, from, to, n);
+        store_compaction::move_down(store.kinds, from, to, n);
+        store_compaction::move_down(store.meters, from, to, n);
     }
+}
+
+// Where the first reading of bucket j from `from` on and before `end` is, and where behind it the next of another bucket.
+fn next_run(store: &Store<'_>, from: usize, end: usize, bucket: u32, j: u32) -> (usize, usize)
+    requires { (0 < bucket) × (from ≤ end) × (end ≤ length store.now.times.now) }
+    ensures within { (from ≤ result.0) × (result.0 ≤ result.1) × (result.1 ≤ end) }
+    ensures until { result.0 ≡ first_place (is_time_of true bucket j) from end store.now.times.now }
+    ensures next { result.1 ≡ first_place (is_time_of false bucket j) result.0 end store.now.times.now }
+{
+    let until = store_places::next_in(store.times, from, end, bucket, j);
+    let next = store_places::next_out(store.times, until, end, bucket, j);
+    (until, next)
 }
 
 // Takes bucket j's readings out of a share that keeps n readings from `base` on; the others keep their order. Returns how many they are.
 // Each run of readings that stay moves down as one.
-pub fn remove_bucket(
-    ids: &mut [u32],
-    times: &mut [u32],
-    values: &mut [i32],
-    arrivals: &mut [u32],
-    kinds: &mut [u8],
-    meters: &mut [u8],
-    base: usize,
-    n: usize,
-    bucket: u32,
-    j: u32,
-) -> usize
-    requires { let x : Columns = columns_of ids.old times.old values.old arrivals.old kinds.old meters.old in
-        (0 < bucket) × (n ≤ readings_per_line) × (base + n ≤ 2 ^ 16) × (base + n ≤ store_length x) }
-    ensures { let x : Columns =
-        columns_of ids.old times.old values.old arrivals.old kinds.old
-        meters.old in
-        let x' : Columns =
-        columns_of ids.new times.new values.new arrivals.new kinds.new
-        meters.new in
-        let kept : List Reading = keep (λ q. not (is_in bucket j q)) (rows_from x base n) in
-        (result ≡ length kept) × (x' ≡ with_kept x base n kept) }
+#[tactic(auto, unfolding(store::specs::Columns::store_length))]
+pub fn remove_bucket(store: &mut Store<'_>, base: usize, n: usize, bucket: u32, j: u32) -> usize
+    requires { (0 < bucket) × (n ≤ readings_per_line) × (base + n ≤ 2 ^ 16) × (base + n ≤ store_length (columns store.old)) }
+    ensures same_loans { SameLoans store.old store.new }
+    ensures kept { let kept : List Reading = keep (λ q. not (is_in bucket j q)) (rows_from (columns store.old) base n) in
+        (result ≡ length kept) × (columns store.new ≡ with_kept (columns store.old) base n kept) }
 {
     let end = base + n;
     let mut to = base;
     let mut from = base;
     while from < end {
-        let run = store_places::next_in(times, from, end, bucket, j);
-        let left = run - from;
-        move_run(ids, times, values, arrivals, kinds, meters, from, to, left);
-        to += left;
-        from = store_places::next_out(times, run, end, bucket, j);
+        let (until, next) = next_run(store, from, end, bucket, j);
+        move_run(store, from, to, until - from);
+        to += until - from;
+        from = next;
     }
-    store_columns::zero(ids, times, values, arrivals, kinds, meters, to, end);
+    store_columns::zero(store, to, end);
     to - base
 }

@@ -16,7 +16,7 @@ use Rattle.store.specs.Lists.{keep}
 use Rattle.store.specs.Columns.{Columns, store_length, row_at, rows, rows_from, zeroed}
 use Rattle.store.specs.Parts.{with_rows_at, with_kept}
 use Rattle.store.proofs.Columns.{Room, room, length_rows, row_at_lem, share_of_rows}
-use Rattle.store_slots.specs.declared.ClosedUp.TheVariants as ClosedUp
+use Rattle.std.proofs.Common.{Some}
 use Rattle.store_slots.specs.Slots.{placed_at, zeroed_from, closing_up, closed_slots}
 use Rattle.store_slots.proofs.Closing.{kept, kept_at_most}
 use Rattle.store_slots.proofs.Refusing.{is_other, has_share_lem, stay_count, closed_share}
@@ -124,8 +124,8 @@ rows_kept x base n bucket j m some inside enough =
 -- and how many stay
 pub stays_of_rows :
     (x : Columns) (base n bucket j m : ℕ) → 0 < bucket → base + n ≤ m →
-    ClosedUp.Stay (length (keep (is_other bucket j) (rows_from x base n))) ≡ closing_up base n bucket j (rows x m)
+    Some (length (keep (is_other bucket j) (rows_from x base n))) ≡ closing_up base n bucket j (rows x m)
 stays_of_rows x base n bucket j m some inside =
-    ap (λ (l : List Reading). ClosedUp.Stay (length (keep (is_other bucket j) l))) (sym (share_of_rows x base n m inside)) ∙
+    ap (λ (l : List Reading). Some (length (keep (is_other bucket j) l))) (sym (share_of_rows x base n m inside)) ∙
     stay_count base n bucket (rows x m) j
     (has_share_lem base n bucket (rows x m) some (omega (arith, length_rows x m)) (omega (arith, length_rows x m)))

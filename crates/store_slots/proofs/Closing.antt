@@ -5,7 +5,6 @@ use mathlib.Core.Bool.{Bool, true, false, cond}
 use mathlib.Core.List.{List, [], ◌∷◌, ◌++◌, append_assoc, append-nil}
 use Prim.Native.Nat.{ℕ, suc, ◌+◌, ◌-◌, ◌<◌, ◌≤◌}
 use native.Mathlib.Omega.{arith}
-use native.Mathlib.Numerals.{add-one}
 use lib.ListN.{length, get_or, set, take, drop, replicate, length-append, length-replicate, length-drop}
 use lib.Seq.{sets, take-suc, get_or-drop}
 use Rattle.store.specs.Lists.{keep}
@@ -105,13 +104,18 @@ module _ {A : Type 0} (test : A → Bool) where
           let r = get_or ys (base + i) blank in
           omega (arith, length-append (kept i) (r ∷ []), ap length (kept_stays i within (ap test (sym (closed_next i)) ∙ e)))
 
-    -- a turn, by what is known of the list and of the count before it
-    module _ (i k : ℕ) (l : List A) (within : base + i < length ys) (e : k ≡ length (kept i)) (f : l ≡ closed_run i) where
-      pub turn_stays :
-          test (get_or l (base + i) blank) ≡ true →
-          (k + 1 ≡ length (kept (i + 1))) × (set (set l (base + i) blank) (base + k) (get_or l (base + i) blank) ≡ closed_run (i + 1))
-      turn_stays t = let told = rw f at t in rw (add-one i, e, f) (count_stays i within told, closed_stays i within told)
+    -- a turn at a place, by what is known of the list and of the place that is free before it, and of the reading that is taken out
+    module _
+        (i at to next : ℕ) (l : List A) (here : at ≡ base + i) (then : next ≡ suc i) (within : at < length ys)
+        (e : to ≡ base + length (kept i)) (f : l ≡ closed_run i) (r left : A) (out : r ≡ get_or l at blank) (gone : left ≡ blank) where
+      pub turn_stays : test r ≡ true → (to + 1 ≡ base + length (kept next)) × (set (set l at left) to r ≡ closed_run next)
+      turn_stays t =
+          let told = rw (out, here, f) at t in
+          let inside : base + i < length ys = omega arith in
+          rw (out, gone, then, here, e, f) (omega (arith, count_stays i inside told), closed_stays i inside told)
 
-      pub turn_goes :
-          test (get_or l (base + i) blank) ≡ false → (k ≡ length (kept (i + 1))) × (set l (base + i) blank ≡ closed_run (i + 1))
-      turn_goes t = let told = rw f at t in rw (add-one i, e, f) (count_goes i within told, closed_goes i within told)
+      pub turn_goes : test r ≡ false → (to ≡ base + length (kept next)) × (set l at left ≡ closed_run next)
+      turn_goes t =
+          let told = rw (out, here, f) at t in
+          let inside : base + i < length ys = omega arith in
+          rw (gone, then, here, e, f) (omega (arith, count_goes i inside told), closed_goes i inside told)

@@ -10,7 +10,7 @@ use Rattle.clock.specs.Buckets.{bucket_of}
 use Rattle.store.specs.declared.Reading.{Reading}
 use Rattle.store.specs.Order.{is_in}
 use Rattle.store.specs.Columns.{zeroed}
-use Rattle.store_slots.specs.declared.ClosedUp.TheVariants as ClosedUp
+use Rattle.std.proofs.Common.{Some, None}
 use Rattle.store_slots.specs.Slots.{has_share, staying, closing_up, closed_slots}
 use Rattle.store_slots.proofs.Closing.{kept, closed_run}
 
@@ -47,7 +47,7 @@ module _ (base n bucket : ℕ) (ys : List Reading) where
     -- what becomes of a share that is there
     pub stay_count :
         has_share base n bucket ys ≡ true →
-        ClosedUp.Stay (length (kept (is_other bucket j) zeroed base ys n)) ≡ closing_up base n bucket j ys
+        Some (length (kept (is_other bucket j) zeroed base ys n)) ≡ closing_up base n bucket j ys
     unfolding closing_up staying
     stay_count e = rw e
 
@@ -56,7 +56,7 @@ module _ (base n bucket : ℕ) (ys : List Reading) where
     closed_share e = rw e
 
     -- and of one that is not
-    pub refused_count : has_share base n bucket ys ≡ false → ClosedUp.NoShare ≡ closing_up base n bucket j ys
+    pub refused_count : has_share base n bucket ys ≡ false → None ≡ closing_up base n bucket j ys
     unfolding closing_up
     refused_count e = rw e
 

@@ -1,12 +1,11 @@
 -- A store that is lent as a slice of readings (document 01, section 'Store and output area').
-use Rattle.std.specs.Prelude.{ℕ, ◌-◌, Bool, cond, not, ◌&&◌, List, ◌++◌, leb, ltb, length, set, replicate}
+use Rattle.std.specs.Prelude.{ℕ, ◌-◌, Option, Some, None, Bool, cond, not, ◌&&◌, List, ◌++◌, leb, ltb, length, set, replicate}
 use Rattle.std.proofs.lemmas.List.Edits.{sets}
 use Rattle.store.specs.declared.Reading.{Reading}
 use Rattle.store.specs.Lists.{keep}
 use Rattle.store.specs.Order.{is_in}
 use Rattle.store.specs.Columns.{zeroed}
 use Rattle.store.specs.Parts.{share}
-use Rattle.store_slots.specs.declared.ClosedUp.{ClosedUp}
 
 -- the slots have the place `at`
 unfoldable pub has_place : ℕ → List Reading → Bool
@@ -33,8 +32,8 @@ unfoldable pub staying : ℕ → ℕ → ℕ → ℕ → List Reading → List R
 staying base n bucket j xs = keep (λ (r : Reading). not (is_in bucket j r)) (share base n xs)
 
 -- how many they are, or that there is no such share
-unfoldable pub closing_up : ℕ → ℕ → ℕ → ℕ → List Reading → ClosedUp
-closing_up base n bucket j xs = cond (has_share base n bucket xs) (ClosedUp.Stay (length (staying base n bucket j xs))) ClosedUp.NoShare
+unfoldable pub closing_up : ℕ → ℕ → ℕ → ℕ → List Reading → Option ℕ
+closing_up base n bucket j xs = cond (has_share base n bucket xs) (Some (length (staying base n bucket j xs))) None
 
 -- the share closed up, if it is there: those that stay in front, in order, and exactly the places given up zeroed
 unfoldable pub closed_slots : ℕ → ℕ → ℕ → ℕ → List Reading → List Reading

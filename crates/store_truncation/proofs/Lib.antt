@@ -1,3 +1,2 @@
--- Laws on a share cut above an id.
-pub mod UpTo
-pub mod CutRows
+-- A law on a share that is cut above an id.
+mod CutRows

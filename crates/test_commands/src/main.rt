@@ -9,9 +9,9 @@ fn show(rt: HostRuntime, word: &str, display: u32, id: u64) {
 
 fn judge(rt: HostRuntime, text: &[u8]) {
     match commands::read_command(text) {
-        Command::Acknowledge(display, id) => show(rt, "ack", display, id),
-        Command::Fetch(display, id) => show(rt, "fetch", display, id),
-        Command::None => {
+        Some(Command::Acknowledge(display, id)) => show(rt, "ack", display, id),
+        Some(Command::Fetch(display, id)) => show(rt, "fetch", display, id),
+        None => {
             let _ = println!(rt; "none");
         }
     }

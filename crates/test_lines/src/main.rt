@@ -24,21 +24,19 @@
 
 ghost use Rattle.std.specs.Prelude.{◌≤◌, length};
 
-use fields::Written;
-use journal::{Call, CallRead};
-use settings::SettingsRead;
+use answer::Refusal;
+use journal::Call;
 use std::io::Read;
 
 // Document 01's number of what the settings reader answers.
-fn settings_answer(text: &[u8]) -> u64 {
+fn settings_answer(text: &[u8]) -> u32 {
     match settings::read_settings(text) {
-        SettingsRead::Accepted(_) => 0,
-        SettingsRead::Malformed => 1,
-        SettingsRead::OutsideLimits => 2,
+        Ok(_) => 0,
+        Err(refusal) => refusal.number(),
     }
 }
 
-fn print_answers(rt: HostRuntime, settings: u64, journal: u64) {
+fn print_answers(rt: HostRuntime, settings: u32, journal: u32) {
     let _ = println!(rt; "settings={settings} journal={journal}");
 }
 
@@ -51,13 +49,15 @@ fn print_text(rt: HostRuntime, area: &[u8], n: usize) {
     }
 }
 
-// The line that the writer makes of a call.
+// The line that the writer makes of a call, or the number of its refusal.
 fn print_call(rt: HostRuntime, call: Call) {
     let mut area = [0u8; journal_text::LONGEST_JOURNAL_LINE];
     match journal_text::write_call(call, &mut area) {
-        Written::Text(n) => print_text(rt, &area, n),
-        Written::ShortArea => print_text(rt, b"5\n", 2),
-        Written::Malformed => print_text(rt, b"6\n", 2),
+        Ok(n) => print_text(rt, &area, n),
+        Err(refusal) => {
+            let number = refusal.number();
+            let _ = println!(rt; "{number}");
+        }
     }
 }
 
@@ -65,20 +65,20 @@ fn print_call(rt: HostRuntime, call: Call) {
 fn judge(rt: HostRuntime, text: &[u8]) {
     let settings = settings_answer(text);
     match journal::read_call(text) {
-        CallRead::Accepted(call) => {
+        Some(call) => {
             print_answers(rt, settings, 0);
             print_call(rt, call);
         }
-        CallRead::Malformed => print_answers(rt, settings, 6),
+        None => print_answers(rt, settings, Refusal::Malformed.number()),
     }
 }
 
 fn judge_lines(rt: HostRuntime, text: &[u8]) {
-    let mut at = 0;
-    while at < text.len() {
-        let line = fields::next_line(&text[at..]);
+    let mut rest = text;
+    while !rest.is_empty() {
+        let line = fields::next_line(rest);
         judge(rt, line);
-        at += line.len();
+        rest = &rest[line.len()..];
     }
 }
 

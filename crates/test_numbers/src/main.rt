@@ -6,26 +6,21 @@
 // `stdout` stand in the order of the calls:
 //
 // 1. `clocks`: bucket_of, bucket_end, is_finished, is_due, closes_window, window_start.
-// 2. `signs`: mean_of, magnitude, bits32, bits64, signed32, signed64.
-// 3. `words`: put4 and put8 over an area of bytes aa, and what get4 and get8 read there.
+// 2. `signs`: mean_of, magnitude, the words of 32 and 64 bits of signed numbers, and back.
+// 3. `words`: words of 4 and 8 bytes put over an area of bytes aa, and what is read there.
 #![tactic(auto)]
 
 mod clocks;
 mod signs;
-mod text;
 mod words;
 
 fn main(rt: HostRuntime) {
     clocks::buckets(rt);
     clocks::ends(rt);
-    clocks::ends_of_longer(rt);
     clocks::finished(rt);
-    clocks::finished_longer(rt);
     clocks::holds(rt);
     clocks::windows(rt);
-    clocks::windows_further(rt);
     clocks::starts(rt);
-    clocks::starts_of_longer(rt);
     signs::means(rt);
     signs::means_of_odd_counts(rt);
     signs::means_of_even_counts(rt);

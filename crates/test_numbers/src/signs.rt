@@ -1,49 +1,17 @@
 // Signed numbers: mean, magnitude and two's complement.
 ghost use Rattle.signed.specs.Range.{InRange};
 
-use crate::text::{answer_integer, answer_number, print, print_integer, print_number, widen};
+use signed::Signed;
 
 fn mean_of(rt: HostRuntime, sum: i64, count: u32)
     requires { InRange sum count }
 {
-    print(rt, b"mean_of(");
-    print_integer(rt, sum);
-    print(rt, b", ");
-    print_number(rt, count as u64);
-    answer_integer(rt, widen(signed::mean_of(sum, count)));
+    let mean = signed::mean_of(sum, count);
+    let _ = println!(rt; "mean_of({sum}, {count}) = {mean}");
 }
 
-fn magnitude(rt: HostRuntime, x: i64) {
-    print(rt, b"magnitude(");
-    print_integer(rt, x);
-    answer_number(rt, signed::magnitude(x));
-}
-
-fn bits32(rt: HostRuntime, x: i32) {
-    print(rt, b"bits32(");
-    print_integer(rt, widen(x));
-    answer_number(rt, signed::bits32(x) as u64);
-}
-
-fn bits64(rt: HostRuntime, x: i64) {
-    print(rt, b"bits64(");
-    print_integer(rt, x);
-    answer_number(rt, signed::bits64(x));
-}
-
-fn signed32(rt: HostRuntime, word: u32) {
-    print(rt, b"signed32(");
-    print_number(rt, word as u64);
-    answer_integer(rt, widen(signed::signed32(word)));
-}
-
-fn signed64(rt: HostRuntime, word: u64) {
-    print(rt, b"signed64(");
-    print_number(rt, word);
-    answer_integer(rt, signed::signed64(word));
-}
-
-// mean_of(rt, sum, count): the papers' five examples, then halves.
+// The papers' five examples, then halves. A call for each, and no table of them: that a sum is in range is found from the numbers at a
+// call, and not of each item of a loop.
 pub(crate) fn means(rt: HostRuntime) {
     mean_of(rt, 5, 2);
     mean_of(rt, -5, 2);
@@ -86,7 +54,7 @@ pub(crate) fn means_of_even_counts(rt: HostRuntime) {
     mean_of(rt, -21, 6);
 }
 
-// mean_of(rt, sum, count) at the ends of the range, of one value and of as many as a state can count; half a step inside and a little more.
+// At the ends of the range, of one value and of as many as a state can count; half a step inside and a little more.
 pub(crate) fn means_at_the_ends(rt: HostRuntime) {
     mean_of(rt, 2147483647, 1);
     mean_of(rt, -2147483648, 1);
@@ -115,46 +83,52 @@ pub(crate) fn means_at_the_far_ends(rt: HostRuntime) {
 }
 
 pub(crate) fn magnitudes(rt: HostRuntime) {
-    magnitude(rt, 0);
-    magnitude(rt, 1);
-    magnitude(rt, -1);
-    magnitude(rt, 9223372036854775807);
-    magnitude(rt, -9223372036854775807);
-    magnitude(rt, -9223372036854775808);
+    for x in [
+        0,
+        1,
+        -1,
+        9223372036854775807,
+        -9223372036854775807,
+        -9223372036854775808,
+    ] {
+        let _ = println!(rt; "magnitude({x}) = {}", signed::magnitude(x));
+    }
 }
 
 pub(crate) fn words32(rt: HostRuntime) {
-    bits32(rt, 0);
-    bits32(rt, 1);
-    bits32(rt, -1);
-    bits32(rt, 2147483647);
-    bits32(rt, -2147483647);
-    bits32(rt, -2147483648);
+    for x in [0, 1, -1, 2147483647, -2147483647, -2147483648] {
+        let _ = println!(rt; "bits32({x}) = {}", i32::to_word(x));
+    }
 }
 
 pub(crate) fn words64(rt: HostRuntime) {
-    bits64(rt, 0);
-    bits64(rt, 1);
-    bits64(rt, -1);
-    bits64(rt, 9223372036854775807);
-    bits64(rt, -9223372036854775807);
-    bits64(rt, -9223372036854775808);
+    for x in [
+        0,
+        1,
+        -1,
+        9223372036854775807,
+        -9223372036854775807,
+        -9223372036854775808,
+    ] {
+        let _ = println!(rt; "bits64({x}) = {}", i64::to_word(x));
+    }
 }
 
 pub(crate) fn numbers32(rt: HostRuntime) {
-    signed32(rt, 0);
-    signed32(rt, 1);
-    signed32(rt, 2147483647);
-    signed32(rt, 2147483648);
-    signed32(rt, 2147483649);
-    signed32(rt, 4294967295);
+    for word in [0, 1, 2147483647, 2147483648, 2147483649, 4294967295] {
+        let _ = println!(rt; "signed32({word}) = {}", i32::from_word(word));
+    }
 }
 
 pub(crate) fn numbers64(rt: HostRuntime) {
-    signed64(rt, 0);
-    signed64(rt, 1);
-    signed64(rt, 9223372036854775807);
-    signed64(rt, 9223372036854775808);
-    signed64(rt, 9223372036854775809);
-    signed64(rt, 18446744073709551615);
+    for word in [
+        0,
+        1,
+        9223372036854775807,
+        9223372036854775808,
+        9223372036854775809,
+        18446744073709551615,
+    ] {
+        let _ = println!(rt; "signed64({word}) = {}", i64::from_word(word));
+    }
 }

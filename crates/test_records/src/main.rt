@@ -18,46 +18,34 @@ ghost use Rattle.std.specs.Prelude.{◌≤◌, ◌<◌};
 
 mod records;
 
-use fields::Written;
-use record::{Decoded, Record};
-
-fn print(rt: HostRuntime, text: &[u8]) {
-    let _ = rt.write_all(text);
-}
-
-fn print_number(rt: HostRuntime, n: u64) {
-    let _ = print!(rt; "{n}");
-}
-
-// A byte in hexadecimal, behind a space.
-fn print_byte(rt: HostRuntime, b: u8) {
-    let _ = print!(rt; " {b:02x}");
-}
+use answer::Refusal;
+use clock::ReadingTime;
+use record::Record;
 
 fn print_bytes(rt: HostRuntime, bytes: &[u8]) {
-    let mut i = 0;
-    while i < bytes.len() {
-        print_byte(rt, bytes[i]);
-        i += 1;
+    for b in bytes {
+        let _ = print!(rt; " {b:02x}");
     }
+}
+
+// A name, bytes in hexadecimal, each behind a space, and the line's end.
+fn print_line(rt: HostRuntime, name: &str, bytes: &[u8]) {
+    let _ = print!(rt; "{name}");
+    print_bytes(rt, bytes);
+    let _ = println!(rt; "");
 }
 
 // Document 01's number of what the writer of a text answers, and the text's length.
-fn print_written(rt: HostRuntime, answer: Written) {
-    match answer {
-        Written::Text(n) => {
-            print(rt, b"answer=0 length=");
-            print_number(rt, n as u64);
-            print(rt, b"\n");
-        }
-        Written::ShortArea => print(rt, b"answer=5\n"),
-        Written::Malformed => print(rt, b"answer=6\n"),
-    }
+fn print_written(rt: HostRuntime, answer: Result<usize, Refusal>) {
+    let _ = match answer {
+        Ok(n) => println!(rt; "answer=0 length={n}"),
+        Err(refusal) => println!(rt; "answer={}", refusal.number()),
+    };
 }
 
 fn print_row(rt: HostRuntime, row: &[u8; 125]) {
-    print(rt, row);
-    print(rt, b"\n");
+    let _ = rt.write_all(row);
+    let _ = println!(rt; "");
 }
 
 // What the writer of a text answers on these bytes where it is lent the first `room` dots of a row of 125, and that row afterwards.
@@ -70,40 +58,27 @@ fn text_into(rt: HostRuntime, bytes: &[u8], room: usize)
     print_row(rt, &row);
 }
 
-fn print_truth(rt: HostRuntime, yes: bool) {
-    if yes {
-        print(rt, b"true");
-    } else {
-        print(rt, b"false");
-    }
-}
-
 // What kinds a letter is one of.
 fn kinds_of(rt: HostRuntime, letter: u8) {
-    print(rt, b"kind");
-    print_byte(rt, letter);
-    print(rt, b" stable=");
-    print_truth(rt, record::is_stable(letter));
-    print(rt, b" tentative=");
-    print_truth(rt, record::is_tentative(letter));
-    print(rt, b" result=");
-    print_truth(rt, record::is_result(letter));
-    print(rt, b"\n");
+    let stable = record::is_stable(letter);
+    let tentative = record::is_tentative(letter);
+    let result = record::is_result(letter);
+    let _ = println!(rt; "kind {letter:02x} stable={stable} tentative={tentative} result={result}");
 }
 
 fn print_laid(rt: HostRuntime, r: Record) {
     let mut space = [0u8; 32];
     record::put_record(&mut space, r);
-    print(rt, b"decoded");
-    print_bytes(rt, &space);
-    print(rt, b"\n");
+    print_line(rt, "decoded", &space);
 }
 
 // The bytes of the record that bytes are decoded as.
 fn print_decoded(rt: HostRuntime, bytes: &[u8]) {
     match record::decode(bytes) {
-        Decoded::Is(r) => print_laid(rt, r),
-        Decoded::Malformed => print(rt, b"decoded none\n"),
+        Some(r) => print_laid(rt, r),
+        None => {
+            let _ = println!(rt; "decoded none");
+        }
     }
 }
 
@@ -111,19 +86,17 @@ fn print_decoded(rt: HostRuntime, bytes: &[u8]) {
 fn show(rt: HostRuntime, r: Record) {
     let mut space = [170u8; 34];
     record::put_record(&mut space, r);
-    print(rt, b"bytes");
-    print_bytes(rt, &space);
-    print(rt, b"\n");
+    print_line(rt, "bytes", &space);
     print_decoded(rt, &space[0..32]);
     text_into(rt, &space[0..32], 125);
 }
 
 fn show_listing(rt: HostRuntime) {
     show(rt, records::tentative());
-    show(rt, records::mark(record::UNDO, 0, 0));
+    show(rt, record::marker(record::UNDO, 0, ReadingTime(0)));
     show(rt, records::stable());
-    show(rt, records::mark(record::BOUNDARY, 0, 100));
-    show(rt, records::mark(record::DONE, 0, 0));
+    show(rt, record::marker(record::BOUNDARY, 0, ReadingTime(100)));
+    show(rt, record::marker(record::DONE, 0, ReadingTime(0)));
 }
 
 fn show_ends(rt: HostRuntime) {
@@ -134,16 +107,17 @@ fn show_ends(rt: HostRuntime) {
 }
 
 fn print_area(rt: HostRuntime, area: &[u8; 66]) {
-    print(rt, b"bytes");
-    print_bytes(rt, area);
-    print(rt, b"\n");
+    print_line(rt, "bytes", area);
 }
 
 // Two records, the second laid over the part of the area behind the first.
 fn show_two(rt: HostRuntime) {
     let mut space = [170u8; 66];
     record::put_record(&mut space, records::stable());
-    record::put_record(&mut space[32..], records::mark(record::BOUNDARY, 0, 100));
+    record::put_record(
+        &mut space[32..],
+        record::marker(record::BOUNDARY, 0, ReadingTime(100)),
+    );
     print_area(rt, &space);
 }
 
@@ -153,9 +127,7 @@ fn show_in(rt: HostRuntime, r: Record, room: usize)
 {
     let mut bytes = [0u8; 32];
     record::put_record(&mut bytes, r);
-    print(rt, b"room ");
-    print_number(rt, room as u64);
-    print(rt, b"\n");
+    let _ = println!(rt; "room {room}");
     text_into(rt, &bytes, room);
 }
 
@@ -171,15 +143,7 @@ fn show_rooms(rt: HostRuntime) {
 }
 
 fn print_change(rt: HostRuntime, at: usize, byte: u8, n: usize, room: usize) {
-    print(rt, b"byte ");
-    print_number(rt, at as u64);
-    print(rt, b" is");
-    print_byte(rt, byte);
-    print(rt, b", bytes ");
-    print_number(rt, n as u64);
-    print(rt, b", room ");
-    print_number(rt, room as u64);
-    print(rt, b"\n");
+    let _ = println!(rt; "byte {at} is {byte:02x}, bytes {n}, room {room}");
 }
 
 // What the first n bytes are decoded as, and what text they get.

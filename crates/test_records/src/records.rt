@@ -2,20 +2,6 @@
 use clock::ReadingTime;
 use record::Record;
 
-// A U, B or R.
-pub(crate) fn mark(kind: u8, id: u32, time: u32) -> Record {
-    Record {
-        sum: 0,
-        id: id,
-        time: ReadingTime(time),
-        count: 0,
-        mean: 0,
-        last: 0,
-        kind: kind,
-        meter: 0,
-    }
-}
-
 // The first tentative result of the listing.
 pub(crate) fn tentative() -> Record {
     Record {

@@ -1,2 +1,2 @@
 -- What the proofs here share.
-mod Eight
+pub mod Eight

@@ -131,7 +131,7 @@ fn every_fault_gets_its_refusal() {
     }
 }
 
-/// At every bound of the lent arrays no refusal fits, one past it refusal 4; what is junk does not matter.
+/// At every bound of meters and heads no refusal fits, one past it refusal 4; what is junk does not matter.
 #[test]
 fn every_edge_gets_its_answer() {
     let mut random = Random::new(4);

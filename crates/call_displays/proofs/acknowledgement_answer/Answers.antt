@@ -1,21 +1,18 @@
--- `call_displays::acknowledgement_answer` meets its contract: the display first, then the id.
-use Rattle.std.proofs.Common.{ap, not}
-use Rattle.call_displays.proofs.Answers.{acknowledgement_by_none, acknowledgement_of_wrong, acknowledgement_answered}
+-- `call_displays::acknowledgement_answer` meets its contract: its two tests in their order.
+use Rattle.std.proofs.Common.{rules}
+use Rattle.protocol.specs.Tests.{first_failed}
+use Rattle.protocol.specs.Displays.{answer_to_acknowledgement, wrong_display, wrong_acknowledgement, last_of}
+use Rattle.call_displays.proofs.Answers.{last_known}
 use Rattle.call_displays.proofs.acknowledgement_answer.Goals as goal
 
-pub returns-then-not-display-displays : goal.returns-then-not-display-displays
-returns-then-not-display-displays c s n same own known =
-    let a = c.args in
-    acknowledgement_by_none s n a.displays a.newest a.display a.id same known (ap not c.if-not-display-displays.true)
+pub returns-then-display-state : goal.returns-then-display-state
+unfolding answer_to_acknowledgement wrong_display wrong_acknowledgement last_of first_failed
+returns-then-display-state c = search (rules, last_known)
 
 pub returns-then-id-last : goal.returns-then-id-last
-returns-then-id-last c s n same own known =
-    let a = c.args in
-    acknowledgement_of_wrong s n a.displays a.newest a.display a.id same known a.acknowledged own
-    (ap not c.if-not-display-displays.false) c.if-id-last.true
+unfolding answer_to_acknowledgement wrong_display wrong_acknowledgement last_of first_failed
+returns-then-id-last c = search (rules, last_known)
 
 pub returns : goal.returns
-returns c s n same own known =
-    let a = c.args in
-    acknowledgement_answered s n a.displays a.newest a.display a.id same known a.acknowledged own
-    (ap not c.if-not-display-displays.false) c.if-id-last.false
+unfolding answer_to_acknowledgement wrong_display wrong_acknowledgement last_of first_failed
+returns c = search (rules, last_known)

@@ -1,184 +1,106 @@
--- `call_displays::fetch` meets its contract: each way out is the law of what was refused first, or of what is laid down.
-use Rattle.std.proofs.Common.{◌≡◌, refl, sym, ◌∙◌, ap, List, [], ℕ, ℤ, ◌+◌, ◌-◌, ◌≤◌, arith}
-use Prim.Native.Nat.{min}
-use Rattle.store.specs.Columns.{columns_of}
-use Rattle.retransmission.specs.Sizes.{fetch_limit}
-use Rattle.protocol.specs.Displays.{given_up_to, answer_to_fetch}
-use Rattle.protocol.proofs.Displays.{fetch_fits}
-use Rattle.node.specs.Held.{Held, arrays_of, held}
-use Rattle.node.specs.View.{Lent, lent_of, view}
-use Rattle.node.specs.declared.CallReply.{CallReply}
-use Rattle.node.specs.Calls.{called_of}
-use Rattle.node.proofs.Calls.{HostPassed, host_passed}
+-- `call_displays::fetch` meets its contract: each way out is the law of what was refused first, or of what stands at the places.
+use Rattle.std.proofs.Common.{◌≡◌, ℕ, refl, sym, ◌∙◌, ap, Err, Result, arith, rules}
+use Rattle.answer.specs.declared.Refusal.{Refusal}
+use Rattle.protocol.specs.Displays.{given_up_to}
+use Rattle.protocol.proofs.Displays.{FetchFits, fetch_fits}
+use Rattle.node.specs.Held.{Held, held}
+use Rattle.node.specs.View.{Lent, lent, view}
+use Rattle.node.specs.Calls.{called_of, records_of}
+use Rattle.node.proofs.Replies.{refused_called}
 use Rattle.call_displays.proofs.Calls.{Ready, ready, fetch_host_refused, fetch_refused, fetch_done}
 use Rattle.call_displays.proofs.fetch.Goals as goal
-use Rattle.call_displays.proofs.fetch.Goals.{then-n-gt-FETCH_LIMIT, else-n-gt-FETCH_LIMIT}
 
-record Fetched (newest from : ℕ) : Type 0 where
-  pub some : 1 ≤ from
-  pub near : from ≤ newest + 1
-
-fetched :
-    (st : Held) (x : Lent) (display from : ℕ) → answer_to_fetch st.settings (view st x.readings) display from ≡ 0 →
-    Fetched st.checkpoint.number from
-unfolding view
-fetched st x display from e =
-    let f = fetch_fits st.settings (view st x.readings) display from e in
-    record { some = omega (arith, f.held); near = omega (arith, f.near) }
-
-pub returns-then-host-ne0 : goal.returns-then-host-ne0
-returns-then-host-ne0 c lasts =
+pub returns-in_err-host_refusal : goal.returns-in_err-host_refusal
+returns-in_err-host_refusal c =
     let a = c.args in
-    let x : Lent =
-    lent_of (columns_of a.ids.now a.times.now a.values.now a.arrivals.now a.kinds.now a.meters.now) a.sent.now in
-    let whole : List (List ℤ) → Held =
-    λ lasts. held a.state (arrays_of a.counts.now a.sums.now lasts a.heads.now) in
-    ap (λ (r : CallReply). called_of r (arrays_of a.counts.now a.sums.now lasts a.heads.now) x a.area.now) c.refused.ensures ∙
-    fetch_host_refused (whole lasts) x a.area.now a.display a.from
-    (c.host_refusal-host.ensures lasts a.area.now refl) c.if-host-ne0.true
+    let refusal = c.in_err-host_refusal.field-0.0 in
+    let same : c.from_residual.result ≡ Err refusal = search rules in
+    ap (λ (r : Result ℕ Refusal). called_of r a.state.now a.stores.now a.area.now) same ∙
+    refused_called refusal a.state.now a.stores.now a.area.now ∙
+    fetch_host_refused (held a.state.now) (lent a.stores.now) a.area.now a.display a.from refusal
+    (c.in_err-host_refusal.ensures a.area.now refl)
+
+pub shared_ref_as_front-least : goal.shared_ref_as_front-least
+shared_ref_as_front-least c =
+    let a = c.args in
+    let r : Ready (held a.state.now) (lent a.stores.now) a.area.now =
+    ready (held a.state.now) (lent a.stores.now) a.area.now (search rules) (c.in_ok-host_refusal.ensures a.area.now refl) in
+    omega (arith, r.few)
 
 pub least-least-requires : goal.least-least-requires
 least-least-requires c =
     let a = c.args in
-    let x : Lent =
-    lent_of (columns_of a.ids.now a.times.now a.values.now a.arrivals.now a.kinds.now a.meters.now) a.sent.now in
-    let whole : List (List ℤ) → Held =
-    λ lasts. held a.state (arrays_of a.counts.now a.sums.now lasts a.heads.now) in
-    let passed : (lasts : List (List ℤ)) → HostPassed (whole lasts) x a.area.now =
-    λ lasts. host_passed (whole lasts) x a.area.now
-    (sym (c.host_refusal-host.ensures lasts a.area.now refl) ∙ c.if-host-ne0.false) in
-    let within : Ready (whole []) = ready (whole []) x a.area.now (passed []) in
-    (omega (arith, within.some), omega (arith, within.few))
+    let r : Ready (held a.state.now) (lent a.stores.now) a.area.now =
+    ready (held a.state.now) (lent a.stores.now) a.area.now (search rules) (c.in_ok-host_refusal.ensures a.area.now refl) in
+    r.some
 
-pub fetch_answer-answer-requires : goal.fetch_answer-answer-requires
-fetch_answer-answer-requires c =
+pub fetch_answer-requires : goal.fetch_answer-requires
+fetch_answer-requires c =
     let a = c.args in
-    let x : Lent =
-    lent_of (columns_of a.ids.now a.times.now a.values.now a.arrivals.now a.kinds.now a.meters.now) a.sent.now in
-    let whole : List (List ℤ) → Held =
-    λ lasts. held a.state (arrays_of a.counts.now a.sums.now lasts a.heads.now) in
-    let passed : (lasts : List (List ℤ)) → HostPassed (whole lasts) x a.area.now =
-    λ lasts. host_passed (whole lasts) x a.area.now
-    (sym (c.host_refusal-host.ensures lasts a.area.now refl) ∙ c.if-host-ne0.false) in
-    let within : Ready (whole []) = ready (whole []) x a.area.now (passed []) in
-    within.newest
+    let r : Ready (held a.state.now) (lent a.stores.now) a.area.now =
+    ready (held a.state.now) (lent a.stores.now) a.area.now (search rules) (c.in_ok-host_refusal.ensures a.area.now refl) in
+    r.newest
 
-pub returns-then-answer-ne0 : goal.returns-then-answer-ne0
+pub returns-in_err-fetch_answer : goal.returns-in_err-fetch_answer
 unfolding view given_up_to
-returns-then-answer-ne0 c lasts =
+returns-in_err-fetch_answer c =
     let a = c.args in
-    let x : Lent =
-    lent_of (columns_of a.ids.now a.times.now a.values.now a.arrivals.now a.kinds.now a.meters.now) a.sent.now in
-    let whole : List (List ℤ) → Held =
-    λ lasts. held a.state (arrays_of a.counts.now a.sums.now lasts a.heads.now) in
-    let passed : (lasts : List (List ℤ)) → HostPassed (whole lasts) x a.area.now =
-    λ lasts. host_passed (whole lasts) x a.area.now
-    (sym (c.host_refusal-host.ensures lasts a.area.now refl) ∙ c.if-host-ne0.false) in
-    let own : List (List ℤ) → ℕ =
-    λ lasts. answer_to_fetch a.state.settings (view (whole lasts) x.readings) a.display a.from in
-    let answered : (lasts : List (List ℤ)) → c.fetch_answer-answer.result ≡ own lasts =
-    λ lasts. c.fetch_answer-answer.ensures a.state.settings (view (whole lasts) x.readings) refl (sym c.least-least.ensures) refl in
-    ap (λ (r : CallReply). called_of r (arrays_of a.counts.now a.sums.now lasts a.heads.now) x a.area.now) c.refused-then-answer-ne0.ensures ∙
-    fetch_refused (whole lasts) x a.area.now a.display a.from (passed lasts) (answered lasts) c.if-answer-ne0.true
+    let st : Held = held a.state.now in
+    let x : Lent = lent a.stores.now in
+    let r : Ready st x a.area.now = ready st x a.area.now (search rules) (c.in_ok-host_refusal.ensures a.area.now refl) in
+    let refusal = c.in_err-fetch_answer.field-0.0 in
+    let same : c.from_residual-in_err-fetch_answer.result ≡ Err refusal = search rules in
+    ap (λ (r : Result ℕ Refusal). called_of r a.state.now a.stores.now a.area.now) same ∙
+    refused_called refusal a.state.now a.stores.now a.area.now ∙
+    fetch_refused st x a.area.now a.display a.from r.host refusal
+    (c.in_err-fetch_answer.ensures st.settings (view st x.readings) refl (sym c.least-least.ensures) refl)
 
-pub overflow_add-n : goal.overflow_add-n
-overflow_add-n c =
+pub overflow_add-newest : goal.overflow_add-newest
+overflow_add-newest c =
     let a = c.args in
-    let x : Lent =
-    lent_of (columns_of a.ids.now a.times.now a.values.now a.arrivals.now a.kinds.now a.meters.now) a.sent.now in
-    let whole : List (List ℤ) → Held =
-    λ lasts. held a.state (arrays_of a.counts.now a.sums.now lasts a.heads.now) in
-    let passed : (lasts : List (List ℤ)) → HostPassed (whole lasts) x a.area.now =
-    λ lasts. host_passed (whole lasts) x a.area.now
-    (sym (c.host_refusal-host.ensures lasts a.area.now refl) ∙ c.if-host-ne0.false) in
-    let within : Ready (whole []) = ready (whole []) x a.area.now (passed []) in
-    omega (arith, within.newest)
+    let r : Ready (held a.state.now) (lent a.stores.now) a.area.now =
+    ready (held a.state.now) (lent a.stores.now) a.area.now (search rules) (c.in_ok-host_refusal.ensures a.area.now refl) in
+    omega (arith, r.newest)
 
-pub overflow_sub-n : goal.overflow_sub-n
+pub overflow_sub-newest : goal.overflow_sub-newest
 unfolding view given_up_to
-overflow_sub-n c =
+overflow_sub-newest c =
     let a = c.args in
-    let x : Lent =
-    lent_of (columns_of a.ids.now a.times.now a.values.now a.arrivals.now a.kinds.now a.meters.now) a.sent.now in
-    let whole : List (List ℤ) → Held =
-    λ lasts. held a.state (arrays_of a.counts.now a.sums.now lasts a.heads.now) in
-    let passed : (lasts : List (List ℤ)) → HostPassed (whole lasts) x a.area.now =
-    λ lasts. host_passed (whole lasts) x a.area.now
-    (sym (c.host_refusal-host.ensures lasts a.area.now refl) ∙ c.if-host-ne0.false) in
-    let own : List (List ℤ) → ℕ =
-    λ lasts. answer_to_fetch a.state.settings (view (whole lasts) x.readings) a.display a.from in
-    let answered : (lasts : List (List ℤ)) → c.fetch_answer-answer.result ≡ own lasts =
-    λ lasts. c.fetch_answer-answer.ensures a.state.settings (view (whole lasts) x.readings) refl (sym c.least-least.ensures) refl in
-    let accepted : (lasts : List (List ℤ)) → own lasts ≡ 0 = λ lasts. sym (answered lasts) ∙ c.if-answer-ne0.false in
-    let fits : Fetched a.state.last_stable a.from = fetched (whole []) x a.display a.from (accepted []) in
-    fits.near
+    let n = view (held a.state.now) (lent a.stores.now).readings in
+    let fits : FetchFits a.state.now.settings n a.display a.from =
+    fetch_fits a.state.now.settings n a.display a.from
+    (sym (c.in_ok-fetch_answer.ensures a.state.now.settings n refl (sym c.least-least.ensures) refl)) in
+    omega (arith, fits.near)
 
 pub overflow_sub-from : goal.overflow_sub-from
 unfolding view given_up_to
 overflow_sub-from c =
     let a = c.args in
-    let x : Lent =
-    lent_of (columns_of a.ids.now a.times.now a.values.now a.arrivals.now a.kinds.now a.meters.now) a.sent.now in
-    let whole : List (List ℤ) → Held =
-    λ lasts. held a.state (arrays_of a.counts.now a.sums.now lasts a.heads.now) in
-    let passed : (lasts : List (List ℤ)) → HostPassed (whole lasts) x a.area.now =
-    λ lasts. host_passed (whole lasts) x a.area.now
-    (sym (c.host_refusal-host.ensures lasts a.area.now refl) ∙ c.if-host-ne0.false) in
-    let own : List (List ℤ) → ℕ =
-    λ lasts. answer_to_fetch a.state.settings (view (whole lasts) x.readings) a.display a.from in
-    let answered : (lasts : List (List ℤ)) → c.fetch_answer-answer.result ≡ own lasts =
-    λ lasts. c.fetch_answer-answer.ensures a.state.settings (view (whole lasts) x.readings) refl (sym c.least-least.ensures) refl in
-    let accepted : (lasts : List (List ℤ)) → own lasts ≡ 0 = λ lasts. sym (answered lasts) ∙ c.if-answer-ne0.false in
-    let fits : Fetched a.state.last_stable a.from = fetched (whole []) x a.display a.from (accepted []) in
-    fits.some
+    let n = view (held a.state.now) (lent a.stores.now).readings in
+    let fits : FetchFits a.state.now.settings n a.display a.from =
+    fetch_fits a.state.now.settings n a.display a.from
+    (sym (c.in_ok-fetch_answer.ensures a.state.now.settings n refl (sym c.least-least.ensures) refl)) in
+    omega (arith, fits.held)
 
 pub copy_out-requires : goal.copy_out-requires
 unfolding view given_up_to
 copy_out-requires c =
     let a = c.args in
-    let x : Lent =
-    lent_of (columns_of a.ids.now a.times.now a.values.now a.arrivals.now a.kinds.now a.meters.now) a.sent.now in
-    let whole : List (List ℤ) → Held =
-    λ lasts. held a.state (arrays_of a.counts.now a.sums.now lasts a.heads.now) in
-    let passed : (lasts : List (List ℤ)) → HostPassed (whole lasts) x a.area.now =
-    λ lasts. host_passed (whole lasts) x a.area.now
-    (sym (c.host_refusal-host.ensures lasts a.area.now refl) ∙ c.if-host-ne0.false) in
-    let within : Ready (whole []) = ready (whole []) x a.area.now (passed []) in
-    let own : List (List ℤ) → ℕ =
-    λ lasts. answer_to_fetch a.state.settings (view (whole lasts) x.readings) a.display a.from in
-    let answered : (lasts : List (List ℤ)) → c.fetch_answer-answer.result ≡ own lasts =
-    λ lasts. c.fetch_answer-answer.ensures a.state.settings (view (whole lasts) x.readings) refl (sym c.least-least.ensures) refl in
-    let accepted : (lasts : List (List ℤ)) → own lasts ≡ 0 = λ lasts. sym (answered lasts) ∙ c.if-answer-ne0.false in
-    let fits : Fetched a.state.last_stable a.from = fetched (whole []) x a.display a.from (accepted []) in
-    let left = a.state.last_stable + 1 - a.from in
-    let count : c.if-n-gt-FETCH_LIMIT.n ≡ min fetch_limit left =
-    elim c.if-n-gt-FETCH_LIMIT.branch [
-      | then-n-gt-FETCH_LIMIT w ↦ w.n-is ∙ (let z : fetch_limit ≡ min fetch_limit left = omega arith in z)
-      | else-n-gt-FETCH_LIMIT w ↦ w.n-is ∙ (let z : left ≡ min fetch_limit left = omega arith in z)
-    ] in
-    let h = passed [] in
-    (h.sent, omega (arith, count, h.bytes), omega (arith, count, fits.near, within.newest))
+    let st : Held = held a.state.now in
+    let x : Lent = lent a.stores.now in
+    let r : Ready st x a.area.now = ready st x a.area.now (search rules) (c.in_ok-host_refusal.ensures a.area.now refl) in
+    let n = view st x.readings in
+    let fits : FetchFits st.settings n a.display a.from =
+    fetch_fits st.settings n a.display a.from (sym (c.in_ok-fetch_answer.ensures st.settings n refl (sym c.least-least.ensures) refl)) in
+    (r.host.sent, omega (arith, c.min-n.ensures, r.host.bytes), omega (arith, c.min-n.ensures, fits.near, r.newest))
 
 pub returns : goal.returns
-unfolding view given_up_to
-returns c lasts =
+unfolding view given_up_to records_of
+returns c =
     let a = c.args in
-    let x : Lent =
-    lent_of (columns_of a.ids.now a.times.now a.values.now a.arrivals.now a.kinds.now a.meters.now) a.sent.now in
-    let whole : List (List ℤ) → Held =
-    λ lasts. held a.state (arrays_of a.counts.now a.sums.now lasts a.heads.now) in
-    let passed : (lasts : List (List ℤ)) → HostPassed (whole lasts) x a.area.now =
-    λ lasts. host_passed (whole lasts) x a.area.now
-    (sym (c.host_refusal-host.ensures lasts a.area.now refl) ∙ c.if-host-ne0.false) in
-    let own : List (List ℤ) → ℕ =
-    λ lasts. answer_to_fetch a.state.settings (view (whole lasts) x.readings) a.display a.from in
-    let answered : (lasts : List (List ℤ)) → c.fetch_answer-answer.result ≡ own lasts =
-    λ lasts. c.fetch_answer-answer.ensures a.state.settings (view (whole lasts) x.readings) refl (sym c.least-least.ensures) refl in
-    let accepted : (lasts : List (List ℤ)) → own lasts ≡ 0 = λ lasts. sym (answered lasts) ∙ c.if-answer-ne0.false in
-    let left = a.state.last_stable + 1 - a.from in
-    let count : c.if-n-gt-FETCH_LIMIT.n ≡ min fetch_limit left =
-    elim c.if-n-gt-FETCH_LIMIT.branch [
-      | then-n-gt-FETCH_LIMIT w ↦ w.n-is ∙ (let z : fetch_limit ≡ min fetch_limit left = omega arith in z)
-      | else-n-gt-FETCH_LIMIT w ↦ w.n-is ∙ (let z : left ≡ min fetch_limit left = omega arith in z)
-    ] in
-    fetch_done (whole lasts) x a.area.now a.display a.from (passed lasts) (accepted lasts) count c.copy_out.ensures
+    let st : Held = held a.state.now in
+    let x : Lent = lent a.stores.now in
+    let r : Ready st x a.area.now = ready st x a.area.now (search rules) (c.in_ok-host_refusal.ensures a.area.now refl) in
+    fetch_done st x a.area.now a.display a.from r.host
+    (sym (c.in_ok-fetch_answer.ensures st.settings (view st x.readings) refl (sym c.least-least.ensures) refl))
+    c.min-n.ensures c.copy_out.ensures

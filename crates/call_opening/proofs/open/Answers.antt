@@ -1,67 +1,54 @@
 -- Each way out is the law of what the text was read as.
-use Rattle.std.proofs.Common.{arith, refl, sym, ap, ◌∙◌, ◌≡◌}
-use mathlib.Core.Bool.{Bool, ◌||◌}
-use lib.Dec.{ltb}
-use lib.ListN.{length}
-use Rattle.store.specs.Columns.{columns_of}
+use Rattle.std.proofs.Common.{◌≡◌, false, sym, ◌∙◌, arith, rules}
+use lib.Seq.{length-take-le}
+use Rattle.answer.specs.Refusals.{answer_of, number}
 use Rattle.retransmission.specs.Sizes.{held_bytes}
-use Rattle.node.specs.Held.{Arrays, arrays_of, held}
-use Rattle.node.specs.View.{lent_of}
-use Rattle.node.specs.Opening.{is_short, Cleared}
+use Rattle.node.specs.Held.{held}
+use Rattle.node.specs.View.{Lent, lent}
+use Rattle.node.specs.Opening.{is_short}
 use Rattle.node.proofs.Opening.{not_short}
-use Rattle.call_opening.proofs.Openings.{opening_malformed, opening_outside, opening_short, opening_done}
+use Rattle.call_opening.proofs.Openings.{measured, front_filled, opening_refused, opening_short, opening_done}
 use Rattle.call_opening.proofs.open.Goals as goal
 
-pub returns-in-Malformed : goal.returns-in-Malformed
-returns-in-Malformed c =
+pub returns-in_err-s-clause-opened : goal.returns-in_err-s-clause-opened
+returns-in_err-s-clause-opened c =
     let a = c.args in
-    let stores = lent_of (columns_of a.ids.now a.times.now a.values.now a.arrivals.now a.kinds.now a.meters.now) a.sent.now in
-    let arrays = arrays_of a.counts.now a.sums.now a.lasts.now a.heads.now in
-    (opening_malformed (held a.state arrays) stores a.text.now (sym c.in-Malformed.ensures.value), λ no. refl {a = arrays})
+    let e = c.in_err-s.field-0.0 in
+    let same : answer_of c.from_residual.result ≡ number e = search rules in
+    rw same
+    (opening_refused (held a.state.now) (lent a.stores.now) a.text.now e (sym c.read_settings.ensures.value ∙ c.in_err-s.was))
 
-pub returns-in-OutsideLimits : goal.returns-in-OutsideLimits
-returns-in-OutsideLimits c =
+pub returns-then-is_short-stores-clause-opened : goal.returns-then-is_short-stores-clause-opened
+returns-then-is_short-stores-clause-opened c =
     let a = c.args in
-    let stores = lent_of (columns_of a.ids.now a.times.now a.values.now a.arrivals.now a.kinds.now a.meters.now) a.sent.now in
-    let arrays = arrays_of a.counts.now a.sums.now a.lasts.now a.heads.now in
-    (opening_outside (held a.state arrays) stores a.text.now (sym c.in-OutsideLimits.ensures.value), λ no. refl {a = arrays})
-
--- both stores are measured in one test
-pub returns-then-is_short-sent : goal.returns-then-is_short-sent
-unfolding is_short
-returns-then-is_short-sent c =
-    let a = c.args in
-    let stores = lent_of (columns_of a.ids.now a.times.now a.values.now a.arrivals.now a.kinds.now a.meters.now) a.sent.now in
-    let arrays = arrays_of a.counts.now a.sums.now a.lasts.now a.heads.now in
-    let tested = ap (λ (b : Bool). b || ltb (length a.sent.now) held_bytes) c.is_short.ensures in (
-      opening_short (held a.state arrays) stores a.text.now c.in-Accepted.s (sym c.in-Accepted.ensures.value)
-          (sym tested ∙ c.if-is_short-sent.true),
-      λ no. refl {a = arrays},
-    )
+    let s = c.in_ok-s.s in
+    opening_short (held a.state.now) (lent a.stores.now) a.text.now s (sym c.read_settings.ensures.value ∙ c.in_ok-s.was)
+    (measured s.lines (lent a.stores.now) c.is_short.result c.is_short.ensures ∙ c.if-is_short-stores.true)
 
 pub zero-requires : goal.zero-requires
-unfolding is_short
 zero-requires c =
-    let a = c.args in
-    let stores = lent_of (columns_of a.ids.now a.times.now a.values.now a.arrivals.now a.kinds.now a.meters.now) a.sent.now in
-    let tested = ap (λ (b : Bool). b || ltb (length a.sent.now) held_bytes) c.is_short.ensures in
-    let long = not_short c.in-Accepted.s.lines stores (sym tested ∙ c.if-is_short-sent.false) in
+    let x : Lent = lent c.args.stores.now in
+    let s = c.in_ok-s.s in
+    let long =
+    not_short s.lines x (measured s.lines x c.is_short.result c.is_short.ensures ∙ c.if-is_short-stores.false) in
     (omega arith, omega (arith, long.0))
 
-pub returns-else-is_short-sent : goal.returns-else-is_short-sent
-unfolding is_short
-returns-else-is_short-sent c =
+pub slice_bounds-fill-end : goal.slice_bounds-fill-end
+slice_bounds-fill-end c =
+    let x : Lent = lent c.args.stores.now in
+    let s = c.in_ok-s.s in
+    let long =
+    not_short s.lines x (measured s.lines x c.is_short.result c.is_short.ensures ∙ c.if-is_short-stores.false) in
+    omega (arith, long.1, length-take-le held_bytes x.sent long.1)
+
+pub returns-clause-opened : goal.returns-clause-opened
+returns-clause-opened c =
     let a = c.args in
-    let stores = lent_of (columns_of a.ids.now a.times.now a.values.now a.arrivals.now a.kinds.now a.meters.now) a.sent.now in
-    let arrays = arrays_of a.counts.now a.sums.now a.lasts.now a.heads.now in
-    let tested = ap (λ (b : Bool). b || ltb (length a.sent.now) held_bytes) c.is_short.ensures in
-    let cleared_arrays : Arrays = arrays_of c.clear.new.counts c.clear.new.sums c.clear.new.lasts c.clear-in-Accepted.new.heads in
-    let cleared : Cleared cleared_arrays =
-    record { operator = c.clear.ensures.0; checkpoint = c.clear.ensures.1; heads = c.clear-in-Accepted.ensures } in
-    let z = c.zero.new in (
-      opening_done (held a.state arrays) stores a.text.now c.in-Accepted.s (sym c.in-Accepted.ensures.value)
-          (sym tested ∙ c.if-is_short-sent.false)
-          {fresh = held c.fresh_state-fresh.result cleared_arrays} (c.fresh_state-fresh.ensures cleared_arrays cleared)
-          {y = columns_of z.ids z.times z.values z.arrivals z.kinds z.meters} c.zero.ensures {sent = c.zero_u8.new.xs} c.zero_u8.ensures,
-      λ no. absurd {A = cleared_arrays ≡ arrays} (no refl),
-    )
+    let x : Lent = lent a.stores.now in
+    let s = c.in_ok-s.s in
+    let enough : is_short s.lines x ≡ false =
+    measured s.lines x c.is_short.result c.is_short.ensures ∙ c.if-is_short-stores.false in
+    let long = not_short s.lines x enough in
+    opening_done (held a.state.now) x a.text.now s (sym c.read_settings.ensures.value ∙ c.in_ok-s.was) enough
+    {fresh = held c.fresh_state.result} c.fresh_state.ensures c.zero.ensures.zeroes
+    (front_filled x.sent c.fill.new.self held_bytes long.1 (search rules))

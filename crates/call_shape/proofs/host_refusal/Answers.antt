@@ -1,10 +1,10 @@
 -- Each early return is the first refusal that stands.
-use Rattle.std.proofs.Common.{arith, ap, sym, ◌∙◌, ◌*◌, []}
+use Rattle.std.proofs.Common.{arith, ap, sym, ◌∙◌, ◌*◌}
 use mathlib.Core.Bool.{not}
 use Rattle.store.specs.Sizes.{readings_per_line}
-use Rattle.store.specs.Columns.{columns_of}
+use Rattle.store.specs.Lent.{columns}
 use Rattle.store.proofs.Columns.{Room, room}
-use Rattle.node.specs.Held.{arrays_of, held}
+use Rattle.node.specs.Held.{held}
 use Rattle.node.specs.Shape.{displays_ok, sent_ok}
 use Rattle.node.proofs.Limits.{Limits, limits_hold}
 use Rattle.call_shape.proofs.Whole.{shape_limits}
@@ -13,78 +13,78 @@ use Rattle.call_shape.proofs.host_refusal.Goals as goal
 
 pub returns-then-is_short : goal.returns-then-is_short
 returns-then-is_short c =
-    let a = c.args in
-    let x = columns_of a.ids.now a.times.now a.values.now a.arrivals.now a.kinds.now a.meters.now in
-    λ lasts area e.
-    short_store (held a.state (arrays_of a.counts.now a.sums.now lasts a.heads.now)) x a.sent.now area _ c.is_short.ensures
+    let s = c.args.state.now in
+    let x = c.args.stores.now in
+    λ area e.
+    short_store (held s) (columns x.readings) x.sent.now area _ c.is_short.ensures
     c.if-is_short.true
 
-pub returns-then-sent-lt-HELD_BYTES : goal.returns-then-sent-lt-HELD_BYTES
-returns-then-sent-lt-HELD_BYTES c =
-    let a = c.args in
-    let x = columns_of a.ids.now a.times.now a.values.now a.arrivals.now a.kinds.now a.meters.now in
-    λ lasts area e.
-    short_sent (held a.state (arrays_of a.counts.now a.sums.now lasts a.heads.now)) x a.sent.now area _ c.is_short.ensures
+pub returns-then-stores-lt-HELD_BYTES : goal.returns-then-stores-lt-HELD_BYTES
+returns-then-stores-lt-HELD_BYTES c =
+    let s = c.args.state.now in
+    let x = c.args.stores.now in
+    λ area e.
+    short_sent (held s) (columns x.readings) x.sent.now area _ c.is_short.ensures
     c.if-is_short.false (omega arith)
 
 pub is_in_shape-requires : goal.is_in_shape-requires
 is_in_shape-requires c =
-    let a = c.args in
-    let x = columns_of a.ids.now a.times.now a.values.now a.arrivals.now a.kinds.now a.meters.now in
-    let lines = a.state.settings.lines in
-    let r : Room (lines * readings_per_line) x =
-    room (lines * readings_per_line) x (lent lines x _ c.is_short.ensures c.if-is_short.false).room in
+    let s = c.args.state.now in
+    let x = c.args.stores.now in
+    let lines = s.settings.lines in
+    let r : Room (lines * readings_per_line) (columns x.readings) =
+    room (lines * readings_per_line) (columns x.readings) (lent lines x.readings _ c.is_short.ensures c.if-is_short.false).room in
     (r.ids, r.kinds, r.meters)
 
 pub returns-then-not-is_in_shape : goal.returns-then-not-is_in_shape
 returns-then-not-is_in_shape c =
-    let a = c.args in
-    let x = columns_of a.ids.now a.times.now a.values.now a.arrivals.now a.kinds.now a.meters.now in
-    let long = lent a.state.settings.lines x _ c.is_short.ensures c.if-is_short.false in
-    λ lasts area e.
-    out_of_shape (held a.state (arrays_of a.counts.now a.sums.now lasts a.heads.now)) x a.sent.now area _ c.is_short.ensures
-    c.if-is_short.false (omega arith) _ (c.is_in_shape.ensures lasts x long) (ap not c.if-not-is_in_shape.true)
+    let s = c.args.state.now in
+    let x = c.args.stores.now in
+    let long = lent s.settings.lines x.readings _ c.is_short.ensures c.if-is_short.false in
+    λ area e.
+    out_of_shape (held s) (columns x.readings) x.sent.now area _ c.is_short.ensures
+    c.if-is_short.false (omega arith) _ (c.is_in_shape.ensures (columns x.readings) long) (ap not c.if-not-is_in_shape.true)
 
 pub are_displays_ok-requires : goal.are_displays_ok-requires
 are_displays_ok-requires c =
-    let a = c.args in
-    let x = columns_of a.ids.now a.times.now a.values.now a.arrivals.now a.kinds.now a.meters.now in
-    let long = lent a.state.settings.lines x _ c.is_short.ensures c.if-is_short.false in
-    let limits : Limits a.state.settings =
-    limits_hold a.state.settings
-    (shape_limits (held a.state (arrays_of a.counts.now a.sums.now [] a.heads.now)) x
-    (sym (c.is_in_shape.ensures [] x long) ∙ c.if-not-is_in_shape.false)) in
+    let s = c.args.state.now in
+    let x = c.args.stores.now in
+    let long = lent s.settings.lines x.readings _ c.is_short.ensures c.if-is_short.false in
+    let limits : Limits s.settings =
+    limits_hold s.settings
+    (shape_limits (held s) (columns x.readings)
+    (sym (c.is_in_shape.ensures (columns x.readings) long) ∙ c.if-not-is_in_shape.false)) in
     (limits.some_displays, limits.displays, omega arith)
 
 pub returns-then-not-are_displays_ok : goal.returns-then-not-are_displays_ok
 unfolding displays_ok sent_ok
 returns-then-not-are_displays_ok c =
-    let a = c.args in
-    let x = columns_of a.ids.now a.times.now a.values.now a.arrivals.now a.kinds.now a.meters.now in
-    let long = lent a.state.settings.lines x _ c.is_short.ensures c.if-is_short.false in
-    λ lasts area e.
-    out_of_places (held a.state (arrays_of a.counts.now a.sums.now lasts a.heads.now)) x a.sent.now area _ c.is_short.ensures
-    c.if-is_short.false (omega arith) _ (c.is_in_shape.ensures lasts x long) (ap not c.if-not-is_in_shape.false) _
+    let s = c.args.state.now in
+    let x = c.args.stores.now in
+    let long = lent s.settings.lines x.readings _ c.is_short.ensures c.if-is_short.false in
+    λ area e.
+    out_of_places (held s) (columns x.readings) x.sent.now area _ c.is_short.ensures
+    c.if-is_short.false (omega arith) _ (c.is_in_shape.ensures (columns x.readings) long) (ap not c.if-not-is_in_shape.false) _
     c.are_displays_ok.ensures (ap not c.if-not-are_displays_ok.true)
 
 pub returns-then-room-lt-AREA_BYTES : goal.returns-then-room-lt-AREA_BYTES
 unfolding displays_ok sent_ok
 returns-then-room-lt-AREA_BYTES c =
-    let a = c.args in
-    let x = columns_of a.ids.now a.times.now a.values.now a.arrivals.now a.kinds.now a.meters.now in
-    let long = lent a.state.settings.lines x _ c.is_short.ensures c.if-is_short.false in
-    λ lasts area e.
-    short_area (held a.state (arrays_of a.counts.now a.sums.now lasts a.heads.now)) x a.sent.now area _ c.is_short.ensures
-    c.if-is_short.false (omega arith) _ (c.is_in_shape.ensures lasts x long) (ap not c.if-not-is_in_shape.false) _
+    let s = c.args.state.now in
+    let x = c.args.stores.now in
+    let long = lent s.settings.lines x.readings _ c.is_short.ensures c.if-is_short.false in
+    λ area e.
+    short_area (held s) (columns x.readings) x.sent.now area _ c.is_short.ensures
+    c.if-is_short.false (omega arith) _ (c.is_in_shape.ensures (columns x.readings) long) (ap not c.if-not-is_in_shape.false) _
     c.are_displays_ok.ensures (ap not c.if-not-are_displays_ok.false) (omega arith)
 
 pub returns : goal.returns
 unfolding displays_ok sent_ok
 returns c =
-    let a = c.args in
-    let x = columns_of a.ids.now a.times.now a.values.now a.arrivals.now a.kinds.now a.meters.now in
-    let long = lent a.state.settings.lines x _ c.is_short.ensures c.if-is_short.false in
-    λ lasts area e.
-    nothing_refused (held a.state (arrays_of a.counts.now a.sums.now lasts a.heads.now)) x a.sent.now area _ c.is_short.ensures
-    c.if-is_short.false (omega arith) _ (c.is_in_shape.ensures lasts x long) (ap not c.if-not-is_in_shape.false) _
+    let s = c.args.state.now in
+    let x = c.args.stores.now in
+    let long = lent s.settings.lines x.readings _ c.is_short.ensures c.if-is_short.false in
+    λ area e.
+    nothing_refused (held s) (columns x.readings) x.sent.now area _ c.is_short.ensures
+    c.if-is_short.false (omega arith) _ (c.is_in_shape.ensures (columns x.readings) long) (ap not c.if-not-is_in_shape.false) _
     c.are_displays_ok.ensures (ap not c.if-not-are_displays_ok.false) (omega arith)

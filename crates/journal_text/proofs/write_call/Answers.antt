@@ -1,55 +1,30 @@
 -- `journal_text::write_call` meets its contract: the longest line has room, and its two parts behind each other are the line.
-use Rattle.std.proofs.Common.{rules, arith, ◌≡◌, ℕ, ◌+◌, ◌≤◌, List, length, sym, ap, ◌∙◌, length-append}
+use Rattle.std.proofs.Common.{rules, arith, ◌≡◌, ℕ, ◌≤◌, List, length, sym, ap, ◌∙◌, length-append}
 use Rattle.area.specs.Laid.{laid}
 use Rattle.area.proofs.Laid.{laid_laid, laid_front}
-use Rattle.journal_text.specs.Sizes.{longest_journal_line}
 use Rattle.journal.specs.JournalLine.{line_text, CallFits}
 use Rattle.journal.specs.JournalParts.{call_head, call_tail}
-use Rattle.journal.specs.declared.Call.{Call}
 use Rattle.journal.proofs.JournalLines.{text_parts}
-use Rattle.journal_text.proofs.Lengths.{journal_line_short}
+use Rattle.journal_text.proofs.Lengths.{parts_short}
 use Rattle.journal_text.proofs.Answers.{no_letter, short_area, line_written_lem}
 use Rattle.journal_text.proofs.write_call.Goals as goal
 
 pub returns-then-out-lt-LONGEST_JOURNAL_LINE : goal.returns-then-out-lt-LONGEST_JOURNAL_LINE
 returns-then-out-lt-LONGEST_JOURNAL_LINE c =
-    let letter = sym c.is_letter.ensures ∙ c.if-is_letter.true in
+    let letter = sym c.is_letter.ensures ∙ c.if-not-is_letter.false in
     let r = short_area c.args.c c.args.out.now letter (omega (arith, c.if-out-lt-LONGEST_JOURNAL_LINE.true)) in
     record { result_value = r.0; result_value_2 = r.1.0; out_after = r.1.1 }
 
--- a call with a letter fits, so that its line is no longer than the longest
-parts_short : (k : Call) → CallFits k → length (call_head k) + length (call_tail k) ≤ longest_journal_line
-parts_short k fits =
-    omega (arith, journal_line_short k fits, ap length (text_parts k), length-append (call_head k) (call_tail k))
-
 pub put_head-at-requires : goal.put_head-at-requires
 put_head-at-requires c =
-    let letter = sym c.is_letter.ensures ∙ c.if-is_letter.true in
-    let fits : CallFits c.args.c =
-    record {
-      now = search rules;
-      line = search rules;
-      kind = letter;
-      id = search rules;
-      time = search rules;
-      meter = search rules;
-      value = search rules;
-    } in
+    let letter = sym c.is_letter.ensures ∙ c.if-not-is_letter.false in
+    let fits : CallFits c.args.c = search rules in
     omega (arith, parts_short c.args.c fits, c.if-out-lt-LONGEST_JOURNAL_LINE.false)
 
 pub put_tail-requires : goal.put_tail-requires
 put_tail-requires c =
-    let letter = sym c.is_letter.ensures ∙ c.if-is_letter.true in
-    let fits : CallFits c.args.c =
-    record {
-      now = search rules;
-      line = search rules;
-      kind = letter;
-      id = search rules;
-      time = search rules;
-      meter = search rules;
-      value = search rules;
-    } in
+    let letter = sym c.is_letter.ensures ∙ c.if-not-is_letter.false in
+    let fits : CallFits c.args.c = search rules in
     omega (
       arith,
       parts_short c.args.c fits,
@@ -58,24 +33,15 @@ put_tail-requires c =
       c.put_head-at.auto.out,
     )
 
-pub returns-else-out-lt-LONGEST_JOURNAL_LINE : goal.returns-else-out-lt-LONGEST_JOURNAL_LINE
-returns-else-out-lt-LONGEST_JOURNAL_LINE c =
+pub returns : goal.returns
+returns c =
     let k = c.args.c in
     let out = c.args.out.now in
     let p = c.put_head-at in
     let q = c.put_tail in
-    let letter = sym c.is_letter.ensures ∙ c.if-is_letter.true in
+    let letter = sym c.is_letter.ensures ∙ c.if-not-is_letter.false in
     let room = c.if-out-lt-LONGEST_JOURNAL_LINE.false in
-    let fits : CallFits c.args.c =
-    record {
-      now = search rules;
-      line = search rules;
-      kind = letter;
-      id = search rules;
-      time = search rules;
-      meter = search rules;
-      value = search rules;
-    } in
+    let fits : CallFits c.args.c = search rules in
     let size : q.result ≡ length (line_text k) =
     omega (arith, p.ensures.value, q.ensures.value, ap length (text_parts k), length-append (call_head k) (call_tail k)) in
     let whole : q.new.out ≡ laid out 0 (line_text k) =
@@ -88,7 +54,7 @@ returns-else-out-lt-LONGEST_JOURNAL_LINE c =
     let r = line_written_lem k out q.new.out q.result letter (omega (arith, room)) size (whole ∙ laid_front out (line_text k) short) in
     record { result_value = r.0; result_value_2 = r.1.0; out_after = r.1.1 }
 
-pub returns-else-is_letter : goal.returns-else-is_letter
-returns-else-is_letter c =
-    let r = no_letter c.args.c c.args.out.now (sym c.is_letter.ensures ∙ c.if-is_letter.false) in
+pub returns-then-not-is_letter : goal.returns-then-not-is_letter
+returns-then-not-is_letter c =
+    let r = no_letter c.args.c c.args.out.now (sym c.is_letter.ensures ∙ c.if-not-is_letter.true) in
     record { result_value = r.0; result_value_2 = r.1.0; out_after = r.1.1 }

@@ -1,21 +1,22 @@
--- `operator_bounds::counts_over` meets its contract: at each place the counts of both rows are laid over those before.
-use Rattle.std.proofs.Common.{◌≡◌, ◌^◌, add-one, arith, pow_pos, lt-ltb}
-use Rattle.operator.specs.Meters.{meter_count}
+-- The place's counts are laid over those before.
+use Rattle.std.proofs.Common.{rules, length, add-one}
+use Rattle.std.proofs.lemmas.List.{length_push}
+use Rattle.std.proofs.lemmas.Slice.Zip.{zip_turn}
 use Rattle.operator_bounds.specs.Places.{all_below}
 use Rattle.operator_bounds.proofs.Places.{counts_over_turn}
 use Rattle.operator_bounds.proofs.counts_over.Goals as goal
 
-pub loop-place-init : goal.loop-place-init
+pub loop-first-init : goal.loop-first-init
 unfolding all_below
-loop-place-init c = (omega arith, λ k. lt-ltb 0 (2 ^ k) (pow_pos k))
+loop-first-init c = λ k. search rules
 
-pub loop-place-preserved : goal.loop-place-preserved
-loop-place-preserved c =
-    let l = c.loop-place in
-    rw add-one (omega arith, counts_over_turn c.args.counts.now l.place l.over l.invariant.1)
-
-pub returns : goal.returns
-returns c =
-    let l = c.loop-place in
-    let e : l.place ≡ meter_count = omega arith in
-    rw e at l.invariant.1
+pub loop-first-preserved : goal.loop-first-preserved
+loop-first-preserved c =
+    let o = c.args.operator.now in
+    let p = c.args.checkpoint.now in
+    let here =
+    zip_turn (o.counts) (p.counts) c.loop-first.yielded c.into_iter-first-iterator.result c.loop-first.first-iterator c.next.new.self c.next.result
+    (search rules) (search rules) c.loop-first.yielded_by (c.in-Some.first, c.in-Some.second) c.in-Some.is c.next.ensures.steps in
+    let more = length_push c.loop-first.yielded (c.in-Some.first, c.in-Some.second) in
+    let at = length c.loop-first.yielded in
+    rw (more, add-one at, here.2 0, here.3 0) (counts_over_turn o p at c.loop-first.over c.loop-first.invariant)

@@ -1,6 +1,6 @@
 -- Where the buffer holds the next line and its reply has room, that line is the next text; behind the last text none follows.
-use borrow.Author.Tests.{ltb-true, leb-true}
-use Rattle.std.proofs.Common.{◌≡◌, Bool, true, false, not, refl, sym, ap, subst, length}
+use borrow.Author.Tests.{ltb-true, leb-true, not-true}
+use Rattle.std.proofs.Common.{◌≡◌, false, not, refl, sym, ap, subst, length}
 use Rattle.store.proofs.Choices.{not_both, and_parts}
 use Rattle.playback_cursor.specs.declared.Cursor.{Cursor}
 use Rattle.playback_cursor.specs.Cut.{replied, Followed}
@@ -8,19 +8,15 @@ use Rattle.playback_cursor.proofs.LinesFound.{line_here}
 use Rattle.playback_cursor.proofs.Refills.{ended_lies}
 use Rattle.playback_cursor.proofs.onward.Goals as goal
 
-unless_not : (b : Bool) → not b ≡ true → b ≡ false
-unless_not true e = not_both e refl
-unless_not false e = refl
-
 pub returns-then-cursor-used : goal.returns-then-cursor-used
 returns-then-cursor-used c =
     let a = c.args in
     let told = and_parts _ _ c.if-cursor-used.true in
     let rest = and_parts _ _ told.1 in
-    let last : a.cursor.last ≡ false = unless_not _ c.if-not-cursor.true in
+    let last : a.cursor.last ≡ false = not-true _ c.if-not-cursor.true in
     let f =
     line_here (replied a.cursor a.text a.reply) a.buf.now c.requires.0 (ltb-true _ _ told.0) (length a.out.now)
-    (unless_not _ rest.0) last (leb-true _ _ rest.1) in
+    (not-true _ rest.0) last (leb-true _ _ rest.1) in
     record { lies = f.lies; next = λ _. f; none = λ e. not_both e last }
 
 pub returns : goal.returns

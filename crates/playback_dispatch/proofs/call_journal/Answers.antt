@@ -1,34 +1,24 @@
 -- `playback_dispatch::call_journal` meets its contract: what the call leaves, and behind it the displays or not.
-use Rattle.std.proofs.Common.{ap, ◌∙◌}
+use Rattle.std.proofs.Common.{sym, ap, ◌∙◌}
 use Rattle.settings.specs.Limits.{max_displays}
-use Rattle.store.specs.Columns.{columns_of}
-use Rattle.node.specs.Held.{Held, arrays_of, held}
-use Rattle.node.specs.View.{Lent, lent_of}
-use Rattle.node.specs.Calls.{Called, called_on}
 use Rattle.playback_dispatch.specs.Dispatch.{all_caught_up, followed}
-use Rattle.playback_dispatch.proofs.CatchingUp.{all_follow, none_follows}
+use Rattle.playback_dispatch.proofs.CatchingUp.{all_follow, none_lags, none_follows}
 use Rattle.playback_dispatch.proofs.call_journal.Goals as goal
+use Rattle.playback_dispatch.proofs.call_journal.Goals.{else-acknowledging-via-then-acknowledging+else-is_some_behind, else-acknowledging-via-else-acknowledging}
 
-pub returns-then-acknowledging-is_some_behind : goal.returns-then-acknowledging-is_some_behind
+pub returns-then-is_some_behind-clause-called : goal.returns-then-is_some_behind-clause-called
 unfolding followed
-returns-then-acknowledging-is_some_behind c =
-    let a = c.args in
-    let st : Held = held a.state (arrays_of a.counts.now a.sums.now a.lasts.now a.heads.now) in
-    let x : Lent =
-    lent_of (columns_of a.ids.now a.times.now a.values.now a.arrivals.now a.kinds.now a.meters.now) a.sent.now in
-    let due : Called = called_on st x a.text.now a.area.now in
-    let d = c.call-done.new in
-    all_follow a.acknowledging _ max_displays due _ c.if-acknowledging-is_some_behind.true
-    (c.catch_up.ensures d.lasts ∙ ap (all_caught_up max_displays) c.call-done.ensures.0)
+returns-then-is_some_behind-clause-called c =
+    all_follow c.args.acknowledging max_displays _ _ c.if-acknowledging.true
+    (c.catch_all_up.ensures.caught_up c.call-reply.result ∙ ap (all_caught_up max_displays) c.call-reply.ensures.called)
 
-pub returns : goal.returns
+pub returns-else-acknowledging-clause-called : goal.returns-else-acknowledging-clause-called
 unfolding followed
-returns c =
-    let a = c.args in
-    let st : Held = held a.state (arrays_of a.counts.now a.sums.now a.lasts.now a.heads.now) in
-    let x : Lent =
-    lent_of (columns_of a.ids.now a.times.now a.values.now a.arrivals.now a.kinds.now a.meters.now) a.sent.now in
-    let due : Called = called_on st x a.text.now a.area.now in
-    let d = c.call-done.new in
-    none_follows a.acknowledging _ max_displays due _ c.if-acknowledging-is_some_behind.false
-    (c.is_some_behind.ensures (arrays_of d.counts d.sums d.lasts d.heads)) c.call-done.ensures.0
+returns-else-acknowledging-clause-called c =
+    elim c.else-acknowledging.branch [
+      | else-acknowledging-via-then-acknowledging+else-is_some_behind w ↦
+          none_lags c.args.acknowledging max_displays _ _ w.if-acknowledging.true
+          (sym w.is_some_behind.ensures ∙ w.if-is_some_behind.false) c.call-reply.ensures.called
+      | else-acknowledging-via-else-acknowledging w ↦
+          none_follows c.args.acknowledging max_displays _ _ w.if-acknowledging.false c.call-reply.ensures.called
+    ]

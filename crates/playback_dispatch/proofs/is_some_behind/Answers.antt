@@ -1,18 +1,14 @@
--- `playback_dispatch::is_some_behind` meets its contract: one more display is looked at.
-use Rattle.std.proofs.Common.{refl, arith}
+-- `playback_dispatch::is_some_behind` meets its contract: it looks at the ids of the displays that there are.
+use Rattle.std.proofs.Common.{sym, ◌∙◌, ltb, rules, tests}
+use Rattle.std.proofs.lemmas.Iterator.{YieldsList-from_slice, YieldsList-from_take}
+use Rattle.std.proofs.lemmas.Iterator.Search.{any_from_yields_List}
 use Rattle.node.specs.Held.{held}
-use Rattle.playback_dispatch.specs.Dispatch.{is_behind}
-use Rattle.playback_dispatch.specs.Behind.{some_behind}
-use Rattle.playback_dispatch.proofs.CatchingUp.{one_more}
+use Rattle.playback_dispatch.proofs.CatchingUp.{behind_any}
 use Rattle.playback_dispatch.proofs.is_some_behind.Goals as goal
 
-pub loop-i-init : goal.loop-i-init
-unfolding some_behind
-loop-i-init c =
-    (omega arith, λ arrays. refl)
-
-pub loop-i-preserved : goal.loop-i-preserved
-unfolding is_behind
-loop-i-preserved c =
-    let l = c.loop-i in
-    (omega arith, λ arrays. one_more l.i l.found (held c.args.state arrays) (l.invariant.1 arrays))
+pub returns : goal.returns
+returns c =
+    let s = c.args.state.now in
+    any_from_yields_List (λ id. ltb id s.checkpoint.number) _ _ c.any.result c.any.ensures.ran
+    (YieldsList-from_take s.settings.displays (YieldsList-from_slice s.acknowledged cc) cc) (λ x b q k. search (rules, tests))
+    ∙ sym (behind_any (held s) s.all_displays)

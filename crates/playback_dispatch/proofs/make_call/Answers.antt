@@ -1,46 +1,37 @@
 -- `playback_dispatch::make_call` meets its contract: what the text is read as says whose call it is.
-use Rattle.std.proofs.Common.{◌≡◌, sym, ◌∙◌}
-use Rattle.store.specs.Columns.{columns_of}
-use Rattle.node.specs.Held.{Held, arrays_of, held}
-use Rattle.node.specs.View.{Lent, lent_of}
-use Rattle.playback_dispatch.specs.Dispatch.{followed, dispatched}
+use Rattle.std.proofs.Common.{sym, ◌∙◌}
+use Rattle.node.specs.Held.{held}
+use Rattle.node.specs.View.{lent}
 use Rattle.playback_dispatch.proofs.Dispatching.{as_journal_call, as_acknowledgement, as_fetch, as_no_command}
 use Rattle.playback_dispatch.proofs.make_call.Goals as goal
-use Rattle.playback_dispatch.proofs.make_call.Goals.{then-mixed+in-None, else-mixed}
+use Rattle.playback_dispatch.proofs.make_call.Goals.{then-mode+in-None, else-mode}
 
-pub returns-in-Acknowledge : goal.returns-in-Acknowledge
-returns-in-Acknowledge c =
+pub returns-in-Some-Acknowledge-clause-called : goal.returns-in-Some-Acknowledge-clause-called
+returns-in-Some-Acknowledge-clause-called c =
     let a = c.args in
-    let st : Held = held a.state (arrays_of a.counts.now a.sums.now a.lasts.now a.heads.now) in
-    let x : Lent =
-    lent_of (columns_of a.ids.now a.times.now a.values.now a.arrivals.now a.kinds.now a.meters.now) a.sent.now in
-    c.acknowledge.ensures a.lasts.now ∙
-    as_acknowledgement a.mixed a.acknowledging st x a.text.now a.area.now c.if-mixed.true _ _
-    (sym c.read_command.ensures.value ∙ c.in-Acknowledge.is)
+    let i = c.in-Some-Acknowledge in
+    c.acknowledge.ensures.called ∙
+    as_acknowledgement a.mode.mixed a.mode.acknowledging (held a.state.now) (lent a.stores.now) a.text.now a.area.now c.if-mode.true _ _
+    (cc (c.read_command.ensures.value, i.is, i.field-0-is, i.display-is, i.id-is))
 
-pub returns-in-Fetch : goal.returns-in-Fetch
-returns-in-Fetch c =
+pub returns-in-Some-Fetch-clause-called : goal.returns-in-Some-Fetch-clause-called
+returns-in-Some-Fetch-clause-called c =
     let a = c.args in
-    let st : Held = held a.state (arrays_of a.counts.now a.sums.now a.lasts.now a.heads.now) in
-    let x : Lent =
-    lent_of (columns_of a.ids.now a.times.now a.values.now a.arrivals.now a.kinds.now a.meters.now) a.sent.now in
-    c.fetch.ensures a.lasts.now ∙
-    as_fetch a.mixed a.acknowledging st x a.text.now a.area.now c.if-mixed.true _ _
-    (sym c.read_command.ensures.value ∙ c.in-Fetch.is)
+    let i = c.in-Some-Fetch in
+    c.fetch.ensures ∙
+    as_fetch a.mode.mixed a.mode.acknowledging (held a.state.now) (lent a.stores.now) a.text.now a.area.now c.if-mode.true _ _
+    (cc (c.read_command.ensures.value, i.is, i.field-0-is, i.display-is, i.id-is))
 
-pub returns : goal.returns
-returns c =
+pub returns-clause-called : goal.returns-clause-called
+returns-clause-called c =
     let a = c.args in
-    let st : Held = held a.state (arrays_of a.counts.now a.sums.now a.lasts.now a.heads.now) in
-    let x : Lent =
-    lent_of (columns_of a.ids.now a.times.now a.values.now a.arrivals.now a.kinds.now a.meters.now) a.sent.now in
-    let journal :
-    followed a.acknowledging st x a.text.now a.area.now ≡
-    dispatched a.mixed a.acknowledging st x a.text.now a.area.now =
-    elim c.if-mixed.branch [
-      | then-mixed+in-None w ↦
-          as_no_command a.mixed a.acknowledging st x a.text.now a.area.now w.if-mixed.true
+    let mode = a.mode in
+    elim c.if-mode.branch [
+      | then-mode+in-None w ↦
+          c.call_journal.ensures.called ∙
+          as_no_command mode.mixed mode.acknowledging (held a.state.now) (lent a.stores.now) a.text.now a.area.now w.if-mode.true
           (sym w.read_command.ensures.value ∙ w.in-None.is)
-      | else-mixed w ↦ as_journal_call a.mixed a.acknowledging st x a.text.now a.area.now w.if-mixed.false
-    ] in
-    c.call_journal.ensures ∙ journal
+      | else-mode w ↦
+          c.call_journal.ensures.called ∙
+          as_journal_call mode.mixed mode.acknowledging (held a.state.now) (lent a.stores.now) a.text.now a.area.now w.if-mode.false
+    ]

@@ -1,136 +1,93 @@
 -- `step::step` meets its contract: what the rule that applies does, by its function.
-use Rattle.std.proofs.Common.{ℕ, ◌≡◌, ◌<◌, ◌^◌, refl, List, length, get_or, arith, rules}
-use Rattle.settings.specs.Limits.{max_lines, max_displays}
-use Rattle.store.specs.Columns.{Columns, columns_of}
-use Rattle.operator.proofs.FromPlace.{length_mapped}
+use Rattle.std.proofs.Common.{refl, arith}
+use Rattle.store.specs.Columns.{Columns}
+use Rattle.store.specs.Lent.{columns}
 use Rattle.protocol.specs.declared.Rule.TheVariants as Rule
-use Rattle.protocol.specs.Rules.{rule_of}
-use Rattle.node.specs.Held.{Held, arrays_of, heads_from, heads_of, held}
+use Rattle.node.specs.Held.{Held, held}
 use Rattle.node.specs.View.{places, view}
+use Rattle.node.proofs.Limits.{limits_hold}
 use Rattle.node.proofs.Shape.{StateShape, state_facts}
+use Rattle.node.proofs.Times.{start_fits}
 use Rattle.step_rule.proofs.Asked.{asked}
 use Rattle.step_work.specs.Stores.{StoreOf}
 use Rattle.step_corrections.proofs.LinesStay.{Kept, withdraw_done, end_correction_done}
 use Rattle.step.proofs.ByRule.{Found, idle_acts, by_rule}
-use Rattle.step.proofs.Within.{tentative_within}
 use Rattle.step.proofs.step.Goals as goal
 
--- there is a head for each line that there can be
-all_heads : (heads : List ℕ) → length (heads_of heads) ≡ max_lines
-unfolding heads_of heads_from
-all_heads heads = refl
-
-pub rule_of-rule-requires : goal.rule_of-rule-requires
-rule_of-rule-requires c =
-    let s = c.args in
-    let store : Columns = columns_of s.ids.now s.times.now s.values.now s.arrivals.now s.kinds.now s.meters.now in
-    let all : Held = held s.state (arrays_of s.counts.now s.sums.now s.lasts.now s.heads.now) in
-    asked all store c.requires.0 c.requires.1
+pub rule_of-requires : goal.rule_of-requires
+rule_of-requires c = asked (held c.args.state.now) (columns c.args.readings.now) c.requires.0 c.requires.1
 
 pub withdraw-requires : goal.withdraw-requires
 withdraw-requires c =
-    let s = c.args in
-    let store : Columns = columns_of s.ids.now s.times.now s.values.now s.arrivals.now s.kinds.now s.meters.now in
-    let all : Held = held s.state (arrays_of s.counts.now s.sums.now s.lasts.now s.heads.now) in
-    let shape : StateShape all store = state_facts all store c.requires.1 in
+    let st : Held = held c.args.state.now in
+    let x : Columns = columns c.args.readings.now in
+    let shape : StateShape st x = state_facts st x c.requires.1 in
     (omega (arith, c.requires.2), omega (arith, shape.numbers.stable, shape.buckets.order, shape.buckets.last))
 
 pub work_tentative-requires : goal.work_tentative-requires
-unfolding places
 work_tentative-requires c =
-    let s = c.args in
-    let store : Columns = columns_of s.ids.now s.times.now s.values.now s.arrivals.now s.kinds.now s.meters.now in
-    let all : Held = held s.state (arrays_of s.counts.now s.sums.now s.lasts.now s.heads.now) in
-    let shape : StateShape all store = state_facts all store c.requires.1 in
-    let lent : StoreOf all s.times.now s.values.now s.meters.now store =
-    record { of_times = refl; of_values = refl; of_meters = refl; room = c.requires.0; shape = c.requires.1 } in
-    let first : c.rule_of-rule.result ≡ rule_of all.settings (view all store) s.tick =
-    c.rule_of-rule.ensures.0 (arrays_of s.counts.now s.sums.now s.lasts.now s.heads.now).meters store refl refl c.requires.0 in
-    let is : Found s.tick all store Rule.WorkTentative = record { found = c.rule_of-rule.result; first = first; told = c.in-WorkTentative.is } in
-    let within : (i : ℕ) → get_or c.args.times.now i 0 < 2 ^ 32 = search rules in (
-      record { store = store; is = lent },
+    let st : Held = held c.args.state.now in
+    let x : Columns = columns c.args.readings.now in
+    let limits = limits_hold st.settings (state_facts st x c.requires.1).limits in
+    let lent : StoreOf st c.args.readings.now x =
+    record { of_times = refl; of_values = refl; of_meters = refl; room = c.requires.0; shape = c.requires.1 } in (
+      record { store = x; is = lent },
       c.requires.2,
-      tentative_within all store s.tick shape within is,
+      start_fits st.settings.bucket st.settings.window st.p limits.some_window (c.rule_of.ensures.tentative_start c.in-WorkTentative.is),
     )
 
-pub returns-in-Withdraw : goal.returns-in-Withdraw
-unfolding places
-returns-in-Withdraw c =
-    let s = c.args in
-    let store : Columns = columns_of s.ids.now s.times.now s.values.now s.arrivals.now s.kinds.now s.meters.now in
-    let all : Held = held s.state (arrays_of s.counts.now s.sums.now s.lasts.now s.heads.now) in
-    -- a last id for each display that there can be
-    let all_displays : length c.args.state.acknowledged ≡ max_displays =
-    let displays = c.well_formed.0.1.1.1.1.1.1.1.1.1 in search (rules, length_mapped, displays) in
-    let kept : Kept all store =
-    record { heads = all_heads s.heads.now; displays = all_displays; room = c.requires.0; shape = c.requires.1 } in
-    let first : c.rule_of-rule.result ≡ rule_of all.settings (view all store) s.tick =
-    c.rule_of-rule.ensures.0 (arrays_of s.counts.now s.sums.now s.lasts.now s.heads.now).meters store refl refl c.requires.0 in
-    let is : Found s.tick all store Rule.Withdraw = record { found = c.rule_of-rule.result; first = first; told = c.in-Withdraw.is } in
-    let d = c.withdraw in
-    let after : Held = held d.result.state (arrays_of d.new.counts d.new.sums d.new.lasts s.heads.now) in
-    by_rule s.tick Rule.Withdraw all store s.area.now after store _ _ is
-    (withdraw_done all store kept {st' = after} (d.ensures s.heads.now))
+pub work_stable-requires : goal.work_stable-requires
+work_stable-requires c = (c.requires.0, c.requires.1, c.requires.2, c.rule_of.ensures.stable_end c.in-WorkStable.is)
 
-pub returns-in-WorkStable : goal.returns-in-WorkStable
+pub returns-in-Withdraw-clause-done : goal.returns-in-Withdraw-clause-done
 unfolding places
-returns-in-WorkStable c =
-    let s = c.args in
-    let store : Columns = columns_of s.ids.now s.times.now s.values.now s.arrivals.now s.kinds.now s.meters.now in
-    let all : Held = held s.state (arrays_of s.counts.now s.sums.now s.lasts.now s.heads.now) in
-    let first : c.rule_of-rule.result ≡ rule_of all.settings (view all store) s.tick =
-    c.rule_of-rule.ensures.0 (arrays_of s.counts.now s.sums.now s.lasts.now s.heads.now).meters store refl refl c.requires.0 in
-    let is : Found s.tick all store Rule.WorkStable = record { found = c.rule_of-rule.result; first = first; told = c.in-WorkStable.is } in
-    let d = c.work_stable in
-    by_rule s.tick Rule.WorkStable all store s.area.now
-    (held d.result.state (arrays_of d.new.counts d.new.sums d.new.lasts d.new.heads))
-    (columns_of d.new.ids d.new.times d.new.values d.new.arrivals d.new.kinds d.new.meters) _ _ is d.ensures
+returns-in-Withdraw-clause-done c =
+    let st : Held = held c.args.state.now in
+    let x : Columns = columns c.args.readings.now in
+    let kept : Kept st x =
+    record { heads = c.args.state.now.all_heads; displays = c.args.state.now.all_displays; room = c.requires.0; shape = c.requires.1 } in
+    let first = c.rule_of.ensures.value x refl refl c.requires.0 in
+    let is : Found c.args.tick st x Rule.Withdraw = record { found = c.rule_of.result; first = first; told = c.in-Withdraw.is } in
+    by_rule c.args.tick Rule.Withdraw st x c.args.area.now _ x _ _ is (withdraw_done st x kept c.withdraw.ensures)
 
-pub returns-in-EndCorrection : goal.returns-in-EndCorrection
+pub returns-in-WorkStable-clause-done : goal.returns-in-WorkStable-clause-done
 unfolding places
-returns-in-EndCorrection c =
-    let s = c.args in
-    let store : Columns = columns_of s.ids.now s.times.now s.values.now s.arrivals.now s.kinds.now s.meters.now in
-    let all : Held = held s.state (arrays_of s.counts.now s.sums.now s.lasts.now s.heads.now) in
-    -- a last id for each display that there can be
-    let all_displays : length c.args.state.acknowledged ≡ max_displays =
-    let displays = c.well_formed.0.1.1.1.1.1.1.1.1.1 in search (rules, length_mapped, displays) in
-    let kept : Kept all store =
-    record { heads = all_heads s.heads.now; displays = all_displays; room = c.requires.0; shape = c.requires.1 } in
-    let first : c.rule_of-rule.result ≡ rule_of all.settings (view all store) s.tick =
-    c.rule_of-rule.ensures.0 (arrays_of s.counts.now s.sums.now s.lasts.now s.heads.now).meters store refl refl c.requires.0 in
-    let is : Found s.tick all store Rule.EndCorrection = record { found = c.rule_of-rule.result; first = first; told = c.in-EndCorrection.is } in
-    let d = c.end_correction in
-    by_rule s.tick Rule.EndCorrection all store s.area.now _ store _ _ is
-    (end_correction_done all store kept (d.ensures (arrays_of s.counts.now s.sums.now s.lasts.now s.heads.now)))
+returns-in-WorkStable-clause-done c =
+    let st : Held = held c.args.state.now in
+    let x : Columns = columns c.args.readings.now in
+    let first = c.rule_of.ensures.value x refl refl c.requires.0 in
+    let is : Found c.args.tick st x Rule.WorkStable = record { found = c.rule_of.result; first = first; told = c.in-WorkStable.is } in
+    by_rule c.args.tick Rule.WorkStable st x c.args.area.now _ (columns c.work_stable.new.readings) _ _ is c.work_stable.ensures.done
 
-pub returns-in-WorkTentative : goal.returns-in-WorkTentative
+pub returns-in-EndCorrection-clause-done : goal.returns-in-EndCorrection-clause-done
 unfolding places
-returns-in-WorkTentative c =
-    let s = c.args in
-    let store : Columns = columns_of s.ids.now s.times.now s.values.now s.arrivals.now s.kinds.now s.meters.now in
-    let all : Held = held s.state (arrays_of s.counts.now s.sums.now s.lasts.now s.heads.now) in
-    let lent : StoreOf all s.times.now s.values.now s.meters.now store =
+returns-in-EndCorrection-clause-done c =
+    let st : Held = held c.args.state.now in
+    let x : Columns = columns c.args.readings.now in
+    let kept : Kept st x =
+    record { heads = c.args.state.now.all_heads; displays = c.args.state.now.all_displays; room = c.requires.0; shape = c.requires.1 } in
+    let first = c.rule_of.ensures.value x refl refl c.requires.0 in
+    let is : Found c.args.tick st x Rule.EndCorrection = record { found = c.rule_of.result; first = first; told = c.in-EndCorrection.is } in
+    by_rule c.args.tick Rule.EndCorrection st x c.args.area.now _ x _ _ is (end_correction_done st x kept c.end_correction.ensures)
+
+pub returns-in-WorkTentative-clause-done : goal.returns-in-WorkTentative-clause-done
+unfolding places
+returns-in-WorkTentative-clause-done c =
+    let st : Held = held c.args.state.now in
+    let x : Columns = columns c.args.readings.now in
+    let lent : StoreOf st c.args.readings.now x =
     record { of_times = refl; of_values = refl; of_meters = refl; room = c.requires.0; shape = c.requires.1 } in
-    let first : c.rule_of-rule.result ≡ rule_of all.settings (view all store) s.tick =
-    c.rule_of-rule.ensures.0 (arrays_of s.counts.now s.sums.now s.lasts.now s.heads.now).meters store refl refl c.requires.0 in
-    let is : Found s.tick all store Rule.WorkTentative = record { found = c.rule_of-rule.result; first = first; told = c.in-WorkTentative.is } in
-    let d = c.work_tentative in
-    by_rule s.tick Rule.WorkTentative all store s.area.now
-    (held d.result.state (arrays_of d.new.counts d.new.sums d.new.lasts s.heads.now)) store _ _ is (d.ensures store lent)
+    let first = c.rule_of.ensures.value x refl refl c.requires.0 in
+    let is : Found c.args.tick st x Rule.WorkTentative = record { found = c.rule_of.result; first = first; told = c.in-WorkTentative.is } in
+    by_rule c.args.tick Rule.WorkTentative st x c.args.area.now _ x _ _ is (c.work_tentative.ensures x lent)
 
-pub returns-in-Idle : goal.returns-in-Idle
+pub returns-in-Idle-clause-done : goal.returns-in-Idle-clause-done
 unfolding places
-returns-in-Idle c =
-    let s = c.args in
-    let store : Columns = columns_of s.ids.now s.times.now s.values.now s.arrivals.now s.kinds.now s.meters.now in
-    let all : Held = held s.state (arrays_of s.counts.now s.sums.now s.lasts.now s.heads.now) in
-    -- a last id for each display that there can be
-    let all_displays : length c.args.state.acknowledged ≡ max_displays =
-    let displays = c.well_formed.0.1.1.1.1.1.1.1.1.1 in search (rules, length_mapped, displays) in
-    let kept : Kept all store =
-    record { heads = all_heads s.heads.now; displays = all_displays; room = c.requires.0; shape = c.requires.1 } in
-    let first : c.rule_of-rule.result ≡ rule_of all.settings (view all store) s.tick =
-    c.rule_of-rule.ensures.0 (arrays_of s.counts.now s.sums.now s.lasts.now s.heads.now).meters store refl refl c.requires.0 in
-    let is : Found s.tick all store Rule.Idle = record { found = c.rule_of-rule.result; first = first; told = c.in-Idle.is } in
-    by_rule s.tick Rule.Idle all store s.area.now _ store _ _ is (idle_acts all store kept s.area.now)
+returns-in-Idle-clause-done c =
+    let st : Held = held c.args.state.now in
+    let x : Columns = columns c.args.readings.now in
+    let kept : Kept st x =
+    record { heads = c.args.state.now.all_heads; displays = c.args.state.now.all_displays; room = c.requires.0; shape = c.requires.1 } in
+    let first = c.rule_of.ensures.value x refl refl c.requires.0 in
+    let is : Found c.args.tick st x Rule.Idle = record { found = c.rule_of.result; first = first; told = c.in-Idle.is } in
+    by_rule c.args.tick Rule.Idle st x c.args.area.now _ x _ _ is (idle_acts st x kept c.args.area.now)

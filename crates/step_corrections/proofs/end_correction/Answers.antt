@@ -9,9 +9,8 @@ use Rattle.step_corrections.proofs.end_correction.Goals as goal
 pub returns : goal.returns
 unfolding act put_state node_alone heads_with
 returns c =
-    λ x.
     record {
-      state = rw (c.with_phase-next.ensures, none_in_front);
+      state = rw none_in_front refl;
       bytes = one_record _ c.marker-done.ensures c.put_record.ensures;
       count = refl;
     }

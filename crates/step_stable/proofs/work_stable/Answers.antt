@@ -1,9 +1,10 @@
--- `step_stable::work_stable` meets its contract: the bucket's records, the checkpoint's row, and the bucket's readings removed.
-use Rattle.std.proofs.Common.{◌≡◌, refl, length, take, arith, rules}
-use Rattle.settings.specs.Limits.{max_displays}
-use Rattle.store.specs.Columns.{Columns, columns_of}
+-- `step_stable::work_stable` meets its contract: the bucket's records, the checkpoint, and the bucket's readings removed.
+use Rattle.std.proofs.Common.{◌≡◌, refl, ap, take, arith}
+use Rattle.store.specs.Sizes.{readings_per_line}
+use Rattle.store.specs.Lists.{Every}
+use Rattle.store.specs.Columns.{Columns}
+use Rattle.store.specs.Lent.{columns}
 use Rattle.store.proofs.Pairs.{every_to}
-use Rattle.operator_rows.specs.Rows.{Rows, rows_of}
 use Rattle.node.specs.declared.LineHead.{LineHead}
 use Rattle.node.specs.Held.{Held, held}
 use Rattle.node.specs.View.{places}
@@ -11,61 +12,53 @@ use Rattle.node.proofs.Limits.{limits_hold}
 use Rattle.node.proofs.Shape.{HeadShape, StateShape, state_facts}
 use Rattle.step_work.specs.Stores.{StoreOf}
 use Rattle.step_corrections.proofs.LinesStay.{Kept}
-use Rattle.node_heads.proofs.Heads.{length_heads}
-use Rattle.step_stable.proofs.Stable.{work_stable_held}
+use Rattle.step_stable.proofs.Stable.{work_stable_done}
 use Rattle.step_stable.proofs.work_stable.Goals as goal
 
 pub remove-requires : goal.remove-requires
 unfolding places
 remove-requires c =
-    let s = c.args in
-    let store : Columns = columns_of s.ids.now s.times.now s.values.now s.arrivals.now s.kinds.now s.meters.now in
-    let lent : Rows = rows_of s.counts.now s.sums.now s.lasts.now in
-    let all : Held = held s.state (record { meters = lent; heads = s.heads.now }) in
-    let shape : StateShape all store = state_facts all store c.requires.1 in
-    let limits = limits_hold s.state.settings shape.limits in (
+    let st : Held = held c.args.state.now in
+    let x : Columns = columns c.args.readings.now in
+    let shape : StateShape st x = state_facts st x c.requires.1 in
+    let is : StoreOf st c.args.readings.now x =
+    record { of_times = refl; of_values = refl; of_meters = refl; room = c.requires.0; shape = c.requires.1 } in
+    let w = c.stable_records-records.ensures x is in
+    let same : c.stable_records-records.new.state.heads ≡ st.heads = ap (λ (h : Held). h.heads) w.state in
+    let limits = limits_hold st.settings shape.limits in (
       limits.lines,
       omega (arith, limits.least_bucket),
       c.requires.0,
-      every_to (take s.state.settings.lines all.heads) (λ (h : LineHead) (k : HeadShape h). k.kept) shape.heads,
+      rw same (every_to (take st.settings.lines st.heads) (λ (h : LineHead) (k : HeadShape h). k.kept) shape.heads),
     )
 
-pub overflow_add-next : goal.overflow_add-next
-overflow_add-next c =
-    let s = c.args in
-    let store : Columns = columns_of s.ids.now s.times.now s.values.now s.arrivals.now s.kinds.now s.meters.now in
-    let lent : Rows = rows_of s.counts.now s.sums.now s.lasts.now in
-    let all : Held = held s.state (record { meters = lent; heads = s.heads.now }) in
-    let shape : StateShape all store = state_facts all store c.requires.1 in
+pub overflow_add-state : goal.overflow_add-state
+overflow_add-state c =
+    let st : Held = held c.args.state.now in
+    let x : Columns = columns c.args.readings.now in
+    let shape : StateShape st x = state_facts st x c.requires.1 in
     omega (arith, shape.buckets.order, shape.buckets.last)
 
-pub overflow_add-next-2 : goal.overflow_add-next-2
-overflow_add-next-2 c =
-    let s = c.args in
-    let store : Columns = columns_of s.ids.now s.times.now s.values.now s.arrivals.now s.kinds.now s.meters.now in
-    let lent : Rows = rows_of s.counts.now s.sums.now s.lasts.now in
-    let all : Held = held s.state (record { meters = lent; heads = s.heads.now }) in
-    let shape : StateShape all store = state_facts all store c.requires.1 in
+pub overflow_add-state-2 : goal.overflow_add-state-2
+overflow_add-state-2 c =
+    let st : Held = held c.args.state.now in
+    let x : Columns = columns c.args.readings.now in
+    let shape : StateShape st x = state_facts st x c.requires.1 in
     omega (arith, shape.buckets.last)
 
-pub returns : goal.returns
-returns c =
-    let s = c.args in
-    let store : Columns = columns_of s.ids.now s.times.now s.values.now s.arrivals.now s.kinds.now s.meters.now in
-    let lent : Rows = rows_of s.counts.now s.sums.now s.lasts.now in
-    let all : Held = held s.state (record { meters = lent; heads = s.heads.now }) in
-    let is : StoreOf all s.times.now s.values.now s.meters.now store =
+pub invariant_of-state : goal.invariant_of-state
+invariant_of-state c =
+    record { all_heads = c.remove.ensures.all_heads; all_displays = c.stable_records-records.new.state.all_displays }
+
+pub returns-clause-done : goal.returns-clause-done
+returns-clause-done c =
+    let st : Held = held c.args.state.now in
+    let x : Columns = columns c.args.readings.now in
+    let is : StoreOf st c.args.readings.now x =
     record { of_times = refl; of_values = refl; of_meters = refl; room = c.requires.0; shape = c.requires.1 } in
-    -- a last id for each display that there can be
-    let all_displays : length c.args.state.acknowledged ≡ max_displays =
-    let owned = c.well_formed.0.1.1.1.1.1.1.1.1.1.0 in search (rules, owned) in
-    -- and a head for each line
-    let kept : Kept all store =
-    record { heads = length_heads s.heads.now; displays = all_displays; room = c.requires.0; shape = c.requires.1 } in
-    -- the rows once the bucket is worked, and once they are copied; heads and columns once its readings are taken out
-    let w = c.stable_records-given in
-    let k = c.keep in
-    let r = c.remove in
-    work_stable_held s.state lent (rows_of w.new.counts w.new.sums w.new.lasts) (rows_of k.new.counts k.new.sums k.new.lasts) s.heads.now
-    r.new.heads store (columns_of r.new.ids r.new.times r.new.values r.new.arrivals r.new.kinds r.new.meters) kept
-    s.area.now _ w.result.number w.result.records (w.ensures.1 store is) k.ensures.0 k.ensures.1 r.ensures
+    let w = c.stable_records-records.ensures x is in
+    let same : c.stable_records-records.new.state.heads ≡ st.heads = ap (λ (h : Held). h.heads) w.state in
+    let kept : Kept st x =
+    record { heads = c.args.state.now.all_heads; displays = c.args.state.now.all_displays; room = c.requires.0; shape = c.requires.1 } in
+    work_stable_done st x kept c.args.area.now _ (held c.stable_records-records.new.state) c.remove.new.heads (columns c.remove.new.readings)
+    c.stable_records-records.result w (rw same at c.remove.ensures.removed)

@@ -1,63 +1,89 @@
--- `step_work::work` meets its contract: the readings are added first, then a window that the bucket closes is closed, and the operator is
--- laid back into its row.
-use Rattle.std.proofs.Common.{◌≡◌, sym, ◌∙◌, true, false, arith}
+-- `step_work::work` meets its contract: the readings are added first, then a window that the bucket closes is closed.
+use Rattle.std.proofs.Common.{◌≡◌, refl, sym, ◌∙◌, ap, length, true, false, arith}
 use Rattle.clock.specs.Windows.{closes_window}
-use Rattle.store.specs.Columns.{Columns}
 use Rattle.operator.specs.Loaded.{operator_of}
-use Rattle.operator_rows.specs.Rows.{rows_of}
-use Rattle.node.specs.Held.{Held, arrays_of, held}
+use Rattle.operator.specs.Meters.{Operator, meter_count}
+use Rattle.operator.proofs.Loaded.{length_meters}
+use Rattle.node.specs.Held.{Held, held, with_operator}
 use Rattle.node.proofs.Limits.{limits_hold}
-use Rattle.node.proofs.Shape.{StateShape, state_facts}
-use Rattle.step_work.proofs.Loading.{laid_back}
-use Rattle.step_work.proofs.Closing.{number_room, window_closed, window_open, area_untouched}
+use Rattle.node.proofs.Shape.{state_facts}
+use Rattle.step_work.proofs.BucketReadings.{kept_addable, kept_added}
+use Rattle.step_work.proofs.Closing.{number_room, window_open, area_untouched, nothing_given}
+use Rattle.step_work.proofs.Given.{window_given}
 use Rattle.step_work.proofs.work.Goals as goal
+
+pub add-requires : goal.add-requires
+add-requires c =
+    let st : Held = held c.args.state.now in
+    let shape = state_facts st c.requires.0.store c.requires.0.is.shape in (
+      (limits_hold st.settings shape.limits).lines,
+      kept_addable st c.args.readings.now c.kept_of-kept.result c.kept_of-kept.ensures c.requires.0,
+    )
 
 pub closes_window-requires : goal.closes_window-requires
 closes_window-requires c =
-    let s = c.args in
-    let all : Held = held s.state (arrays_of s.counts.now s.sums.now s.lasts.now s.heads.now) in
-    let shape = state_facts all c.requires.0.store c.requires.0.is.shape in
-    omega (arith, (limits_hold s.state.settings shape.limits).some_window)
+    let st : Held = held c.args.state.now in
+    let shape = state_facts st c.requires.0.store c.requires.0.is.shape in
+    omega (arith, (limits_hold st.settings shape.limits).some_window)
 
-pub close-closed-requires : goal.close-closed-requires
-close-closed-requires c =
+pub returns-then-not-closes_window : goal.returns-then-not-closes_window
+returns-then-not-closes_window c =
     let s = c.args in
-    let all : Held = held s.state (arrays_of s.counts.now s.sums.now s.lasts.now s.heads.now) in
-    -- a store with the lent columns
-    let some : Columns = c.requires.0.store in
-    let shape : StateShape all some = state_facts all some c.requires.0.is.shape in (
-      c.marks-marked.ensures,
+    let st : Held = held s.state.now in
+    let next : Operator = operator_of c.add.new.self in
+    let goes_on : closes_window st.settings.window s.j ≡ false = sym c.closes_window.ensures ∙ c.if-not-closes_window.true in
+    λ x is.
+    let adds = kept_added st s.readings.now c.kept_of-kept.result c.kept_of-kept.ensures s.j next c.add.ensures.1 x is in (
+      ap (λ (o : Operator). with_operator o st) (window_open st x s.j next adds s.kind goes_on),
+      area_untouched st x s.kind s.j s.area.now goes_on,
+      ap length (sym (nothing_given st x s.kind s.j goes_on)),
+    )
+
+pub close-requires : goal.close-requires
+close-requires c =
+    let s = c.args in
+    let st : Held = held s.state.now in
+    let next : Operator = operator_of c.add.new.self in
+    let some = c.requires.0.store in
+    let shape = state_facts st some c.requires.0.is.shape in
+    let adds = kept_added st s.readings.now c.kept_of-kept.result c.kept_of-kept.ensures s.j next c.add.ensures.1 some c.requires.0.is in (
       omega (arith, c.requires.1),
       c.requires.2,
-      number_room all some s.j (operator_of c.added-next.result) (c.added-next.ensures.1 some c.requires.0.is) shape,
-      c.added-next.ensures.0,
+      number_room st some s.j next adds shape,
+      c.add.ensures.0,
     )
 
-pub returns-then-closes_window : goal.returns-then-closes_window
-returns-then-closes_window c =
+pub overflow_sub-result : goal.overflow_sub-result
+overflow_sub-result c =
     let s = c.args in
-    let all : Held = held s.state (arrays_of s.counts.now s.sums.now s.lasts.now s.heads.now) in
-    let closes : closes_window c.args.state.settings.window c.args.j ≡ true = sym c.closes_window.ensures ∙ c.if-closes_window.true in (
-      c.lay.ensures.1,
-      λ x is.
-          let e = window_closed all x s.j (operator_of c.added-next.result) (c.added-next.ensures.1 x is) s.kind closes in
-          rw e (
-            laid_back (rows_of c.lay.new.counts c.lay.new.sums c.lay.new.lasts) c.close-closed.result _ c.lay.ensures.0
-                c.close-closed.ensures.0,
-            c.close-closed.ensures.1,
-          ),
-    )
+    let st : Held = held s.state.now in
+    let next : Operator = operator_of c.add.new.self in
+    let some = c.requires.0.store in
+    let adds = kept_added st s.readings.now c.kept_of-kept.result c.kept_of-kept.ensures s.j next c.add.ensures.1 some c.requires.0.is in
+    let meters : length st.operator.meters ≡ meter_count = length_meters _ _ _ in
+    (window_given st some s.kind s.j next (operator_of c.close.new.self) s.area.now c.close.new.area meters adds
+    (sym c.closes_window.ensures ∙ c.if-not-closes_window.false) c.close.ensures.0 c.close.ensures.1).later
+
+pub overflow_cast-result : goal.overflow_cast-result
+overflow_cast-result c =
+    let s = c.args in
+    let st : Held = held s.state.now in
+    let next : Operator = operator_of c.add.new.self in
+    let some = c.requires.0.store in
+    let adds = kept_added st s.readings.now c.kept_of-kept.result c.kept_of-kept.ensures s.j next c.add.ensures.1 some c.requires.0.is in
+    let meters : length st.operator.meters ≡ meter_count = length_meters _ _ _ in
+    let g = window_given st some s.kind s.j next (operator_of c.close.new.self) s.area.now c.close.new.area meters adds
+    (sym c.closes_window.ensures ∙ c.if-not-closes_window.false) c.close.ensures.0 c.close.ensures.1 in
+    omega (arith, g.count, g.few)
 
 pub returns : goal.returns
 returns c =
     let s = c.args in
-    let all : Held = held s.state (arrays_of s.counts.now s.sums.now s.lasts.now s.heads.now) in
-    let goes_on : closes_window c.args.state.settings.window c.args.j ≡ false =
-    sym c.closes_window.ensures ∙ c.if-closes_window.false in (
-      c.lay-2.ensures.1,
-      λ x is. (
-        laid_back (rows_of c.lay-2.new.counts c.lay-2.new.sums c.lay-2.new.lasts) c.added-next.result _ c.lay-2.ensures.0
-            (window_open all x s.j (operator_of c.added-next.result) (c.added-next.ensures.1 x is) s.kind goes_on),
-        area_untouched all x s.kind s.j s.area.now goes_on,
-      ),
-    )
+    let st : Held = held s.state.now in
+    let next : Operator = operator_of c.add.new.self in
+    let meters : length st.operator.meters ≡ meter_count = length_meters _ _ _ in
+    λ x is.
+    let adds = kept_added st s.readings.now c.kept_of-kept.result c.kept_of-kept.ensures s.j next c.add.ensures.1 x is in
+    let g = window_given st x s.kind s.j next (operator_of c.close.new.self) s.area.now c.close.new.area meters adds
+    (sym c.closes_window.ensures ∙ c.if-not-closes_window.false) c.close.ensures.0 c.close.ensures.1 in
+    (ap (λ (o : Operator). with_operator o st) g.operator, g.bytes, g.count)

@@ -1,26 +1,23 @@
 -- A line of what is left has a byte, and lies within it.
-use Rattle.std.proofs.Common.{arith, ap, ◌≡◌, ◌-◌, length, take, drop}
+use Rattle.std.proofs.Common.{arith, rules, ap, ◌≤◌, length}
 use Rattle.std.proofs.Math.ListN.{length-take, length-drop}
 use Rattle.fields.proofs.Lines.{line_within, line_some}
 use Rattle.test_lines.proofs.judge_lines.Goals as goal
 
-pub loop-at-smaller : goal.loop-at-smaller
-loop-at-smaller c =
-    let text = c.args.text.now in
-    let at = c.loop-at.at in
-    let rest = take (length text - at) (drop at text) in
-    let size : length rest ≡ length text - at = simp (length-take, length-drop) (omega arith) in
-    let some = line_some rest (omega arith) in
-    let line = ap length c.next_line-line.ensures.result_value in
-    let within = line_within rest in
-    omega arith
+pub slice_bounds-rest-count : goal.slice_bounds-rest-count
+slice_bounds-rest-count c =
+    omega (arith, ap length c.next_line-line.ensures.result_value, line_within c.loop-rest.rest.now)
 
-pub loop-at-preserved : goal.loop-at-preserved
-loop-at-preserved c =
-    let text = c.args.text.now in
-    let at = c.loop-at.at in
-    let rest = take (length text - at) (drop at text) in
-    let size : length rest ≡ length text - at = simp (length-take, length-drop) (omega arith) in
+pub slice_bounds-rest-start : goal.slice_bounds-rest-start
+slice_bounds-rest-start c =
+    let within : length c.next_line-line.result.now ≤ length c.loop-rest.rest.now =
+    omega (arith, ap length c.next_line-line.ensures.result_value, line_within c.loop-rest.rest.now) in
+    search rules
+
+pub loop-rest-smaller : goal.loop-rest-smaller
+loop-rest-smaller c =
+    let rest = c.loop-rest.rest.now in
+    let some = line_some rest (search rules) in
     let line = ap length c.next_line-line.ensures.result_value in
     let within = line_within rest in
-    omega arith
+    simp (length-take, length-drop) (omega arith)

@@ -41,13 +41,10 @@ fn spoiled_heat(number: usize, heats: &[MeterHeat], base: u64) -> (u64, Vec<Mete
 pub(super) fn of_box(number: usize, question: &BoxQuestion) -> String {
     let state = &question.host.state;
     let mut text = format!("-- {}, c {}\n", state.word.name(), state.c);
-    let (arrays, columns) = (format!("arrays_{number}"), format!("columns_{number}"));
-    text += &definition(&arrays, "Arrays", &value::arrays(state));
+    let (handed, columns) = (format!("state_{number}"), format!("columns_{number}"));
+    text += &definition(&handed, "State", &value::state(state));
     text += &definition(&columns, "Columns", &question.columns.literal());
-    let handed = format!(
-        "state = {}; arrays = {arrays}; lent = lent_of {columns} []",
-        value::state(state)
-    );
+    let handed = format!("state = {handed}; lent = lent_of {columns} []");
     let mut ask = |name: &str, open: &[MeterHeat], kept: &[MeterHeat], parts: &str| {
         let (open, kept) = (meter_heats(open), meter_heats(kept));
         let case = format!("{name}_case_{number}");

@@ -23,7 +23,7 @@ const OPENING_PLACES: usize = 6;
 fn lent(number: usize, question: &HostQuestion) -> String {
     let loan = &question.loan;
     let name = |part: &str| format!("{part}_{number}");
-    definition(&name("arrays"), "Arrays", &value::arrays(&loan.state))
+    definition(&name("state"), "State", &value::state(&loan.state))
         + &definition(&name("columns"), "Columns", &loan.columns.literal())
         + &definition(&name("places"), "ℕ", &sent::places(&loan.sent))
         + &definition(&name("area"), "List ℕ", &bytes(&loan.area))
@@ -70,8 +70,7 @@ fn input(number: usize, question: &HostQuestion) -> String {
 fn asked(number: usize, question: &HostQuestion, left: &Left, name: &str, parts: &str) -> String {
     let (loan, case) = (&question.loan, format!("{name}_case_{number}"));
     let common = format!(
-        "state = {}; arrays = arrays_{number}; columns = columns_{number}; input = {}; left = {}",
-        value::state(&loan.state),
+        "state = state_{number}; columns = columns_{number}; input = {}; left = {}",
         input(number, question),
         due(number, question, left, CALL_PLACES),
     );
@@ -181,8 +180,7 @@ pub(super) fn of_opening(number: usize, question: &HostQuestion) -> String {
     };
     let body = |left: &Left| {
         format!(
-            "record {{ state = {}; arrays = arrays_{number}; columns = columns_{number}; sent = {store}; text = {}; left = {} }}",
-            value::state(&loan.state),
+            "record {{ state = state_{number}; columns = columns_{number}; sent = {store}; text = {}; left = {} }}",
             bytes(&question.text),
             due(number, question, left, OPENING_PLACES),
         )
@@ -193,7 +191,7 @@ pub(super) fn of_opening(number: usize, question: &HostQuestion) -> String {
         let (case, name) = (format!("{name}_case_{number}"), format!("{name}_{number}"));
         text += &definition(&case, "OpeningCase", &body(left));
         text +=
-            &format!("{name} : on_opening {case} ≡ {parts}\nunfolding on_opening_quickly\n{name} = by_arrays {case} ({parts}) refl\n\n");
+            &format!("{name} : on_opening {case} ≡ {parts}\nunfolding on_opening_quickly\n{name} = by_meters {case} ({parts}) refl\n\n");
     };
     ask("opening", &question.left, "[]");
     let wrong = spoiled(number / OPENING_CONTROLS % 2, &question.left);

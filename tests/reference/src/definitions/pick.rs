@@ -108,8 +108,8 @@ pub(super) fn display_calls(
     questions
 }
 
-/// Host-made calls on states at the edges of the lent arrays, one edge after the other from some edge
-/// on; enough calls have all.
+/// Host-made calls on states at the edges, one edge after the other from some edge on; enough calls
+/// have all.
 pub(super) fn edge_calls(
     random: &mut Random,
     count: usize,

@@ -50,8 +50,8 @@ pub(super) fn of_mean(number: usize, sum: i64, count: u32) -> String {
 /// The next marked place from one on, and how many are marked.
 pub(super) fn of_marks(number: usize, search: &Marks) -> String {
     let next = match search.next() {
-        Some(place) => format!("NextMark.At {place}"),
-        None => "NextMark.Nothing".to_string(),
+        Some(place) => format!("Some {place}"),
+        None => "None".to_string(),
     };
     let (from, words) = (search.from, spelled_list(&search.words));
     let found = format!(

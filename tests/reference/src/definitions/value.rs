@@ -66,43 +66,31 @@ fn common(state: &State) -> String {
     )
 }
 
-/// A state as its host hands it over: what is no array.
+/// An operator in columns, as a state has it.
+fn loaded(operator: &Operator) -> String {
+    let meters = &operator.meters;
+    format!(
+        "record {{ sums = {}; counts = {}; lasts = {}; number = {} }}",
+        signed_longs(&column(meters, |meter| meter.sum)),
+        words(&column(meters, |meter| meter.count)),
+        signed_words(&column(meters, |meter| meter.last)),
+        operator.newest,
+    )
+}
+
+/// A state as its host hands it over.
 pub(super) fn state(state: &State) -> String {
     format!(
-        "record {{ settings = {}; clock = record {{ 0 = {} }}; c = {}; p = {}; phase = {}; newest = {}; last_stable = {}; acknowledged = {} }}",
+        "record {{ settings = {}; clock = record {{ 0 = {} }}; c = {}; p = {}; phase = {}; heads = {}; acknowledged = {}; operator = {}; checkpoint = {}; all_heads = refl; all_displays = refl }}",
         settings(&state.settings),
         state.clock,
         state.c,
         state.p,
         phase(state.word),
-        state.operator.newest,
-        state.checkpoint.newest,
+        heads(&state.heads),
         spelled_list(&state.acknowledged),
-    )
-}
-
-/// The arrays that its host lends with a state: the rows of the operator and of the checkpoint, and the
-/// numbers of the heads.
-pub(super) fn arrays(state: &State) -> String {
-    let rows = |row: fn(&[Meter]) -> String| {
-        let [operator, checkpoint] = [&state.operator, &state.checkpoint];
-        format!(
-            "({} ∷ {} ∷ [])",
-            row(&operator.meters),
-            row(&checkpoint.meters)
-        )
-    };
-    let counts = |meters: &[Meter]| words(&column(meters, |meter| meter.count));
-    let sums = |meters: &[Meter]| signed_longs(&column(meters, |meter| meter.sum));
-    let lasts = |meters: &[Meter]| signed_words(&column(meters, |meter| meter.last));
-    let numbers = |head: &Head| [head.boundary, head.last_id, head.last_stable_id, head.kept];
-    let heads: Vec<u32> = state.heads.iter().flat_map(numbers).collect();
-    format!(
-        "arrays_of {} {} {} ({})",
-        rows(counts),
-        rows(sums),
-        rows(lasts),
-        words(&heads),
+        loaded(&state.operator),
+        loaded(&state.checkpoint),
     )
 }
 
@@ -111,7 +99,7 @@ fn column<T>(meters: &[Meter], number: fn(&Meter) -> T) -> Vec<T> {
     meters.iter().map(number).collect()
 }
 
-/// What a state and its arrays hold, as the definitions have it.
+/// What a state holds, as the definitions have it.
 pub(super) fn held(state: &State) -> String {
     format!(
         "record {{ {}; acknowledged = {}; heads = {}; settings = {} }}",

@@ -24,7 +24,7 @@ const FILE_CASES: usize = 100;
 const LAWS: [(&str, &str); 9] = [
     ("Packed", include_str!("laws/Packed.antt.txt")),
     ("Rows", include_str!("laws/Rows.antt.txt")),
-    ("Arrays", include_str!("laws/Arrays.antt.txt")),
+    ("Meters", include_str!("laws/Meters.antt.txt")),
     ("Ring", include_str!("laws/Ring.antt.txt")),
     ("Stores", include_str!("laws/Stores.antt.txt")),
     ("Quick", include_str!("laws/Quick.antt.txt")),
@@ -81,7 +81,7 @@ fn sets(seed: u64, count: usize) -> Vec<Set> {
         set(("host-made calls", "Host"), call, |tally| {
             pick::host_calls(random, host, tally)
         }),
-        set(("calls at the arrays' edges", "Edge"), call, |tally| {
+        set(("calls at the states' edges", "Edge"), call, |tally| {
             pick::edge_calls(random, host, tally)
         }),
         set(("journal calls", "Journal"), call, |tally| {

@@ -51,7 +51,7 @@ impl HostCase {
 }
 
 /// A host-made call; about every third state or store is broken in one place, and some are at an edge
-/// of the lent arrays.
+/// of the state.
 pub fn host_case(random: &mut Random) -> HostCase {
     if random.once_in(10) {
         let edge = random.pick(&edges());
@@ -65,7 +65,7 @@ pub fn host_case(random: &mut Random) -> HostCase {
     case
 }
 
-/// A host-made call on a state at an edge of the lent arrays and otherwise in shape.
+/// A host-made call on a state at an edge and otherwise in shape.
 pub fn edge_case(random: &mut Random, edge: Edge) -> HostCase {
     let mut host = host_state(random);
     while !edge.put(random, &mut host) {

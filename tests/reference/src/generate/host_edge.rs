@@ -1,4 +1,4 @@
-//! States at the edges that refusal 4 has in the lent arrays: at a bound, one past it, and with junk
+//! States at the edges that refusal 4 has in meters and heads: at a bound, one past it, and with junk
 //! where it does not look.
 
 use super::host::{fill_share, some_sum, Host};
@@ -6,14 +6,14 @@ use super::random::Random;
 use crate::node::{Head, Meter, State, LINES, METERS, SHARE};
 use crate::refusal::Refusal;
 
-/// Whose row of the meters' arrays.
+/// Whose meters.
 #[derive(Clone, Copy, Debug, PartialEq, Eq)]
 pub enum Row {
     Operator,
     Checkpoint,
 }
 
-/// Where in a row, or among the lines that the settings have.
+/// Where among the meters, or among the lines that the settings have.
 #[derive(Clone, Copy, Debug, PartialEq, Eq)]
 pub enum Place {
     First,
@@ -43,7 +43,7 @@ pub enum HeadEdge {
     StableAbove,
 }
 
-/// One edge of the arrays.
+/// One edge of a state.
 #[derive(Clone, Copy, Debug, PartialEq, Eq)]
 pub enum Edge {
     Meter(Row, Place, MeterEdge),

@@ -1,2 +1,0 @@
--- Laws on a call's answer.
-pub mod Accepted

@@ -1,0 +1,10 @@
+-- `call_refusals::is_full` meets its contract: by the letter.
+use Rattle.std.proofs.Common.{rules}
+use Rattle.store_columns.specs.Shape.{is_reading_kind}
+use Rattle.protocol.specs.Refusals.{is_full}
+use Rattle.protocol.specs.Kinds.{uses, kind_of}
+use Rattle.call_refusals.proofs.is_full.Goals as goal
+
+pub returns : goal.returns
+unfolding is_reading_kind is_full uses kind_of
+returns c = search rules

@@ -1,2 +1,0 @@
--- Laws on what C is answered.
-pub mod Answers

@@ -1,2 +1,0 @@
--- The meters of operator and checkpoint as they are lent.
-pub mod Rows

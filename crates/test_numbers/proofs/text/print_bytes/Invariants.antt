@@ -1,6 +1,0 @@
--- The place rises to the end of the bytes.
-use Rattle.std.proofs.Common.{length, ◌-◌}
-use Rattle.test_numbers.proofs.text.print_bytes.Given as goal
-
-abbrev pub decreases-loop-i : goal.decreases-loop-i
-decreases-loop-i l = length l.bytes - l.i
