@@ -1,6 +1,6 @@
 -- What is decided of a call: the host's first refusal, else the text's, else the call's; and that a call answers what is decided.
 use Prim.Native.Nat.{ℕ, ◌*◌, ◌≤◌}
-use mathlib.Core.Path.{◌≡◌, refl, ◌∙◌}
+use mathlib.Core.Path.{◌≡◌, refl, ◌∙◌, ap}
 use mathlib.Core.Bool.{true, false, cond}
 use mathlib.Core.List.{List}
 use borrow.Author.Tests.{ne_eqb, eqb-true}
@@ -16,7 +16,7 @@ use lib.ListN.{length, replicate, take, length-replicate}
 use Rattle.settings.specs.Limits.{max_lines}
 use Rattle.store.specs.Sizes.{readings_per_line}
 use Rattle.store.specs.Lists.{Every}
-use Rattle.store.specs.Columns.{store_length}
+use Rattle.store.specs.Columns.{Columns, store_length}
 use Rattle.store.specs.Lent.{columns}
 use Rattle.store.proofs.Pairs.{every_to}
 use Rattle.store.proofs.Columns.{room}
@@ -24,7 +24,7 @@ use Rattle.protocol.specs.Refusals.{first_failed, answer_to}
 use Rattle.node.specs.declared.LineHead.{LineHead}
 use Rattle.node.specs.declared.Stores.{Stores}
 use Rattle.node.specs.Held.{Held}
-use Rattle.node.specs.View.{Lent, lent, places, view}
+use Rattle.node.specs.View.{Lent, lent_of, lent, places, view}
 use Rattle.node.specs.Shape.{state_in_shape, displays_ok}
 use Rattle.node.specs.Calls.{host_tests, refused_with, called_with, called_on}
 use Rattle.node.proofs.Limits.{limits_hold}
@@ -72,6 +72,12 @@ step_of st x r =
       work = record { of_times = refl; of_values = refl; of_meters = refl; room = r.room; shape = r.shape };
       of_arrivals = refl;
     }
+
+-- the host's tests look at the columns alone, however they are lent
+pub of_viewed :
+    {st : Held} {x y : Columns} {sent area : List ℕ} {n : ℕ} →
+    x ≡ y → n ≡ first_failed (host_tests st (lent_of x sent) area) → n ≡ first_failed (host_tests st (lent_of y sent) area)
+of_viewed {st} {sent = sent} {area} e found = found ∙ ap (λ (x : Columns). first_failed (host_tests st (lent_of x sent) area)) e
 
 -- ---- what a text is read as, with its refusal beside it
 

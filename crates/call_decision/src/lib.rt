@@ -53,7 +53,7 @@ pub fn decide(
 ) -> Result<Call, Refusal>
     ensures { (area : List ℕ) → length area ≡ room → numbered result ≡ decided_on (held state.now) (lent stores.now) read area }
 {
-    call_shape::host_refusal(state, stores, room)?;
+    call_shape::host_refusal(state, stores.readings.view(), stores.sent, room)?;
     let k = read.ok_or(Refusal::Malformed)?;
     call_refusals::refusal(state, stores.readings.kinds, k)?;
     if lacks_places(state, &stores.readings, k) {

@@ -6,15 +6,17 @@ ghost use Rattle.std.specs.Prelude.{◌≡◌, ◌+◌, ◌^◌, ◌≤◌, ◌<
 ghost use Rattle.answer.specs.Refusals.{answer_of};
 ghost use Rattle.settings.specs.declared.Settings.{Settings};
 ghost use Rattle.settings.specs.Limits.{max_displays};
+ghost use Rattle.store.specs.Lent.{viewed};
 ghost use Rattle.protocol.specs.Node.{Node};
 ghost use Rattle.protocol.specs.Displays.{given_up_to, newest_stable, answer_to_acknowledgement, answer_to_fetch};
 ghost use Rattle.node.specs.Held.{held};
-ghost use Rattle.node.specs.View.{lent, SameStores};
-ghost use Rattle.node.specs.Calls.{called_of};
+ghost use Rattle.node.specs.View.{lent_of};
+ghost use Rattle.node.specs.Calls.{answered_of};
 ghost use Rattle.node.specs.Displays.{acknowledged_on, fetched_on};
 
 use answer::Refusal;
-use node::{State, Stores};
+use node::State;
+use store::StoreView;
 
 // The answer to an acknowledgement that the host's tests let through.
 fn acknowledgement_answer(state: &State, display: u32, id: u64) -> Result<(), Refusal>
@@ -63,42 +65,44 @@ fn fetch_answer(
 // A display has everything up to this result: its last id is this one, and what all have now is given up. Gives no record.
 pub fn acknowledge(
     state: &mut State,
-    stores: &mut Stores<'_>,
+    readings: StoreView<'_>,
+    sent: &mut [u8],
     display: u32,
     id: u64,
     area: &[u8],
 ) -> Result<u32, Refusal>
-    ensures same_stores { SameStores stores.old stores.new }
-    ensures called { called_of result state.new stores.new area.now ≡
-        acknowledged_on (held state.old) (lent stores.old) display id area.now }
+    ensures called { answered_of result state.new (lent_of (viewed readings.entry) sent.new) area.now ≡
+        acknowledged_on (held state.old) (lent_of (viewed readings.entry) sent.old) display id area.now }
     ensures refused { OnErr result (state.new ≡ state.old) }
 {
-    call_shape::host_refusal(state, stores, area.len())?;
+    call_shape::host_refusal(state, readings, sent, area.len())?;
     acknowledgement_answer(state, display, id)?;
     let displays = state.settings.displays as usize;
     let from = call_acknowledgements::least(&state.acknowledged[..displays]);
     state.acknowledged[display as usize - 1] = id;
     let to = call_acknowledgements::least(&state.acknowledged[..displays]);
-    retransmission::give_up(stores.sent, from, to);
+    retransmission::give_up(sent, from, to);
     Ok(0)
 }
 
 // A display gets held results from this one on, 64 at most, from the area's first byte on. Answers how many there are.
 pub fn fetch(
     state: &State,
-    stores: &Stores<'_>,
+    readings: StoreView<'_>,
+    sent: &[u8],
     display: u32,
     from: u64,
     area: &mut [u8],
 ) -> Result<u32, Refusal>
-    ensures { called_of result state.now stores.now area.new ≡ fetched_on (held state.now) (lent stores.now) display from area.old }
+    ensures { let lent = lent_of (viewed readings.entry) sent.now in
+        answered_of result state.now lent area.new ≡ fetched_on (held state.now) lent display from area.old }
 {
-    call_shape::host_refusal(state, stores, area.len())?;
+    call_shape::host_refusal(state, readings, sent, area.len())?;
     let displays = state.settings.displays;
     let newest = state.checkpoint.number;
     let least = call_acknowledgements::least(&state.acknowledged[..displays as usize]);
     fetch_answer(least, displays, newest, display, from)?;
     let n = (newest + 1 - from).min(retransmission::FETCH_LIMIT);
-    retransmission::copy_out(stores.sent, from - 1, n as usize, area);
+    retransmission::copy_out(sent, from - 1, n as usize, area);
     Ok(n as u32)
 }

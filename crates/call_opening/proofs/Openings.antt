@@ -26,10 +26,11 @@ use Rattle.node.proofs.Opening.{not_short}
 
 -- both stores are measured in one test
 pub measured :
-    (lines : ℕ) (x : Lent) (short : Bool) → short ≡ shares_short lines x.readings →
+    (lines : ℕ) (x : Lent) (short : Bool) → {y : Columns} → y ≡ x.readings → short ≡ shares_short lines y →
     is_short lines x ≡ (short || ltb (length x.sent) held_bytes)
 unfolding is_short
-measured lines x short e = sym (ap (λ (b : Bool). b || ltb (length x.sent) held_bytes) e)
+measured lines x short viewed e =
+    sym (ap (λ (b : Bool). b || ltb (length x.sent) held_bytes) (e ∙ ap (shares_short lines) viewed))
 
 -- a slice of which the first n bytes are filled
 pub front_filled :

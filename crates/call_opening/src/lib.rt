@@ -68,7 +68,7 @@ pub fn open(state: &mut State, stores: &mut Stores<'_>, text: &[u8]) -> Result<(
     ensures refused { OnErr result (state.new ≡ state.old) }
 {
     let s = settings::read_settings(text)?;
-    if call_shape::is_short(s.lines, &stores.readings)
+    if call_shape::is_short(s.lines, stores.readings.view())
         | (stores.sent.len() < call_shape::HELD_BYTES)
     {
         return Err(Refusal::ShortStore);

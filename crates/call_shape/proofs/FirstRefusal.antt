@@ -6,9 +6,9 @@ use mathlib.Core.Bool.{Bool, true, false, not, ◌&&◌}
 use mathlib.Core.List.{List}
 use borrow.Author.Tests.{lt-ltb, le-ltb, ltb-false, not-true, not-false}
 use lib.ListN.{length}
-use Rattle.store.specs.declared.Store.{Store}
+use Rattle.store.specs.declared.StoreView.{StoreView}
 use Rattle.store.specs.Columns.{Columns}
-use Rattle.store.specs.Lent.{columns}
+use Rattle.store.specs.Lent.{viewed}
 use Rattle.protocol.specs.Tests.{first_failed}
 use Rattle.retransmission.specs.Sizes.{held_bytes}
 use Rattle.node.specs.Held.{Held}
@@ -20,8 +20,8 @@ use Rattle.node.specs.Calls.{host_tests}
 use Rattle.call_shape.specs.Lent.{Lends}
 
 pub lent :
-    (lines : ℕ) (store : Store) (short : Bool) → short ≡ shares_short lines (columns store) → short ≡ false →
-    Lends (columns store) lines store
+    (lines : ℕ) (store : StoreView) (short : Bool) → short ≡ shares_short lines (viewed store) → short ≡ false →
+    Lends (viewed store) lines store
 unfolding shares_short
 lent lines store short found long =
     record {

@@ -13,7 +13,7 @@ use Rattle.std.proofs.lemmas.List.{get_or_default, length-take}
 use lib.Seq.{drop-cons, get_or-take, length-take-le}
 use Rattle.settings.specs.Limits.{max_lines}
 use Rattle.store.specs.declared.Reading.{Reading}
-use Rattle.store.specs.declared.Store.{Store}
+use Rattle.store.specs.declared.StoreView.{StoreView}
 use Rattle.store.specs.Sizes.{readings_per_line}
 use Rattle.store.specs.Lists.{all_of}
 use Rattle.store.specs.Columns.{Columns, store_length, rows_from, rows}
@@ -65,7 +65,7 @@ lines_ok n hs x i =
     all_of head_ok (drop i (take n hs)) && all_of kept_ok (drop i (view_lines n hs (rows x (n * readings_per_line))))
 
 -- i lines have passed
-abbrev pub LinesSoFar : ℕ → List LineHead → Store → ℕ → Type 0
+abbrev pub LinesSoFar : ℕ → List LineHead → StoreView → ℕ → Type 0
 LinesSoFar n hs readings i = (x : Columns) → Lends x n readings → lines_ok n hs x i ≡ lines_ok n hs x 0
 
 heads_left :
@@ -88,7 +88,7 @@ no_lines_left : (n : ℕ) (hs : List LineHead) (rs : List Reading) (i : ℕ) →
 no_lines_left n hs rs i h = drop_of_length-le (view_lines n hs rs) {i = i} (omega (arith, few_lines n hs rs))
 
 module _
-    (n : ℕ) (hs : List LineHead) (readings : Store) (i : ℕ) (v : LinesSoFar n hs readings i) (x : Columns) (lent : Lends x n readings) where
+    (n : ℕ) (hs : List LineHead) (readings : StoreView) (i : ℕ) (v : LinesSoFar n hs readings i) (x : Columns) (lent : Lends x n readings) where
   pub lines_end : n ≤ i → true ≡ lines_ok n hs x 0
   unfolding all_of
   lines_end h = rw (no_heads_left n hs i h, no_lines_left n hs (rows x (n * readings_per_line)) i h) at (v x lent)

@@ -1,6 +1,6 @@
 -- A store of which three columns are looked at, and a share's test on these columns alone.
 use Rattle.std.specs.Prelude.{ℕ, ◌*◌, ◌≤◌, ◌≡◌, Bool, ◌&&◌, List, ltb}
-use Rattle.store.specs.declared.Store.{Store}
+use Rattle.store.specs.declared.StoreView.{StoreView}
 use Rattle.store.specs.Sizes.{readings_per_line}
 use Rattle.store.specs.Lists.{all_of}
 use Rattle.store.specs.Columns.{Columns, store_length}
@@ -9,7 +9,7 @@ use Rattle.store_columns.specs.Shape.{rises, is_reading_kind}
 use Rattle.operator.specs.Meters.{meter_count}
 
 -- a store with room for so many lines and with the three columns that are looked at
-pub record Lends (x : Columns) (lines : ℕ) (readings : Store) : Type 0 where
+pub record Lends (x : Columns) (lines : ℕ) (readings : StoreView) : Type 0 where
   pub room : lines * readings_per_line ≤ store_length x
   pub of_ids : x.ids ≡ readings.ids.now
   pub of_kinds : x.kinds ≡ readings.kinds.now

@@ -7,20 +7,20 @@ ghost use Rattle.settings.specs.Limits.{max_lines, max_displays, within_limits};
 ghost use Rattle.store.specs.Sizes.{readings_per_line};
 ghost use Rattle.store.specs.Lists.{all_of};
 ghost use Rattle.store.specs.Columns.{Columns, rows};
-ghost use Rattle.store.specs.Lent.{columns};
+ghost use Rattle.store.specs.Lent.{viewed};
 ghost use Rattle.protocol.specs.Refusals.{first_failed};
 ghost use Rattle.retransmission.specs.Sizes.{held_bytes};
 ghost use Rattle.node.specs.Held.{held};
-ghost use Rattle.node.specs.View.{lent, view_lines};
+ghost use Rattle.node.specs.View.{lent_of, view_lines};
 ghost use Rattle.node.specs.Shape.{head_ok, kept_ok, buckets_ok, numbers_ok, displays_ok, sent_ok, state_in_shape};
 ghost use Rattle.node.specs.Opening.{shares_short};
 ghost use Rattle.node.specs.Calls.{host_tests};
 ghost use Rattle.call_shape.specs.Lent.{Lends, share_ok};
 
 use answer::Refusal;
-use node::{LineHead, State, Stores};
+use node::{LineHead, State};
 use protocol::Phase;
-use store::Store;
+use store::StoreView;
 
 // Bytes of an output area that no call is refused for.
 pub const AREA_BYTES: usize = node::RECORDS_PER_CALL * record::RECORD_BYTES;
@@ -36,8 +36,8 @@ const RESULTS_PER_BUCKET: u64 = operator::METERS as u64;
 
 // Whether some column has no room for the shares of so many lines.
 #[tactic(auto, using(crate::proofs::Short::some_column_short))]
-pub fn is_short(lines: u32, readings: &Store<'_>) -> bool
-    ensures { result ≡ shares_short lines (columns readings.now) }
+pub fn is_short(lines: u32, readings: StoreView<'_>) -> bool
+    ensures { result ≡ shares_short lines (viewed readings.entry) }
 {
     let n = lines as usize * store::READINGS_PER_LINE;
     (readings.ids.len() < n)
@@ -57,11 +57,11 @@ fn is_head_ok(head: LineHead) -> bool
 
 // Whether a share's n readings from `base` on are S or T, of known meters, with rising ids.
 #[tactic(auto, unfolding(crate::specs::Lent::share_ok, store::specs::Parts::share))]
-fn is_share_ok(readings: &Store<'_>, base: usize, n: usize) -> bool
+fn is_share_ok(readings: StoreView<'_>, base: usize, n: usize) -> bool
     requires { let end = base + n in
-        (n ≤ readings_per_line) × (end ≤ length readings.now.ids.now) × (end ≤ length readings.now.kinds.now) ×
-        (end ≤ length readings.now.meters.now) }
-    ensures { result ≡ share_ok base n readings.now.ids.now readings.now.kinds.now readings.now.meters.now }
+        (n ≤ readings_per_line) × (end ≤ length readings.ids.now) × (end ≤ length readings.kinds.now) ×
+        (end ≤ length readings.meters.now) }
+    ensures { result ≡ share_ok base n readings.entry.ids.now readings.entry.kinds.now readings.entry.meters.now }
 {
     let end = base + n;
     let kinds = &readings.kinds[base..end];
@@ -71,12 +71,12 @@ fn is_share_ok(readings: &Store<'_>, base: usize, n: usize) -> bool
 }
 
 // Whether the lines' heads and the readings that they keep are in shape.
-fn are_lines_ok(state: &State, readings: &Store<'_>) -> bool
+fn are_lines_ok(state: &State, readings: StoreView<'_>) -> bool
     requires { let lines = state.now.settings.lines in
         let end = lines * readings_per_line in
-        (lines ≤ max_lines) × (end ≤ length readings.now.ids.now) × (end ≤ length readings.now.kinds.now) ×
-        (end ≤ length readings.now.meters.now) }
-    ensures { (x : Columns) → Lends x state.now.settings.lines readings.now →
+        (lines ≤ max_lines) × (end ≤ length readings.ids.now) × (end ≤ length readings.kinds.now) ×
+        (end ≤ length readings.meters.now) }
+    ensures { (x : Columns) → Lends x state.now.settings.lines readings.entry →
         (let lines = state.now.settings.lines in
         let heads = state.now.heads in
         result ≡ (all_of head_ok (take lines heads) && all_of kept_ok (view_lines lines heads (rows x (lines * readings_per_line))))) }
@@ -126,10 +126,10 @@ fn is_state_ok(state: &State) -> bool
 }
 
 // Whether state and store are in shape, where the store is long enough.
-fn is_in_shape(state: &State, readings: &Store<'_>) -> bool
+fn is_in_shape(state: &State, readings: StoreView<'_>) -> bool
     requires { let end = state.now.settings.lines * readings_per_line in
-        (end ≤ length readings.now.ids.now) × (end ≤ length readings.now.kinds.now) × (end ≤ length readings.now.meters.now) }
-    ensures { (x : Columns) → Lends x state.now.settings.lines readings.now → result ≡ state_in_shape (held state.now) x }
+        (end ≤ length readings.ids.now) × (end ≤ length readings.kinds.now) × (end ≤ length readings.meters.now) }
+    ensures { (x : Columns) → Lends x state.now.settings.lines readings.entry → result ≡ state_in_shape (held state.now) x }
 {
     if !is_state_ok(state) {
         return false;
@@ -159,20 +159,25 @@ fn are_displays_ok(state: &State, sent: &[u8]) -> bool
 
 // The refusal that is the host's to mend, if there is one; `room` is the length of the output area.
 #[inline]
-pub fn host_refusal(state: &State, stores: &Stores<'_>, room: usize) -> Result<(), Refusal>
+pub fn host_refusal(
+    state: &State,
+    readings: StoreView<'_>,
+    sent: &[u8],
+    room: usize,
+) -> Result<(), Refusal>
     ensures { (area : List ℕ) → length area ≡ room →
-        answer_of result ≡ first_failed (host_tests (held state.now) (lent stores.now) area) }
+        answer_of result ≡ first_failed (host_tests (held state.now) (lent_of (viewed readings.entry) sent.now) area) }
 {
-    if is_short(state.settings.lines, &stores.readings) {
+    if is_short(state.settings.lines, readings) {
         return Err(Refusal::ShortStore);
     }
-    if stores.sent.len() < HELD_BYTES {
+    if sent.len() < HELD_BYTES {
         return Err(Refusal::ShortStore);
     }
-    if !is_in_shape(state, &stores.readings) {
+    if !is_in_shape(state, readings) {
         return Err(Refusal::OutOfShape);
     }
-    if !are_displays_ok(state, stores.sent) {
+    if !are_displays_ok(state, sent) {
         return Err(Refusal::OutOfShape);
     }
     if room < AREA_BYTES {

@@ -62,7 +62,7 @@ module _ (text : List ℕ) where
       let line = line_exact fetch_word text display id in
       (λ q. line.0 (from_fetch acknowledges fetches display id q), λ is. rw (no_acknowledge display id is.2 acknowledges refl, line.1 is))
 
-  exact_command : ExactCommand text (command_of text)
+  pub exact_command : ExactCommand text (command_of text)
   exact_command = record { acknowledge = acknowledge_exact; fetch = fetch_exact }
 
   -- an answer that is the definition's is exact

@@ -159,10 +159,10 @@ pub fn put_decimal(out: &mut [u8], at: usize, z: i64) -> usize
     ensures out_after { out.new ≡ laid out.old at (decimal z) }
 {
     let m = z.unsigned_abs();
+    let mut place = at;
     if z < 0 {
         out[at] = b'-';
-        put_digits(out, at + 1, m)
-    } else {
-        put_digits(out, at, m)
+        place = at + 1;
     }
+    put_digits(out, place, m)
 }

@@ -19,12 +19,27 @@ pub fn next_line(s: &[u8]) -> &[u8]
     }
 }
 
-// Whether a text begins with the bytes of a key from `at` on.
+// Whether a text begins with the bytes of a key from `at` on: the first four as one word, the others one by one, so that where the key is
+// known each is compared with a constant. A shorter key is compared as a slice.
 pub fn has_key(s: &[u8], at: usize, key: &[u8]) -> bool
     requires { at ≤ length s.now }
     ensures { result ≡ starts_with key.now (drop at s.now) }
 {
-    key.len() <= s.len() - at && key == &s[at..at + key.len()]
+    if s.len() - at < key.len() {
+        return false;
+    }
+    if key.len() < 4 {
+        return key == &s[at..at + key.len()];
+    }
+    if endian::get::<u32>(s, at) != endian::get::<u32>(key, 0) {
+        return false;
+    }
+    for i in 4..key.len() {
+        if s[at + i] != key[i] {
+            return false;
+        }
+    }
+    true
 }
 
 // Whether 0A stands at a place, which ends the line.

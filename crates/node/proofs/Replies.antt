@@ -8,11 +8,16 @@ use Rattle.answer.specs.Refusals.{number}
 use Rattle.node.specs.declared.State.{State}
 use Rattle.node.specs.declared.Stores.{Stores}
 use Rattle.node.specs.Held.{held}
-use Rattle.node.specs.View.{lent}
-use Rattle.node.specs.Calls.{called_of, records_of, refused_with}
+use Rattle.node.specs.View.{Lent, lent}
+use Rattle.node.specs.Calls.{answered_of, called_of, records_of, refused_with}
+
+pub refused_answered :
+    (refusal : Refusal) (s : State) (x : Lent) (area : List ℕ) →
+    answered_of (Err refusal) s x area ≡ refused_with (number refusal) (held s) x area
+unfolding records_of refused_with
+refused_answered refusal s x area = refl
 
 pub refused_called :
     (refusal : Refusal) (s : State) (x : Stores) (area : List ℕ) →
     called_of (Err refusal) s x area ≡ refused_with (number refusal) (held s) (lent x) area
-unfolding records_of refused_with
-refused_called refusal s x area = refl
+refused_called refusal s x area = refused_answered refusal s (lent x) area

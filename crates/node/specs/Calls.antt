@@ -35,10 +35,14 @@ unfoldable pub records_of : Result ℕ Refusal → ℕ
 records_of (Ok n) = n
 records_of (Err refusal) = 0
 
--- the code's reply, with the state, the stores and the area that it leaves
+-- the code's reply, with the state, what stands in the stores and the area that it leaves
+abbrev pub answered_of : Result ℕ Refusal → State → Lent → List ℕ → Called
+answered_of reply s x area =
+    record { answer = answer_of reply; records = records_of reply; state = held s; lent = x; area = area }
+
+-- the same of the stores themselves
 abbrev pub called_of : Result ℕ Refusal → State → Stores → List ℕ → Called
-called_of reply s x area =
-    record { answer = answer_of reply; records = records_of reply; state = held s; lent = lent x; area = area }
+called_of reply s x area = answered_of reply s (lent x) area
 
 -- refusals 3, 4 and 5: what the host lends, whatever it asks
 unfoldable pub host_tests : Held → Lent → List ℕ → List Test

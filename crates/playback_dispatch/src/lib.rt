@@ -7,6 +7,7 @@ ghost use Rattle.settings.specs.Limits.{max_displays};
 ghost use Rattle.node.specs.Held.{held};
 ghost use Rattle.node.specs.View.{lent, SameStores};
 ghost use Rattle.node.specs.Calls.{called_of};
+ghost use Rattle.node.specs.Displays.{acknowledged_on, fetched_on};
 ghost use Rattle.playback_dispatch.specs.Dispatch.{caught_up, all_caught_up, followed, dispatched};
 ghost use Rattle.playback_dispatch.specs.Behind.{some_behind};
 
@@ -35,6 +36,48 @@ fn is_some_behind(state: &State) -> bool
         .any(|id| *id < newest)
 }
 
+// A display's acknowledgement on the stores.
+fn acknowledge(
+    state: &mut State,
+    stores: &mut Stores<'_>,
+    display: u32,
+    id: u64,
+    area: &[u8],
+) -> Result<u32, Refusal>
+    ensures same_stores { SameStores stores.old stores.new }
+    ensures called { called_of result state.new stores.new area.now ≡
+        acknowledged_on (held state.old) (lent stores.old) display id area.now }
+{
+    call_displays::acknowledge(
+        state,
+        stores.readings.view(),
+        stores.sent,
+        display,
+        id,
+        area,
+    )
+}
+
+// A display's fetch from the stores.
+fn fetch(
+    state: &State,
+    stores: &Stores<'_>,
+    display: u32,
+    from: u64,
+    area: &mut [u8],
+) -> Result<u32, Refusal>
+    ensures { called_of result state.now stores.now area.new ≡ fetched_on (held state.now) (lent stores.now) display from area.old }
+{
+    call_displays::fetch(
+        state,
+        stores.readings.view(),
+        stores.sent,
+        display,
+        from,
+        area,
+    )
+}
+
 // This display acknowledges the newest stable result, if it has not yet. What an acknowledgement answers is not told: it gives no record.
 fn catch_up(state: &mut State, stores: &mut Stores<'_>, display: u32, area: &[u8])
     requires { display < max_displays }
@@ -44,7 +87,7 @@ fn catch_up(state: &mut State, stores: &mut Stores<'_>, display: u32, area: &[u8
 {
     let newest = state.checkpoint.number;
     if (display < state.settings.displays) & (state.acknowledged[display as usize] < newest) {
-        let _ = call_displays::acknowledge(state, stores, display + 1, newest, area);
+        let _ = acknowledge(state, stores, display + 1, newest, area);
     }
 }
 
@@ -93,10 +136,10 @@ pub fn make_call(
     if mode.mixed {
         match commands::read_command(text) {
             Some(Command::Acknowledge(display, id)) => {
-                return call_displays::acknowledge(state, stores, display, id, area);
+                return acknowledge(state, stores, display, id, area);
             }
             Some(Command::Fetch(display, id)) => {
-                return call_displays::fetch(state, stores, display, id, area);
+                return fetch(state, stores, display, id, area);
             }
             None => {}
         }

@@ -20,19 +20,20 @@ const MOST_RECORDS: usize = operator::METERS + 1;
 // Bytes of the longest reply: an answer line and the texts of its records.
 pub const LONGEST_REPLY: usize = LONGEST_ANSWER + MOST_RECORDS * record_text::LONGEST_RECORD_TEXT;
 
-// The word of a state. Bytes and no Display: lines are laid over lent areas as bytes, and none of std's formatters writes into one without
-// a copy.
+// Writes the word of a state from `at` on; answers the place behind it. A case for each word, so that each is laid as a constant. No
+// Display: lines are laid over lent areas as bytes, and none of std's formatters writes into one without a copy.
 #[tactic(auto, unfolding(crate::specs::Reply::word_of, crate::specs::Reply::phase_word))]
-fn word_of(lines: u32, phase: Phase) -> &'static [u8]
-    ensures { result.now ≡ word_of lines phase }
+fn put_word(out: &mut [u8], at: usize, lines: u32, phase: Phase) -> usize
+    requires { at + length (word_of lines phase) ≤ length out.old }
+    ensures { PutAt out.old at (word_of lines phase) result out.new }
 {
     if lines == 0 {
-        return b"none";
+        return area::put_bytes(out, at, b"none");
     }
     match phase {
-        Phase::Stable => b"stable",
-        Phase::Failure => b"failure",
-        Phase::Correcting => b"correcting",
+        Phase::Stable => area::put_bytes(out, at, b"stable"),
+        Phase::Failure => area::put_bytes(out, at, b"failure"),
+        Phase::Correcting => area::put_bytes(out, at, b"correcting"),
     }
 }
 
@@ -43,7 +44,7 @@ fn put_state(out: &mut [u8], at: usize, lines: u32, phase: Phase) -> usize
     ensures { PutAt out.old at (state_field lines phase) result out.new }
 {
     let word = area::put_bytes(out, at, b" state=");
-    let end = area::put_bytes(out, word, word_of(lines, phase));
+    let end = put_word(out, word, lines, phase);
     area::put_bytes(out, end, b"\n")
 }
 

@@ -18,7 +18,7 @@ use Rattle.record.specs.Layout.{bytes_of}
 use Rattle.record.proofs.BytesOf.{length_bytes_of}
 
 -- bytes laid down in two runs from the first place on are a new front
-halves_laid : (l b : List ℕ) (n : ℕ) → n ≤ length b → length b ≤ length l → laid (laid l 0 (take n b)) n (drop n b) ≡ in_front b l
+pub halves_laid : (l b : List ℕ) (n : ℕ) → n ≤ length b → length b ≤ length l → laid (laid l 0 (take n b)) n (drop n b) ≡ in_front b l
 halves_laid l b n h fits =
     laid_laid l 0 n (take n b) (drop n b) (omega (arith, length-take-le n b h))
     ∙ ap (laid l 0) (take-append-drop n b)

@@ -2,7 +2,7 @@
 pub mod Pieces
 pub mod Places
 pub mod Stores
-mod Laying
-mod Passing
-mod Fetching
+pub mod Laying
+pub mod Passing
+pub mod Fetching
 pub mod Emptied

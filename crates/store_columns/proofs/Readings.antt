@@ -1,27 +1,27 @@
 -- Kinds and meters told by their wrong bits: none is set exactly if the kind is S or T and the meter below the limit. S and T are
 -- neighbours, so that a kind less S, wrapped, is below 2 for them only. A mask leaves the bits from one on, and none of them is set exactly
 -- if the word is below the power of two that the mask begins with. The wrong bits of many readings are laid over words.
-use Rattle.std.proofs.Common.{◌≡◌, ℕ, zero, suc, ◌+◌, ◌-◌, ◌*◌, ◌/◌, ◌%◌, ◌^◌, ◌<◌, ◌≤◌, Bool, true, false, ◌&&◌, ◌⊎◌, inl, inr, replicate, eqb, ltb, List, [], ◌∷◌, ◌++◌, length, get_or, set, take, drop, sym, refl, ap, ◌∙◌, subst, ap₂, mul-le-mul_right, mod-eq_of_lt, le-div_iff_mul-le, add-one, arith, pow_pos, pow_mono, shr_lt, le-ltb, ltb-false, ltb-true, eq-eqb, ne_eqb}
+use Rattle.std.proofs.Common.{◌≡◌, ℕ, zero, suc, ◌+◌, ◌-◌, ◌*◌, ◌/◌, ◌%◌, ◌^◌, ◌<◌, ◌≤◌, Bool, true, false, ◌&&◌, ◌⊎◌, inl, inr, replicate, eqb, ltb, List, [], ◌∷◌, ◌++◌, length, get_or, set, take, drop, sym, refl, ap, ◌∙◌, subst, ap₂, mul-le-mul_right, mod-eq_of_lt, le-div_iff_mul-le, add-one, arith, pow_pos, pow_mono, shr_lt, le-ltb, lt-ltb, ltb-false, ltb-true, eq-eqb, ne_eqb}
 use mathlib.Core.Bool.{and_assoc, and-true}
 use native.Mathlib.Nat.{div-eq_of_lt}
 use lib.Bits.{bit_and, bit_or, and_high}
 use Rattle.std.specs.List.{concat}
 use Rattle.journal.specs.Kinds.{letter_s, letter_t}
 use Rattle.store.specs.Lists.{all_of}
-use Rattle.store.proofs.Over.{zero_over}
+use Rattle.store.proofs.Over.{zero_over, below_over}
 use Rattle.store_columns.specs.Shape.{is_reading_kind}
 use Rattle.store_columns.specs.Tests.{PowerOfTwo, are_zero, are_right}
 
 -- ---- the wrong bits of one reading
 
-told_by_word : (kind word : ℕ) → word < 2 ^ 8 → (word + letter_s) % 2 ^ 8 ≡ kind → ltb word 2 ≡ is_reading_kind kind
+pub told_by_word : (kind word : ℕ) → word < 2 ^ 8 → (word + letter_s) % 2 ^ 8 ≡ kind → ltb word 2 ≡ is_reading_kind kind
 unfolding is_reading_kind
 told_by_word kind zero fits e = ap is_reading_kind e
 told_by_word kind (suc zero) fits e = ap is_reading_kind e
 told_by_word kind (suc (suc word)) fits e =
     rw (ne_eqb kind letter_s (λ is. omega arith), ne_eqb kind letter_t (λ is. omega arith)) (le-ltb (suc (suc word)) 2 (omega arith))
 
-kind_less_S : (kind : ℕ) → kind < 2 ^ 8 → ltb ((kind + (2 ^ 8 - letter_s)) % 2 ^ 8) 2 ≡ is_reading_kind kind
+pub kind_less_S : (kind : ℕ) → kind < 2 ^ 8 → ltb ((kind + (2 ^ 8 - letter_s)) % 2 ^ 8) 2 ≡ is_reading_kind kind
 kind_less_S kind fits = told_by_word kind ((kind + (2 ^ 8 - letter_s)) % 2 ^ 8) (omega arith) (omega arith)
 
 none_higher : (j k word : ℕ) → word < 2 ^ (j + k) → eqb (bit_and word (2 ^ (j + k) - 2 ^ k)) 0 ≡ ltb word (2 ^ k)
@@ -198,6 +198,27 @@ module _ (limit : ℕ) where
       ap (λ (b : Bool). b && are_right limit kinds meters) (zero_over any bits ∙ ap (λ (b : Bool). eqb any 0 && b) told)
       ∙ and_assoc (eqb any 0) (is_reading_kind kind && ltb meter limit) (are_right limit kinds meters)
       ∙ ap (λ (b : Bool). eqb any 0 && b) (and_swap (is_reading_kind kind) (ltb meter limit) (all_of is_reading_kind kinds) (all_of (λ m. ltb m limit) meters))
+
+-- nothing has been joined
+pub none_joined : (limit : ℕ) → PowerOfTwo limit → (ltb 0 2 && ltb 0 limit) ≡ true
+none_joined limit power = lt-ltb 0 limit (power_positive limit power)
+
+-- a kind less S and a meter are joined to those before them
+pub few_one :
+    (limit less any kind meter : ℕ) (kinds meters : List ℕ) → PowerOfTwo limit → kind < 2 ^ 8 →
+    ((ltb (bit_or less ((kind + (2 ^ 8 - letter_s)) % 2 ^ 8)) 2 && ltb (bit_or any meter) limit) && are_right limit kinds meters) ≡
+    ((ltb less 2 && ltb any limit) && are_right limit (kind ∷ kinds) (meter ∷ meters))
+unfolding all_of
+few_one limit less any kind meter kinds meters power small =
+    let k = power.exponent in
+    let word : ℕ = (kind + (2 ^ 8 - letter_s)) % 2 ^ 8 in
+    let of_kind : ltb (bit_or less word) 2 ≡ (ltb less 2 && is_reading_kind kind) =
+    below_over 1 less word ∙ ap (λ (b : Bool). ltb less 2 && b) (kind_less_S kind small) in
+    let of_meter : ltb (bit_or any meter) limit ≡ (ltb any limit && ltb meter limit) = rw power.is (below_over k any meter) in
+    ap₂ (λ (a b : Bool). (a && b) && are_right limit kinds meters) of_kind of_meter
+    ∙ ap (λ (b : Bool). b && are_right limit kinds meters) (and_swap (ltb less 2) (is_reading_kind kind) (ltb any limit) (ltb meter limit))
+    ∙ and_assoc (ltb less 2 && ltb any limit) (is_reading_kind kind && ltb meter limit) (are_right limit kinds meters)
+    ∙ ap (λ (b : Bool). (ltb less 2 && ltb any limit) && b) (and_swap (is_reading_kind kind) (ltb meter limit) (all_of is_reading_kind kinds) (all_of (λ m. ltb m limit) meters))
 
 pub no_bits : are_zero (replicate 16 0) ≡ true
 unfolding are_zero all_of

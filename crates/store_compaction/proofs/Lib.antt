@@ -1,2 +1,2 @@
 -- A law on a run of elements moved down.
-mod Moved
+pub mod Moved

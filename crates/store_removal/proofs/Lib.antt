@@ -1,4 +1,4 @@
 -- Laws on runs of readings moved down, on the readings that stay, and on a bucket's readings taken out run by run.
-mod Moved
-mod Staying
-mod Removed
+pub mod Moved
+pub mod Staying
+pub mod Removed

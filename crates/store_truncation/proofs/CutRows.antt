@@ -22,7 +22,7 @@ use Rattle.store.proofs.Columns.{length_rows_from, take_rows}
 use Rattle.store_columns.specs.Shape.{rises}
 use Rattle.store_columns.proofs.Rows.{ids_share, own_rows}
 
-rises_behind : (x : ℕ) (xs : List ℕ) → rises (x ∷ xs) ≡ true → rises xs ≡ true
+pub rises_behind : (x : ℕ) (xs : List ℕ) → rises (x ∷ xs) ≡ true → rises xs ≡ true
 unfolding rises
 rises_behind x [] rise = refl
 rises_behind x (y ∷ ys) rise = (and_parts (ltb x y) (rises (y ∷ ys)) rise).1

@@ -1,2 +1,2 @@
 -- A law on a share that is cut above an id.
-mod CutRows
+pub mod CutRows

@@ -26,10 +26,12 @@ returns-in_err-k-clause-called c =
     let a = c.args in
     let st : Held = held a.state.now in
     let x : Lent = lent a.stores.now in
-    let refusal : Refusal = c.in_err-k.field-0.0 in
+    let err = c.in_err-k in
+    let told = err.was in
+    let refusal : Refusal = err.field-0.0 in
     let same : c.from_residual.result ≡ Err refusal = search rules in
     let r : refused_with (number refusal) st x a.area.now ≡ called_on st x a.text.now a.area.now =
-    decided st x a.text.now a.area.now c.read_call-read.ensures.value (c.decide.ensures a.area.now refl) c.in_err-k.was in
+    decided st x a.text.now a.area.now c.read_call-read.ensures.value (c.decide.ensures a.area.now refl) told in
     ap (λ (reply : Result ℕ Refusal). called_of reply a.state.now a.stores.now a.area.now) same ∙
     refused_called refusal a.state.now a.stores.now a.area.now ∙ r
 
@@ -37,16 +39,20 @@ pub accept-requires : goal.accept-requires
 unfolding Answered numbered
 accept-requires c =
     let a = c.args in
-    let p : Passed (held a.state.now) (lent a.stores.now) a.text.now a.area.now c.in_ok-k.k =
+    let ok = c.in_ok-k in
+    let accepted = ok.was in
+    let p : Passed (held a.state.now) (lent a.stores.now) a.text.now a.area.now ok.k =
     decided (held a.state.now) (lent a.stores.now) a.text.now a.area.now c.read_call-read.ensures.value
-    (c.decide.ensures a.area.now refl) c.in_ok-k.was in
+    (c.decide.ensures a.area.now refl) accepted in
     (p.host, p.call)
 
 pub returns-clause-called : goal.returns-clause-called
 unfolding Answered numbered
 returns-clause-called c =
     let a = c.args in
-    let p : Passed (held a.state.now) (lent a.stores.now) a.text.now a.area.now c.in_ok-k.k =
+    let done = c.in_ok-k in
+    let passed = done.was in
+    let p : Passed (held a.state.now) (lent a.stores.now) a.text.now a.area.now done.k =
     decided (held a.state.now) (lent a.stores.now) a.text.now a.area.now c.read_call-read.ensures.value
-    (c.decide.ensures a.area.now refl) c.in_ok-k.was in
+    (c.decide.ensures a.area.now refl) passed in
     c.accept.ensures.done ∙ p.done

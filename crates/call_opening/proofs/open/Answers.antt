@@ -23,14 +23,14 @@ returns-then-is_short-stores-clause-opened c =
     let a = c.args in
     let s = c.in_ok-s.s in
     opening_short (held a.state.now) (lent a.stores.now) a.text.now s (sym c.read_settings.ensures.value ∙ c.in_ok-s.was)
-    (measured s.lines (lent a.stores.now) c.is_short.result c.is_short.ensures ∙ c.if-is_short-stores.true)
+    (measured s.lines (lent a.stores.now) c.is_short.result c.view.ensures c.is_short.ensures ∙ c.if-is_short-stores.true)
 
 pub zero-requires : goal.zero-requires
 zero-requires c =
     let x : Lent = lent c.args.stores.now in
     let s = c.in_ok-s.s in
     let long =
-    not_short s.lines x (measured s.lines x c.is_short.result c.is_short.ensures ∙ c.if-is_short-stores.false) in
+    not_short s.lines x (measured s.lines x c.is_short.result c.view.ensures c.is_short.ensures ∙ c.if-is_short-stores.false) in
     (omega arith, omega (arith, long.0))
 
 pub slice_bounds-fill-end : goal.slice_bounds-fill-end
@@ -38,7 +38,7 @@ slice_bounds-fill-end c =
     let x : Lent = lent c.args.stores.now in
     let s = c.in_ok-s.s in
     let long =
-    not_short s.lines x (measured s.lines x c.is_short.result c.is_short.ensures ∙ c.if-is_short-stores.false) in
+    not_short s.lines x (measured s.lines x c.is_short.result c.view.ensures c.is_short.ensures ∙ c.if-is_short-stores.false) in
     omega (arith, long.1, length-take-le held_bytes x.sent long.1)
 
 pub returns-clause-opened : goal.returns-clause-opened
@@ -47,7 +47,7 @@ returns-clause-opened c =
     let x : Lent = lent a.stores.now in
     let s = c.in_ok-s.s in
     let enough : is_short s.lines x ≡ false =
-    measured s.lines x c.is_short.result c.is_short.ensures ∙ c.if-is_short-stores.false in
+    measured s.lines x c.is_short.result c.view.ensures c.is_short.ensures ∙ c.if-is_short-stores.false in
     let long = not_short s.lines x enough in
     opening_done (held a.state.now) x a.text.now s (sym c.read_settings.ensures.value ∙ c.in_ok-s.was) enough
     {fresh = held c.fresh_state.result} c.fresh_state.ensures c.zero.ensures.zeroes

@@ -8,7 +8,7 @@ returns-then-not-is_head_ok c =
     let s = c.args.state.now in
     let l = c.loop-i in
     λ x lent.
-    lines_wrong_head s.settings.lines s.heads c.args.readings.now l.i l.invariant x lent (search rules) c.requires.0 c.loop-i-test.true _
+    lines_wrong_head s.settings.lines s.heads c.args.readings l.i l.invariant x lent (search rules) c.requires.0 c.loop-i-test.true _
     (sym c.is_head_ok.ensures ∙ c.if-not-is_head_ok.true)
 
 pub is_share_ok-requires : goal.is_share_ok-requires
@@ -21,7 +21,7 @@ returns-then-not-is_share_ok c =
     let s = c.args.state.now in
     let l = c.loop-i in
     λ x lent.
-    lines_wrong_share s.settings.lines s.heads c.args.readings.now l.i l.invariant x lent (search rules) c.requires.0 c.loop-i-test.true _
+    lines_wrong_share s.settings.lines s.heads c.args.readings l.i l.invariant x lent (search rules) c.requires.0 c.loop-i-test.true _
     (sym c.is_head_ok.ensures ∙ c.if-not-is_head_ok.false) _ c.is_share_ok.ensures c.if-not-is_share_ok.true
 
 pub loop-i-preserved : goal.loop-i-preserved
@@ -29,11 +29,11 @@ loop-i-preserved c =
     let s = c.args.state.now in
     let l = c.loop-i in
     λ x lent.
-    lines_turn s.settings.lines s.heads c.args.readings.now l.i l.invariant x lent (search rules) c.requires.0 c.loop-i-test.true _
+    lines_turn s.settings.lines s.heads c.args.readings l.i l.invariant x lent (search rules) c.requires.0 c.loop-i-test.true _
     (sym c.is_head_ok.ensures ∙ c.if-not-is_head_ok.false) _ c.is_share_ok.ensures c.if-not-is_share_ok.false
 
 pub returns : goal.returns
 returns c =
     let s = c.args.state.now in
     let l = c.loop-i in
-    λ x lent. lines_end s.settings.lines s.heads c.args.readings.now l.i l.invariant x lent c.loop-i-test.false
+    λ x lent. lines_end s.settings.lines s.heads c.args.readings l.i l.invariant x lent c.loop-i-test.false

@@ -6,16 +6,16 @@ use Rattle.call_shape.proofs.is_share_ok.Goals as goal
 pub are_readings-requires : goal.are_readings-requires
 are_readings-requires c =
     let n = c.args.base + c.args.n - c.args.base in
-    let kinds = drop c.args.base c.args.readings.now.kinds.now in
-    let meters = drop c.args.base c.args.readings.now.meters.now in
-    let same : length (take (c.args.base + c.args.n - c.args.base) (drop c.args.base c.args.readings.now.kinds.now)) ≡
-    length (take (c.args.base + c.args.n - c.args.base) (drop c.args.base c.args.readings.now.meters.now)) =
+    let kinds = drop c.args.base c.args.readings.kinds.now in
+    let meters = drop c.args.base c.args.readings.meters.now in
+    let same : length (take (c.args.base + c.args.n - c.args.base) (drop c.args.base c.args.readings.kinds.now)) ≡
+    length (take (c.args.base + c.args.n - c.args.base) (drop c.args.base c.args.readings.meters.now)) =
     omega (
       arith,
       c.requires,
       length-take n kinds,
       length-take n meters,
-      length-drop c.args.base c.args.readings.now.kinds.now,
-      length-drop c.args.base c.args.readings.now.meters.now,
+      length-drop c.args.base c.args.readings.kinds.now,
+      length-drop c.args.base c.args.readings.meters.now,
     ) in
     (same, record { exponent = 6; is = refl })

@@ -1,4 +1,4 @@
-use Rattle.std.proofs.Common.{◌≡◌, ℕ, ◌-◌, ◌*◌, ◌/◌, ◌⊎◌, ◌∷◌, take, drop, length, sym, ◌∙◌, arith, rules}
+use Rattle.std.proofs.Common.{◌≡◌, ℕ, ◌-◌, ◌*◌, ◌/◌, ◌⊎◌, ◌∷◌, Bool, false, ◌&&◌, take, drop, length, sym, ap, ◌∙◌, arith, rules}
 use Rattle.std.specs.List.{concat}
 use Rattle.store_columns.specs.Tests.{are_zero, are_right}
 use Rattle.store_columns.proofs.Chunks.{joined}
@@ -38,10 +38,25 @@ loop-block-preserved c =
           c.lay_over-in-loop-block.ensures ∙ told.1,
     )
 
+pub returns-then-not-are_all_zero : goal.returns-then-not-are_all_zero
+returns-then-not-are_all_zero c =
+    let before = c.loop-block.block-iterator in
+    let after = c.next.new.self in
+    let block = c.in-Some.block.now in
+    let meter_block = c.in-Some.meter_block.now in
+    let here : before.a.rest.now ≡ block ∷ after.a.rest.now = search rules in
+    let there : before.b.rest.now ≡ meter_block ∷ after.b.rest.now = search rules in
+    let told = (rw (here, there) at c.loop-block.invariant) in
+    let laid = c.lay_over-in-loop-block in
+    let wrong : are_zero laid.new.words ≡ false = sym c.are_all_zero.ensures ∙ c.if-not-are_all_zero.true in
+    sym (ap (λ (b : Bool). b && are_right c.args.limit (concat after.a.rest.now) (concat after.b.rest.now)) wrong)
+    ∙ right_block c.args.limit (are_zero laid.new.words) (are_zero c.loop-block.wrong) block meter_block after.a.rest.now after.b.rest.now laid.ensures
+    ∙ told.1
+
 pub returns : goal.returns
 returns c =
     let it = c.loop-block.block-iterator in
     let left : (length it.a.rest.now ≡ 0) ⊎ (length it.b.rest.now ≡ 0) = search rules in
-    c.are_all_zero.ensures
+    c.are_all_zero-2.ensures
     ∙ sym (right_done c.args.limit (are_zero c.loop-block.wrong) it.a.rest.now it.b.rest.now c.loop-block.invariant.0 left)
     ∙ c.loop-block.invariant.1
