@@ -75,9 +75,9 @@ step_of st x r =
 
 -- the host's tests look at the columns alone, however they are lent
 pub of_viewed :
-    {st : Held} {x y : Columns} {sent area : List ℕ} {n : ℕ} →
+    (st : Held) (sent area : List ℕ) {x y : Columns} {n : ℕ} →
     x ≡ y → n ≡ first_failed (host_tests st (lent_of x sent) area) → n ≡ first_failed (host_tests st (lent_of y sent) area)
-of_viewed {st} {sent = sent} {area} e found = found ∙ ap (λ (x : Columns). first_failed (host_tests st (lent_of x sent) area)) e
+of_viewed st sent area e found = found ∙ ap (λ (x : Columns). first_failed (host_tests st (lent_of x sent) area)) e
 
 -- ---- what a text is read as, with its refusal beside it
 

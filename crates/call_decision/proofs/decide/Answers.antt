@@ -8,8 +8,7 @@ use Rattle.node.specs.Calls.{host_tests}
 use Rattle.node.proofs.Opening.{refused_some}
 use Rattle.call_decision.specs.Deciding.{numbered}
 use Rattle.call_decision.proofs.InOrder.{first_tests, answer_first, answer_15, answer_0}
-use Rattle.call_decision.proofs.Answers.{read_as, host_refused, text_refused, call_refused, call_accepted, RefusalReady, ready_by_room, step_of}
-use Rattle.call_decision.proofs.Answers.{of_viewed}
+use Rattle.call_decision.proofs.Answers.{read_as, host_refused, text_refused, call_refused, call_accepted, RefusalReady, ready_by_room, step_of, of_viewed}
 use Rattle.call_decision.proofs.decide.Goals as goal
 
 pub returns-in_err-host_refusal : goal.returns-in_err-host_refusal
@@ -19,7 +18,7 @@ returns-in_err-host_refusal c area l =
     let same : c.from_residual.result ≡ Err refusal = search rules in
     ap numbered same ∙
     host_refused (held a.state.now) (lent a.stores.now) a.read area refusal
-    (of_viewed c.view.ensures (c.in_err-host_refusal.ensures area l))
+    (of_viewed (held a.state.now) a.stores.now.sent.now area c.view.ensures (c.in_err-host_refusal.ensures area l))
 
 pub returns-in_err-k : goal.returns-in_err-k
 returns-in_err-k c area l =
@@ -28,7 +27,7 @@ returns-in_err-k c area l =
     let same : c.from_residual-in_err-k.result ≡ Err refusal = search rules in
     ap numbered same ∙
     text_refused (held a.state.now) (lent a.stores.now) a.read area
-    (sym (of_viewed c.view.ensures (c.in_ok-host_refusal.ensures area l))) refusal
+    (sym (of_viewed (held a.state.now) a.stores.now.sent.now area c.view.ensures (c.in_ok-host_refusal.ensures area l))) refusal
     (sym c.ok_or.ensures.value ∙ c.in_err-k.was)
 
 pub refusal-requires : goal.refusal-requires
@@ -36,7 +35,7 @@ refusal-requires c =
     let a = c.args in
     let ready : RefusalReady (held a.state.now) (lent a.stores.now) =
     ready_by_room (held a.state.now) (lent a.stores.now) a.room
-    (λ area l. sym (of_viewed c.view.ensures (c.in_ok-host_refusal.ensures area l))) in
+    (λ area l. sym (of_viewed (held a.state.now) a.stores.now.sent.now area c.view.ensures (c.in_ok-host_refusal.ensures area l))) in
     (ready.lines, ready.kinds, ready.small)
 
 pub returns-in_err-refusal : goal.returns-in_err-refusal
@@ -46,7 +45,7 @@ returns-in_err-refusal c area l =
     let st : Held = held a.state.now in
     let x : Lent = lent a.stores.now in
     let passed : (area : List ℕ) → length area ≡ a.room → first_failed (host_tests st x area) ≡ 0 =
-    λ area l. sym (of_viewed c.view.ensures (c.in_ok-host_refusal.ensures area l)) in
+    λ area l. sym (of_viewed (held a.state.now) a.stores.now.sent.now area c.view.ensures (c.in_ok-host_refusal.ensures area l)) in
     let n : Node = view st x.readings in
     let k = c.in_ok-k.k in
     let refusal = c.in_err-refusal.field-0.0 in
@@ -61,7 +60,7 @@ lacks_places-requires c =
     let a = c.args in
     let ready : RefusalReady (held a.state.now) (lent a.stores.now) =
     ready_by_room (held a.state.now) (lent a.stores.now) a.room
-    (λ area l. sym (of_viewed c.view.ensures (c.in_ok-host_refusal.ensures area l))) in
+    (λ area l. sym (of_viewed (held a.state.now) a.stores.now.sent.now area c.view.ensures (c.in_ok-host_refusal.ensures area l))) in
     (record { store = (lent a.stores.now).readings; is = step_of (held a.state.now) a.stores.now ready }, ready.displays)
 
 pub returns-then-lacks_places : goal.returns-then-lacks_places
@@ -71,7 +70,7 @@ returns-then-lacks_places c area l =
     let st : Held = held a.state.now in
     let x : Lent = lent a.stores.now in
     let passed : (area : List ℕ) → length area ≡ a.room → first_failed (host_tests st x area) ≡ 0 =
-    λ area l. sym (of_viewed c.view.ensures (c.in_ok-host_refusal.ensures area l)) in
+    λ area l. sym (of_viewed (held a.state.now) a.stores.now.sent.now area c.view.ensures (c.in_ok-host_refusal.ensures area l)) in
     let ready : RefusalReady st x = ready_by_room st x a.room passed in
     let n : Node = view st x.readings in
     let k = c.in_ok-k.k in
@@ -87,7 +86,7 @@ returns c area l =
     let st : Held = held a.state.now in
     let x : Lent = lent a.stores.now in
     let passed : (area : List ℕ) → length area ≡ a.room → first_failed (host_tests st x area) ≡ 0 =
-    λ area l. sym (of_viewed c.view.ensures (c.in_ok-host_refusal.ensures area l)) in
+    λ area l. sym (of_viewed (held a.state.now) a.stores.now.sent.now area c.view.ensures (c.in_ok-host_refusal.ensures area l)) in
     let ready : RefusalReady st x = ready_by_room st x a.room passed in
     let n : Node = view st x.readings in
     let k = c.in_ok-k.k in
