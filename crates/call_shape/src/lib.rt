@@ -157,8 +157,9 @@ fn are_displays_ok(state: &State, sent: &[u8]) -> bool
     retransmission::are_held(sent, acknowledged.least, newest)
 }
 
-// The refusal that is the host's to mend, if there is one; `room` is the length of the output area.
-#[inline]
+// The refusal that is the host's to mend, if there is one; `room` is the length of the output area. It is laid into each caller: where the
+// state's place is known, the meters are looked at without a load of their own, and no view of the store is made in memory.
+#[inline(always)]
 pub fn host_refusal(
     state: &State,
     readings: StoreView<'_>,
