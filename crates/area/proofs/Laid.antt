@@ -1,11 +1,11 @@
 -- Laws on bytes laid over an area: runs join, lengths stay, and a run from the first place on is a new front.
 use mathlib.Core.Path.{◌≡◌, refl, sym, ap, ◌∙◌}
 use mathlib.Core.List.{List, [], ◌∷◌, ◌++◌, append_assoc}
-use Prim.Native.Nat.{ℕ, suc, ◌+◌, ◌≤◌}
+use Prim.Native.Nat.{ℕ, suc, ◌+◌, ◌<◌, ◌≤◌}
 use native.Mathlib.Omega.{arith}
 use native.Mathlib.Nat.{zero-add}
-use lib.ListN.{length, take, drop, set, length-append}
-use lib.Seq.{sets, sets-eq, length-sets, drop-drop}
+use lib.ListN.{length, get_or, take, drop, set, length-append}
+use lib.Seq.{sets, sets-eq, length-sets, drop-drop, length-take-le, take-suc}
 use borrow.Rule.Slice.PartMut.{put_mid}
 use Rattle.area.specs.Laid.{laid, in_front}
 
@@ -30,6 +30,14 @@ laid_none l i = refl
 pub laid_one : (l : List ℕ) (i x : ℕ) → laid l i (x ∷ []) ≡ set l i x
 unfolding laid
 laid_one l i x = refl
+
+-- one byte behind the first i of a run
+pub laid_more :
+    (l : List ℕ) (at i : ℕ) (s : List ℕ) → i < length s → set (laid l at (take i s)) (at + i) (get_or s i 0) ≡ laid l at (take (suc i) s)
+laid_more l at i s h =
+    sym (laid_one (laid l at (take i s)) (at + i) (get_or s i 0))
+    ∙ laid_laid l at (at + i) (take i s) (get_or s i 0 ∷ []) (omega (arith, length-take-le i s (omega arith)))
+    ∙ ap (laid l at) (sym (take-suc s i 0 h))
 
 -- a run from the first place on is a new front
 pub laid_front : (l a : List ℕ) → length a ≤ length l → laid l 0 a ≡ in_front a l

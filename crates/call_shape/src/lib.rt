@@ -125,7 +125,8 @@ fn is_state_ok(state: &State) -> bool
     settings::within_limits(state.settings) & are_buckets_ok(state) & are_numbers_ok(state)
 }
 
-// Whether state and store are in shape, where the store is long enough.
+// Whether state and store are in shape, where the store is long enough. It is laid into its caller, as that is into its own.
+#[inline(always)]
 fn is_in_shape(state: &State, readings: StoreView<'_>) -> bool
     requires { let end = state.now.settings.lines * readings_per_line in
         (end ≤ length readings.ids.now) × (end ≤ length readings.kinds.now) × (end ≤ length readings.meters.now) }
@@ -158,7 +159,7 @@ fn are_displays_ok(state: &State, sent: &[u8]) -> bool
 }
 
 // The refusal that is the host's to mend, if there is one; `room` is the length of the output area. It is laid into each caller: where the
-// state's place is known, the meters are looked at without a load of their own, and no view of the store is made in memory.
+// state's place is known, empty meters are told with half as many instructions (node::State says how).
 #[inline(always)]
 pub fn host_refusal(
     state: &State,

@@ -30,17 +30,19 @@ pub struct LineHead {
 
 // What is held between calls. A state with lines 0 is closed, as `closed_state` says: no network is open, and every call on it is refused.
 // The operator's number is the id of the newest result, the checkpoint's that of the last stable one; 0 if there is none.
+// The operator stands first, and c and p between it and the checkpoint: so the meters of both begin at multiples of 16 bytes from the
+// state's own place, and where the compiler knows that place, empty meters are told with half as many instructions.
 #[derive(Clone, Copy)]
 pub struct State {
-    pub settings: Settings,
-    pub clock: ArrivalTick,
+    pub operator: Operator,
     pub c: u32,
     pub p: u32,
+    pub checkpoint: Operator,
+    pub settings: Settings,
+    pub clock: ArrivalTick,
     pub phase: Phase,
     pub heads: [LineHead; HEADS],
     pub acknowledged: [u64; DISPLAYS],
-    pub operator: Operator,
-    pub checkpoint: Operator,
     // The lengths of the two arrays, which proofs read off a state.
     pub ghost all_heads: { length heads ≡ max_lines },
     pub ghost all_displays: { length acknowledged ≡ max_displays },

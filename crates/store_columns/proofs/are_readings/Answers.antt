@@ -1,3 +1,5 @@
+-- `store_columns::are_readings` meets its contract: the last block and the blocks of 16 before it cover the share, and a wrong bit in one of
+-- them is a wrong reading.
 use Rattle.std.proofs.Common.{◌≡◌, ℕ, ◌-◌, ◌*◌, ◌/◌, ◌⊎◌, ◌∷◌, Bool, false, ◌&&◌, take, drop, length, sym, ap, ◌∙◌, arith, rules}
 use Rattle.std.specs.List.{concat}
 use Rattle.store_columns.specs.Tests.{are_zero, are_right}
